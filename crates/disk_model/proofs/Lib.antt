@@ -1,0 +1,4 @@
+pub mod Cuts
+pub mod Images
+pub mod Parts
+pub mod Replay

@@ -1,0 +1,14 @@
+pub mod Content
+pub mod Disk
+pub mod Error
+pub mod Event
+pub mod File
+pub mod Frames
+pub mod Images
+pub mod Kept
+pub mod Memory
+pub mod Moments
+pub mod Part
+pub mod Script
+pub mod There
+pub mod Writes

@@ -1,0 +1,23 @@
+//! A disk, as everything above it sees it: what a read gives, what a stop may leave, and the disks that meet this.
+//! Its contract for the layer above: the three facts of each device call, and what they come to on a part of a disk.
+//! What the bytes of a disk mean is left to the crates above, and so is what follows a failed call.
+#![tactic(auto)]
+
+mod content;
+mod disk;
+mod error;
+mod file;
+mod memory;
+mod part;
+mod script;
+
+pub use content::Cut;
+pub use disk::Disk;
+pub use error::DiskError;
+pub use file::FileDisk;
+pub use memory::MemDisk;
+pub use part::Part;
+pub use script::{Event, Script};
+
+#[cfg(test)]
+mod tests;

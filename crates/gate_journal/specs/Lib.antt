@@ -1,0 +1,4 @@
+pub mod Batch
+pub mod Journal
+pub mod Receipt
+pub mod Refusal

@@ -1,0 +1,50 @@
+//! Laws of the spellings, for callers that argue about whole texts. The functions do nothing.
+
+ghost use Rattle.std.specs.Prelude.{◌≡◌, ℕ, ◌<◌, ◌^◌, Bool};
+ghost use Rattle.nbd_codec.specs.Handshake.{flags_spelling, AreFlags, flags_in};
+ghost use Rattle.nbd_codec.specs.ClientOption.{spelling as option_spelling, IsOption, option_in};
+ghost use Rattle.nbd_codec.specs.OptionReply.{export_spelling};
+ghost use Rattle.nbd_codec.specs.Request.{spelling as request_spelling, IsRequest, request_in};
+ghost use Rattle.nbd_codec.specs.Reply.{spelling as reply_spelling};
+ghost use Rattle.nbd_codec.specs.Laws.{AreApart, IsKept, IsReplyOf, NeedsSome, NumberedFits, numbered_spelling};
+
+/// Client flags have one spelling each, what is found at the front stays, and nothing is found where
+/// nothing came.
+pub fn client_flags_are_apart()
+    ensures apart { AreApart flags_spelling AreFlags }
+    ensures kept { IsKept flags_in }
+    ensures empty { NeedsSome flags_in }
+{}
+
+/// No spelling of an option begins another, what is found at the front stays, and
+/// nothing is found where nothing came.
+pub fn options_are_apart()
+    ensures apart { AreApart option_spelling IsOption }
+    ensures kept { IsKept option_in }
+    ensures empty { NeedsSome option_in }
+{}
+
+/// No spelling of a reply to an option begins another.
+pub fn option_replies_are_apart()
+    ensures { AreApart numbered_spelling NumberedFits }
+{}
+
+/// No answer to EXPORT_NAME begins another, where the flags of both sides are one.
+pub fn exports_are_apart()
+    ensures { (no_zeroes : Bool) →
+        AreApart (λ size. export_spelling size no_zeroes) (λ size. size < 2 ^ 64) }
+{}
+
+/// No spelling of a request begins another, what is found at the front stays, and
+/// nothing is found where nothing came.
+pub fn requests_are_apart()
+    ensures apart { (max_payload : ℕ) → max_payload < 2 ^ 32 →
+        AreApart request_spelling (IsRequest max_payload) }
+    ensures kept { (max_payload : ℕ) → max_payload < 2 ^ 32 → IsKept (request_in max_payload) }
+    ensures empty { (max_payload : ℕ) → NeedsSome (request_in max_payload) }
+{}
+
+/// No spelling of a reply begins another that answers a request for as many bytes.
+pub fn replies_are_apart()
+    ensures { (len : ℕ) → AreApart reply_spelling (IsReplyOf len) }
+{}

@@ -1,0 +1,4 @@
+pub mod Demand
+pub mod Refusal
+pub mod Session
+pub mod Turn

@@ -1,0 +1,62 @@
+//! What a command of a script prints of its sessions.
+use crate::refusal::Refusal;
+use flush_barrier::SessionId;
+use std::alloc::Global;
+use std::collections::BTreeMap;
+use std::io::Write;
+use world::Output;
+
+/// What a session put out during a command.
+#[derive(Debug, Drop)]
+struct Line {
+    bytes: Vec<u8>,
+    closed: bool,
+}
+
+/// What the sessions put out during a command, by session number.
+#[derive(Debug, Drop)]
+pub(crate) struct Printed {
+    alloc: Global,
+    lines: BTreeMap<SessionId, Line>,
+}
+
+impl Printed {
+    /// Nothing yet.
+    pub(crate) fn new(alloc: Global) -> Printed {
+        Printed {
+            alloc,
+            lines: BTreeMap::new(alloc),
+        }
+    }
+
+    /// Adds what a step put out.
+    pub(crate) fn add(&mut self, output: Output) -> Result<(), Refusal> {
+        let Output {
+            session,
+            bytes,
+            closed,
+        } = output;
+        let line = self.lines.entry(session)?.or_insert(Line {
+            bytes: Vec::new(self.alloc),
+            closed: false,
+        });
+        line.bytes.extend_from_slice(&bytes)?;
+        line.closed = line.closed || closed;
+        Ok(())
+    }
+
+    /// Prints `out S H` for each session that put bytes out, and `closed S` for each that ended.
+    pub(crate) fn print<W: Write>(&self, writer: &mut W) -> Result<(), Refusal> {
+        for (session, line) in &self.lines {
+            let number = session.0;
+            if !line.bytes.is_empty() {
+                let digits = hex::encode(self.alloc, line.bytes.as_slice())?;
+                writeln!(writer, "out {number} {digits}")?;
+            }
+            if line.closed {
+                writeln!(writer, "closed {number}")?;
+            }
+        }
+        Ok(())
+    }
+}

@@ -1,0 +1,115 @@
+//! The lines of a script.
+use flush_barrier::SessionId;
+use std::alloc::{AllocError, Global};
+use std::str;
+use thiserror::Error;
+
+/// A command of a script. A member is given by its slot's number, which may be above 7.
+#[derive(Debug, Drop)]
+pub enum ScriptCommand {
+    /// `new M N P`: a chain of M members, N blocks, payloads of up to P bytes.
+    New {
+        members: u64,
+        blocks: u32,
+        max_payload: u32,
+    },
+    /// `connect S M`: a session at a member.
+    Connect {
+        session: SessionId,
+        member: u64,
+    },
+    /// `bytes S H ..`: bytes from a session's client.
+    Bytes {
+        session: SessionId,
+        piece: Vec<u8>,
+    },
+    /// `run`: rounds until one changes nothing.
+    Run,
+}
+
+/// Why a line is no command.
+#[derive(Clone, Copy, Debug, PartialEq, Eq, Error)]
+pub enum LineError {
+    /// Memory ran out.
+    #[error("out of memory")]
+    Memory,
+    /// The line is no command of the table with its words.
+    #[error("no command")]
+    Malformed,
+    /// The line isn't UTF-8, and no comment.
+    #[error("not UTF-8")]
+    NotText,
+}
+
+impl From<AllocError> for LineError {
+    fn from(_: AllocError) -> LineError {
+        LineError::Memory
+    }
+}
+
+/// The command of a line, without its newline; `None` for an empty line and a comment, which begins with `#`.
+/// Words are separated by one space, numbers are decimal digits alone, bytes are lower-case hexadecimal.
+pub fn parse(alloc: Global, line: &[u8]) -> Result<Option<ScriptCommand>, LineError> {
+    if line.is_empty() || line.starts_with(b"#") {
+        return Ok(None);
+    }
+    let text = str::from_utf8(line).map_err(|_| LineError::NotText)?;
+    let words: Vec<&str> = text.split(' ').collect(alloc)?;
+    let command = match words.as_slice() {
+        ["new", members, blocks, max_payload] => ScriptCommand::New {
+            members: number(members)?,
+            blocks: length(blocks)?,
+            max_payload: length(max_payload)?,
+        },
+        ["connect", session, member] => ScriptCommand::Connect {
+            session: SessionId(number(session)?),
+            member: number(member)?,
+        },
+        ["bytes", session, first, others @ ..] => ScriptCommand::Bytes {
+            session: SessionId(number(session)?),
+            piece: joined(alloc, first, others)?,
+        },
+        ["run"] => ScriptCommand::Run,
+        _ => return Err(LineError::Malformed),
+    };
+    Ok(Some(command))
+}
+
+/// A number below 2^64.
+fn number(word: &str) -> Result<u64, LineError> {
+    digits(word)?.parse().map_err(|_| LineError::Malformed)
+}
+
+/// A length, or a number of blocks: below 2^32.
+fn length(word: &str) -> Result<u32, LineError> {
+    digits(word)?.parse().map_err(|_| LineError::Malformed)
+}
+
+/// The word, where it is digits alone.
+fn digits(word: &str) -> Result<&str, LineError> {
+    if word.bytes().all(|b| b.is_ascii_digit()) {
+        Ok(word)
+    } else {
+        Err(LineError::Malformed)
+    }
+}
+
+/// The bytes of some words of hexadecimal digits, each of whole bytes.
+fn joined(alloc: Global, first: &str, others: &[&str]) -> Result<Vec<u8>, LineError> {
+    let mut piece = bytes(alloc, first)?;
+    for word in others {
+        piece.extend_from_slice(&bytes(alloc, word)?)?;
+    }
+    Ok(piece)
+}
+
+/// The bytes of a word, at least one, in lower-case digits.
+fn bytes(alloc: Global, word: &str) -> Result<Vec<u8>, LineError> {
+    if word.is_empty() || word.bytes().any(|b| b.is_ascii_uppercase()) {
+        return Err(LineError::Malformed);
+    }
+    hex::decode(alloc, word).map_err(|e| match e {
+        hex::FromHexError::OutOfMemory => LineError::Memory,
+        _ => LineError::Malformed,
+    })
+}

@@ -1,0 +1,320 @@
+//! `nbdchain sim`: plays a script over a disk in memory.
+use crate::printed::Printed;
+use crate::refusal::Refusal;
+use crate::script::{ScriptCommand, parse};
+use disk_model::{MemDisk, Script};
+use flush_barrier::SessionId;
+use gate_journal::Slot;
+use std::alloc::Global;
+use std::io::{BufRead, Write};
+use std::mem;
+use volume::Geometry;
+use world::{Answer, MemberState, Step, World};
+
+/// The bytes of the member's journal area, which is its whole disk.
+pub const AREA: u32 = 4_194_304;
+
+/// Plays a script: what its commands print goes to the writer. It ends at the first line that is no command, or not in
+/// its place, with 301; 104 where the reader or the writer fails, or a line isn't text.
+pub fn sim_on<R: BufRead, W: Write>(
+    alloc: Global,
+    reader: &mut R,
+    writer: &mut W,
+) -> Result<(), Refusal> {
+    let mut sim = Sim::new(alloc);
+    let result = play_lines(alloc, &mut sim, reader, writer);
+    sim.end();
+    result
+}
+
+fn play_lines<R: BufRead, W: Write>(
+    alloc: Global,
+    sim: &mut Sim,
+    reader: &mut R,
+    writer: &mut W,
+) -> Result<(), Refusal> {
+    let mut text = Vec::new(alloc);
+    for number in 1..u64::MAX {
+        text.clear();
+        if reader.read_until(b'\n', &mut text)? == 0 {
+            break;
+        }
+        let line = text.strip_suffix(b"\n").unwrap_or(&text);
+        match parse(alloc, line) {
+            Ok(None) => {}
+            Ok(Some(command)) => sim.play(number, command, writer)?,
+            Err(error) => return Err(Refusal::at(number, error)),
+        }
+    }
+    Ok(())
+}
+
+/// What became of some steps.
+#[derive(Clone, Copy, Debug)]
+struct Played {
+    /// One was taken.
+    taken: bool,
+    /// One put something out.
+    put_out: bool,
+    /// The number of the last refusal.
+    refused: Option<u16>,
+}
+
+/// A script that is played: its world, once there is one. It has no `Drop`: `end` ends it.
+pub(crate) struct Sim {
+    alloc: Global,
+    begun: bool,
+    world: Option<World<MemDisk>>,
+    sessions: Vec<SessionId>,
+}
+
+impl Sim {
+    pub(crate) fn new(alloc: Global) -> Sim {
+        Sim {
+            alloc,
+            begun: false,
+            world: None,
+            sessions: Vec::new(alloc),
+        }
+    }
+
+    /// Ends the script: its world is abandoned.
+    pub(crate) fn end(self) {
+        let Sim {
+            alloc: _,
+            begun: _,
+            world,
+            sessions: _,
+        } = self;
+        if let Some(world) = world {
+            let _disk = world.abandon();
+        }
+    }
+
+    /// The disk of the member, once there is a world.
+    pub(crate) fn disk(&self) -> Option<&MemDisk> {
+        let slot = Slot::new(0)?;
+        self.world.as_ref()?.disk(slot)
+    }
+
+    /// Plays the command of a line. The first command is `new`, and no later one is.
+    pub(crate) fn play<W: Write>(
+        &mut self,
+        line: u64,
+        command: ScriptCommand,
+        writer: &mut W,
+    ) -> Result<(), Refusal> {
+        let is_first = !self.begun;
+        match command {
+            ScriptCommand::New {
+                members: 1,
+                blocks,
+                max_payload,
+            } if is_first => self.begin(blocks, max_payload, writer),
+            ScriptCommand::New { .. } => Err(Refusal::BadScript { line }),
+            _ if is_first => Err(Refusal::BadScript { line }),
+            ScriptCommand::Connect { session, member } => self.connect(session, member, writer),
+            ScriptCommand::Bytes { session, piece } => {
+                self.show(&[Step::Bytes { session, piece }], writer)
+            }
+            ScriptCommand::Run => self.run(writer),
+        }
+    }
+
+    /// Makes the world of one member, or prints why its numbers are refused.
+    fn begin<W: Write>(
+        &mut self,
+        blocks: u32,
+        max_payload: u32,
+        writer: &mut W,
+    ) -> Result<(), Refusal> {
+        self.begun = true;
+        let geometry = match Geometry::new(blocks, AREA, max_payload) {
+            Ok(geometry) => geometry,
+            Err(refusal) => {
+                let number = refusal.number();
+                return Ok(writeln!(writer, "refused {number}")?);
+            }
+        };
+        let disk = MemDisk::new(self.alloc, u64::from(AREA), Script::new(self.alloc))?;
+        let world = World::new(self.alloc, geometry, disk).map_err(|_| Refusal::Memory)?;
+        if let Some(old) = mem::replace(&mut self.world, Some(world)) {
+            let _disk = old.abandon();
+        }
+        Ok(())
+    }
+
+    /// A client connects. A slot that is none changes nothing.
+    fn connect<W: Write>(
+        &mut self,
+        session: SessionId,
+        member: u64,
+        writer: &mut W,
+    ) -> Result<(), Refusal> {
+        let Some(slot) = u8::try_from(member).ok().and_then(Slot::new) else {
+            return Ok(());
+        };
+        if !self.sessions.contains(&session) {
+            self.sessions.push(session)?;
+            self.sessions.sort()?;
+        }
+        self.show(&[Step::Connect { session, slot }], writer)
+    }
+
+    /// Plays steps, and prints what they put out and their refusals.
+    fn show<W: Write>(&mut self, steps: &[Step], writer: &mut W) -> Result<(), Refusal> {
+        let mut printed = Printed::new(self.alloc);
+        let played = self.steps(steps, &mut printed)?;
+        if let Some(number) = played.refused {
+            writeln!(writer, "refused {number}")?;
+        }
+        printed.print(writer)
+    }
+
+    /// Plays steps, and adds what they put out.
+    fn steps(&mut self, steps: &[Step], printed: &mut Printed) -> Result<Played, Refusal> {
+        let mut played = Played {
+            taken: false,
+            put_out: false,
+            refused: None,
+        };
+        let Some(world) = &mut self.world else {
+            return Ok(played);
+        };
+        let answers = world.play(steps).map_err(|_| Refusal::Memory)?;
+        for answer in answers.into_vec() {
+            match answer {
+                Answer::Taken(outputs) => {
+                    played.taken = true;
+                    for output in outputs {
+                        played.put_out = true;
+                        printed.add(output)?;
+                    }
+                }
+                Answer::Refused(number) => played.refused = Some(number),
+                Answer::Skipped => {}
+            }
+        }
+        Ok(played)
+    }
+
+    /// Plays rounds until one changes nothing, and prints what they put out.
+    fn run<W: Write>(&mut self, writer: &mut W) -> Result<(), Refusal> {
+        let mut printed = Printed::new(self.alloc);
+        for _ in 0..u64::MAX {
+            if !self.round(&mut printed)? {
+                break;
+            }
+        }
+        printed.print(writer)
+    }
+
+    /// Plays one round over the member, if it runs: whether it changed anything.
+    fn round(&mut self, printed: &mut Printed) -> Result<bool, Refusal> {
+        let Some(slot) = Slot::new(0) else {
+            return Ok(false);
+        };
+        if self.member(slot).is_none_or(|member| member.stopped) {
+            return Ok(false);
+        }
+        let fed = self.go_on(printed)?;
+        let took = self.take_all(slot, printed)?;
+        let numbered = self.number_all(slot, printed)?;
+        let raised = self.raise(slot, printed)?;
+        let committed = self.commit_all(slot, printed)?;
+        let answered = self.floor(slot, printed)?;
+        Ok(fed || took || numbered || raised || committed || answered)
+    }
+
+    /// How far the member has come, if there is a world.
+    fn member(&self, slot: Slot) -> Option<MemberState> {
+        self.world.as_ref()?.member(slot)
+    }
+
+    /// The sessions go on with the input that they kept: whether one put anything out.
+    fn go_on(&mut self, printed: &mut Printed) -> Result<bool, Refusal> {
+        let mut put_out = false;
+        for at in 0..self.sessions.len() {
+            let Some(session) = self.sessions.get(at).copied() else {
+                break;
+            };
+            let piece = Vec::new(self.alloc);
+            let played = self.steps(&[Step::Bytes { session, piece }], printed)?;
+            put_out = put_out || played.put_out;
+        }
+        Ok(put_out)
+    }
+
+    /// The member takes its waiting demands: whether there were any.
+    fn take_all(&mut self, slot: Slot, printed: &mut Printed) -> Result<bool, Refusal> {
+        for count in 0..u64::MAX {
+            if !self.steps(&[Step::Take { slot }], printed)?.taken {
+                return Ok(count > 0);
+            }
+        }
+        Ok(true)
+    }
+
+    /// The head numbers the writes in its submit link: whether there were any.
+    fn number_all(&mut self, slot: Slot, printed: &mut Printed) -> Result<bool, Refusal> {
+        for count in 0..u64::MAX {
+            if !self.steps(&[Step::Number { from: slot }], printed)?.taken {
+                return Ok(count > 0);
+            }
+        }
+        Ok(true)
+    }
+
+    /// The tail raises the front to its last applied write and takes it: whether that was above its known commit.
+    fn raise(&mut self, slot: Slot, printed: &mut Printed) -> Result<bool, Refusal> {
+        let is_behind = self
+            .member(slot)
+            .is_some_and(|member| member.known < member.applied && !member.stopped);
+        if is_behind {
+            self.steps(&[Step::Raise { slot }, Step::AnswerFront { slot }], printed)?;
+        }
+        Ok(is_behind)
+    }
+
+    /// The member commits the known writes that aren't durable yet, and posts each receipt: whether there were any.
+    fn commit_all(&mut self, slot: Slot, printed: &mut Printed) -> Result<bool, Refusal> {
+        for count in 0..u64::MAX {
+            let is_behind = self
+                .member(slot)
+                .is_some_and(|member| member.durable < member.known && !member.stopped);
+            if !is_behind {
+                return Ok(count > 0);
+            }
+            self.steps(
+                &[
+                    Step::BeginCommit { slot },
+                    Step::EndCommit { slot },
+                    Step::Post { slot },
+                ],
+                printed,
+            )?;
+        }
+        Ok(true)
+    }
+
+    /// The member looks up a floor for its FUA writes, if one waits: whether any was answered.
+    fn floor(&mut self, slot: Slot, printed: &mut Printed) -> Result<bool, Refusal> {
+        let awaits_floor = self
+            .member(slot)
+            .is_some_and(|member| member.awaits_floor && !member.stopped);
+        if !awaits_floor {
+            return Ok(false);
+        }
+        let played = self.steps(
+            &[
+                Step::Look { slot },
+                Step::AnswerFront { slot },
+                Step::Crew { slot },
+                Step::Gauge { slot },
+                Step::AnswerFloor { slot },
+            ],
+            printed,
+        )?;
+        Ok(played.put_out)
+    }
+}

@@ -1,0 +1,5 @@
+pub mod Cursor
+pub mod Limits
+pub mod Pieces
+pub mod Refusal
+pub mod Writes

@@ -1,0 +1,10 @@
+use Rattle.std.proofs.Common.{◌≡◌, ◌++◌, length, map}
+use Rattle.volume.specs.Pieces.{pieces_of}
+use Rattle.world.proofs.blocks.images.Given as goal
+
+-- an image of the block of each piece so far
+abbrev pub invariant-loop-piece : goal.invariant-loop-piece
+invariant-loop-piece l = record {
+  whole : l.yielded ++ l.piece-iterator ≡ pieces_of l.write.offset (length l.write.bytes);
+  blocks : map (λ image. image.block) l.images.items ≡ map (λ piece. piece.block) l.yielded;
+}

@@ -1,0 +1,5 @@
+pub mod Member
+pub mod Muster
+pub mod Refusal
+pub mod Waiting
+pub mod Writes

@@ -1,0 +1,75 @@
+//! The blocks of a volume, with writes over them.
+ghost use Rattle.std.specs.Prelude.{◌≡◌, ◌+◌, ◌*◌, ◌<◌, ◌≤◌, length, All, IfOk};
+ghost use Rattle.gate_journal.specs.Batch.{AreImages};
+ghost use Rattle.world.specs.Writes.{IsInside};
+
+use gate_journal::Image;
+use std::alloc::{AllocError, Global};
+use volume::{BLOCK_SIZE, Write, patch, pieces};
+
+/// The bytes of a block.
+pub(crate) type Block = [u8; BLOCK_SIZE as usize];
+
+/// A block after some writes.
+pub(crate) fn block_after(blocks: &[Block], writes: &[Write], block: u32) -> Block
+    requires block { block < length blocks.now }
+    requires writes { All (IsInside (4096 * length blocks.now)) writes.now }
+{
+    let mut bytes = blocks[block as usize];
+    for write in writes {
+        patch(&mut bytes, write, block);
+    }
+    bytes
+}
+
+/// The bytes of a range of the volume after some writes.
+pub(crate) fn read(
+    alloc: Global,
+    blocks: &[Block],
+    writes: &[Write],
+    offset: u64,
+    len: u32,
+) -> Result<Vec<u8>, AllocError>
+    requires few { length blocks.now ≤ 65536 }
+    requires inside { offset + len ≤ 4096 * length blocks.now }
+    requires writes { All (IsInside (4096 * length blocks.now)) writes.now }
+    ensures { IfOk result (λ bytes. length bytes.items ≡ len) }
+{
+    let mut bytes = Vec::with_capacity(alloc, len as usize)?;
+    for piece in pieces(offset, len) {
+        let block = block_after(blocks, writes, piece.block);
+        bytes.extend_from_slice(&block[piece.start..piece.start + piece.len])?;
+    }
+    Ok(bytes)
+}
+
+/// The whole blocks that a write leaves, ascending.
+pub(crate) fn images(
+    alloc: Global,
+    blocks: &[Block],
+    write: &Write,
+) -> Result<Vec<Image>, AllocError>
+    requires few { length blocks.now ≤ 65536 }
+    requires inside { IsInside (4096 * length blocks.now) write.now }
+    ensures { IfOk result (λ images. AreImages (length blocks.now) images.items) }
+{
+    let mut images = Vec::new(alloc);
+    for piece in pieces(write.offset(), write.payload().len() as u32) {
+        let mut bytes = blocks[piece.block as usize];
+        patch(&mut bytes, write, piece.block);
+        images.push(Image {
+            block: piece.block,
+            bytes,
+        })?;
+    }
+    Ok(images)
+}
+
+/// Keeps images as the blocks that are there.
+pub(crate) fn keep(blocks: &mut [Block], images: &[Image])
+    requires { All (λ image. image.block < length blocks.old) images.now }
+{
+    for image in images {
+        blocks[image.block as usize] = image.bytes;
+    }
+}

@@ -1,0 +1,22 @@
+//! A chain of members and their clients, played step by step.
+//!
+//! Its contract for the layer above: each step is answered with what it put out, with a refusal's number, or as one
+//! that can't be taken now. There is one member for now, at slot 0. When the steps come, and where the bytes go, is
+//! left to whoever plays them.
+#![tactic(auto)]
+
+mod answer;
+mod blocks;
+mod client;
+mod commit;
+mod member;
+mod muster;
+mod refusal;
+mod step;
+mod waiting;
+mod world;
+
+pub use answer::{Answer, Answers, Output};
+pub use refusal::Refusal;
+pub use step::Step;
+pub use world::{MemberState, World};

@@ -1,0 +1,355 @@
+ghost use Rattle.std.specs.Prelude.{◌≡◌, ◌+◌, ◌*◌, ◌<◌, ◌≤◌, vec_len, All};
+ghost use Rattle.std.specs.Option.{ForSome};
+ghost use Rattle.gate_journal.specs.Batch.{AreImages};
+ghost use Rattle.world.specs.Writes.{IsInside};
+
+use crate::blocks::{self, Block};
+use crate::commit::Commit;
+use crate::waiting::{Token, Waiting};
+use disk_model::{Disk, Part};
+use flush_barrier::{ErrorCode, Floor, Front, Reply};
+use gate_journal::{Journal, Refusal, Slot, Synced};
+use std::alloc::{AllocError, Global};
+use std::collections::VecDeque;
+use volume::{BLOCK_SIZE, Geometry, Write};
+
+/// The greatest number of a write, and of a ticket.
+pub(crate) const GREATEST: u64 = u64::MAX >> 1;
+
+/// A write on its way to the head, under its member's ticket.
+#[derive(Debug, Drop)]
+pub(crate) struct Submit {
+    pub ticket: u64,
+    pub write: Write,
+}
+
+/// How a member found a front on the board.
+#[derive(Clone, Copy, Debug, PartialEq, Eq)]
+pub(crate) enum Found {
+    /// It raised it.
+    Raised,
+    /// It looked it up.
+    Looked,
+}
+
+/// A front that a member found on the board and hasn't gone on with yet.
+#[derive(Clone, Copy, Debug)]
+pub(crate) struct Kept {
+    pub front: Front,
+    pub found: Found,
+}
+
+/// Why a write was not submitted: its token comes back.
+#[derive(Clone, Copy, Debug, PartialEq, Eq)]
+pub(crate) enum Unsubmitted {
+    /// Memory ran out.
+    Memory,
+    /// The greatest ticket is used: the member has to stop.
+    LastTicket,
+}
+
+/// The member: its volume, its writes above the durable front, and the tokens that wait.
+///
+/// Writes are numbered 1, 2, ..: those up to `durable` are on its disk and in `blocks`, and `writes` has those above it,
+/// in order. `known` is its known commit. It has no `Drop` while tokens wait.
+#[derive(Debug)]
+pub(crate) struct Member {
+    pub alloc: Global,
+    pub slot: Slot,
+    journal: Journal,
+    blocks: Vec<Block>,
+    writes: Vec<Write>,
+    pub durable: u64,
+    pub known: u64,
+    next_ticket: u64,
+    submits: VecDeque<Submit>,
+    waiting: Vec<Waiting>,
+    pub kept: Option<Kept>,
+    commit: Option<Commit>,
+    pub receipt: Option<Synced>,
+    pub stopped: bool,
+    ghost ordered: { (durable ≤ known) × (known ≤ durable + vec_len writes) },
+    ghost numbers: { durable + vec_len writes ≤ 9223372036854775807 },
+    ghost journaled: { journal.front ≡ durable },
+    ghost few_blocks: { (vec_len blocks ≡ journal.blocks) × (vec_len blocks ≤ 65536) },
+    ghost writes_inside: { All (IsInside (4096 * vec_len blocks)) writes.items },
+    ghost submits_inside: { All (λ submit. IsInside (4096 * vec_len blocks) submit.write) submits.items },
+    ghost committing: { ForSome commit (λ c. (durable < known) × AreImages journal.blocks c.images.items) },
+    ghost kept_front: { ForSome kept (λ k. (known ≤ k.front) × (k.front ≤ durable + vec_len writes)) },
+}
+
+impl Member {
+    ghost use Rattle.std.specs.Prelude.{◌↔◌, None, IsTrue, IfOk, OnOk, OnErr, OnSome, length, vec_capacity};
+    ghost use Rattle.world.specs.Member.{fronts_of, waiting_count, CanBegin, HasSubmit, IsCommitting};
+
+    /// A member at the slot with a volume of zeros, and an empty journal from the beginning of its disk. It is lent the
+    /// disk here and wherever it writes.
+    pub(crate) fn new<D: Disk>(
+        alloc: Global,
+        slot: Slot,
+        disk: &mut D,
+        geometry: Geometry,
+    ) -> Result<Member, Refusal>
+        requires { geometry.area ≤ D.size disk.old }
+        ensures fronts { IfOk result (λ m. fronts_of m ≡ record { slot = slot; durable = 0; known = 0; applied = 0; size = 4096 * geometry.blocks; area_end = geometry.area }) }
+        ensures size { D.size disk.new ≡ D.size disk.old }
+        ensures idle { IfOk result (λ m. m.kept ≡ None) }
+    {
+        let blocks = vec![in alloc; [0; BLOCK_SIZE as usize]; geometry.blocks as usize]?;
+        let area = Part::new(0, u64::from(geometry.area));
+        let journal = Journal::create(disk, area, slot, geometry.blocks, 0)?;
+        Ok(Member {
+            alloc,
+            slot,
+            journal,
+            blocks,
+            writes: Vec::new(alloc),
+            durable: 0,
+            known: 0,
+            next_ticket: 1,
+            submits: VecDeque::new(alloc),
+            waiting: Vec::new(alloc),
+            kept: None,
+            commit: None,
+            receipt: None,
+            stopped: false,
+        })
+    }
+
+    /// The number of its last applied write.
+    pub(crate) fn applied(&self) -> u64
+        ensures applied { result ≡ (fronts_of self.now).applied }
+        ensures within { result ≤ 9223372036854775807 }
+    {
+        self.durable + self.writes.len() as u64
+    }
+
+    /// The bytes of a range of the volume at a front between the durable one and the last applied write.
+    pub(crate) fn read(&self, offset: u64, len: u32, front: u64) -> Result<Vec<u8>, AllocError>
+        requires inside { offset + len ≤ (fronts_of self.now).size }
+        requires above { (fronts_of self.now).durable ≤ front }
+        requires applied { front ≤ (fronts_of self.now).applied }
+        ensures { IfOk result (λ bytes. length bytes.items ≡ len) }
+    {
+        let above = (front - self.durable) as usize;
+        blocks::read(self.alloc, &self.blocks, &self.writes[..above], offset, len)
+    }
+
+    /// Sends a write to the head under the next ticket, and keeps its token.
+    pub(crate) fn submit(&mut self, token: Token, write: Write) -> Result<(), (Token, Unsubmitted)>
+        requires { IsInside (fronts_of self.old).size write }
+        ensures fronts { fronts_of self.new ≡ fronts_of self.old }
+        ensures kept { self.new.kept ≡ None }
+    {
+        self.kept = None;
+        if self.next_ticket > GREATEST {
+            return Err((token, Unsubmitted::LastTicket));
+        }
+        if self.waiting.reserve(1).is_err() || self.submits.reserve(1).is_err() {
+            return Err((token, Unsubmitted::Memory));
+        }
+        let ticket = self.next_ticket;
+        self.next_ticket += 1;
+        self.submits.push_back_reserved(Submit { ticket, write });
+        self.waiting.push_reserved(Waiting {
+            ticket,
+            number: None,
+            token,
+        });
+        Ok(())
+    }
+
+    /// Whether a write waits to be numbered.
+    pub(crate) fn has_submit(&self) -> bool
+        ensures { IsTrue result ↔ HasSubmit self.now }
+    {
+        !self.submits.is_empty()
+    }
+
+    /// Whether the greatest number is used.
+    pub(crate) fn is_at_greatest(&self) -> bool
+        ensures { IsTrue result ↔ ((fronts_of self.now).applied ≡ 9223372036854775807) }
+    {
+        self.applied() == GREATEST
+    }
+
+    /// Takes the write at the front of its submit link, numbers it and applies it. Where memory runs out, the write
+    /// stays in its link.
+    #[tactic(auto, using(crate::proofs::Lists::list_steps))]
+    pub(crate) fn number(&mut self) -> Result<(), AllocError>
+        requires numbers { (fronts_of self.old).applied < 9223372036854775807 }
+        requires submit { HasSubmit self.old }
+        ensures ok { OnOk result (fronts_of self.new ≡ record (fronts_of self.old) { applied = (fronts_of self.old).applied + 1 }) }
+        ensures err { OnErr result (fronts_of self.new ≡ fronts_of self.old) }
+        ensures frame { record (fronts_of self.new) { applied = (fronts_of self.old).applied } ≡ fronts_of self.old }
+        ensures grows { (fronts_of self.old).applied ≤ (fronts_of self.new).applied }
+        ensures kept { self.new.kept ≡ None }
+    {
+        self.kept = None;
+        self.writes.reserve(1)?;
+        if let Some(submit) = self.submits.pop_front() {
+            self.apply(submit);
+        }
+        Ok(())
+    }
+
+    /// Numbers a write and applies it, with room made for it.
+    #[tactic(auto, using(crate::proofs::Lists::list_steps))]
+    fn apply(&mut self, submit: Submit)
+        requires room { vec_len self.old.writes < vec_capacity self.old.writes }
+        requires inside { IsInside (fronts_of self.old).size submit.write }
+        requires numbers { (fronts_of self.old).applied < 9223372036854775807 }
+        ensures fronts { fronts_of self.new ≡ record (fronts_of self.old) { applied = (fronts_of self.old).applied + 1 } }
+        ensures kept { self.new.kept ≡ None }
+    {
+        let Submit { ticket, write } = submit;
+        self.kept = None;
+        self.writes.push_reserved(write);
+        let number = self.applied();
+        if let Some(at) = self.waiting.iter().position(|w| w.ticket == ticket) {
+            self.waiting[at].learn(number);
+        }
+    }
+
+    /// Whether a known write isn't durable yet, and no commit is under way.
+    pub(crate) fn can_begin(&self) -> bool
+        ensures { IsTrue result ↔ CanBegin self.now }
+    {
+        self.commit.is_none() && self.durable < self.known
+    }
+
+    /// Builds the images of the next write to be journaled. 121 where they don't fit.
+    pub(crate) fn begin_commit(&mut self) -> Result<(), Refusal>
+        requires { CanBegin self.old }
+        ensures fronts { fronts_of self.new ≡ fronts_of self.old }
+        ensures kept { self.new.kept ≡ None }
+        ensures ok { OnOk result (IsCommitting self.new) }
+    {
+        self.kept = None;
+        let images = blocks::images(self.alloc, &self.blocks, &self.writes[0])?;
+        if self.journal.room() < images.len() as u64 {
+            return Err(Refusal::Full);
+        }
+        self.commit = Some(Commit { images });
+        Ok(())
+    }
+
+    /// Whether a commit is under way.
+    pub(crate) fn is_committing(&self) -> bool
+        ensures { IsTrue result ↔ IsCommitting self.now }
+    {
+        self.commit.is_some()
+    }
+
+    /// Journals the images of the commit under way. Its receipt waits to be posted.
+    #[tactic(auto, using(crate::proofs::Lists::list_steps))]
+    pub(crate) fn end_commit<D: Disk>(&mut self, disk: &mut D) -> Result<(), Refusal>
+        requires on_disk { (fronts_of self.old).area_end ≤ D.size disk.old }
+        requires committing { IsCommitting self.old }
+        ensures size { D.size disk.new ≡ D.size disk.old }
+        ensures ok { OnOk result (fronts_of self.new ≡ record (fronts_of self.old) { durable = (fronts_of self.old).durable + 1 }) }
+        ensures err { OnErr result (fronts_of self.new ≡ fronts_of self.old) }
+        ensures frame { record (fronts_of self.new) { durable = (fronts_of self.old).durable } ≡ fronts_of self.old }
+        ensures kept { self.new.kept ≡ None }
+    {
+        self.kept = None;
+        let Commit { images } = self.commit.take().unwrap();
+        let front = self.durable + 1;
+        match self.journal.append(self.alloc, disk, front, &images) {
+            Err(refusal) => Err(refusal),
+            Ok(receipt) => {
+                let _journaled = self.writes.remove(0);
+                self.durable = front;
+                self.receipt = Some(receipt);
+                blocks::keep(&mut self.blocks, &images);
+                Ok(())
+            }
+        }
+    }
+
+    /// Takes the front that it raised as its known commit.
+    pub(crate) fn raised(&mut self, front: Front)
+        requires known { (fronts_of self.old).known ≤ front }
+        requires applied { front ≤ (fronts_of self.old).applied }
+        ensures fronts { fronts_of self.new ≡ record (fronts_of self.old) { known = front } }
+        ensures kept { self.new.kept ≡ None }
+    {
+        self.kept = None;
+        self.known = front.number();
+    }
+
+    /// The reply of the first plain write that waits with a number up to the known commit.
+    pub(crate) fn settle_write(&mut self) -> Option<Reply>
+        ensures fronts { fronts_of self.new ≡ fronts_of self.old }
+        ensures kept { self.new.kept ≡ self.old.kept }
+        ensures fewer { OnSome result (waiting_count self.new + 1 ≡ waiting_count self.old) }
+    {
+        let known = self.known;
+        let at = self.waiting.iter().position(|w| w.is_committed(known))?;
+        Some(self.waiting.remove(at).settle(self.alloc, known))
+    }
+
+    /// The reply of the first write with FUA that waits with a number that the floor reaches.
+    pub(crate) fn settle_fua(&mut self, floor: &Floor) -> Option<Reply>
+        ensures fronts { fronts_of self.new ≡ fronts_of self.old }
+        ensures kept { self.new.kept ≡ self.old.kept }
+        ensures fewer { OnSome result (waiting_count self.new + 1 ≡ waiting_count self.old) }
+    {
+        let at = self.waiting.iter().position(|w| w.is_paid_by(floor))?;
+        Some(self.waiting.remove(at).settle_fua(self.alloc, floor))
+    }
+
+    /// Stops: no commit goes on, and nothing that was found on the board is used.
+    pub(crate) fn stop(&mut self)
+        ensures fronts { fronts_of self.new ≡ fronts_of self.old }
+        ensures kept { self.new.kept ≡ None }
+    {
+        self.stopped = true;
+        self.kept = None;
+        self.commit = None;
+    }
+
+    /// The reply that refuses the token that has waited longest.
+    pub(crate) fn refuse_next(&mut self, code: ErrorCode) -> Option<Reply>
+        ensures fronts { fronts_of self.new ≡ fronts_of self.old }
+        ensures kept { self.new.kept ≡ self.old.kept }
+        ensures fewer { OnSome result (waiting_count self.new + 1 ≡ waiting_count self.old) }
+    {
+        if self.waiting.is_empty() {
+            return None;
+        }
+        let token = self.waiting.remove(0).into_token();
+        Some(token.refuse(self.alloc, code))
+    }
+
+    /// Whether a FUA write waits for a floor.
+    pub(crate) fn awaits_floor(&self) -> bool {
+        self.waiting
+            .iter()
+            .any(|w| matches!(w.token, Token::Fua(_)) && w.number.is_some())
+    }
+
+    /// Gives the member up. The tokens that wait are abandoned.
+    pub(crate) fn abandon(self) {
+        let Member {
+            alloc: _,
+            slot: _,
+            journal: _,
+            blocks: _,
+            writes: _,
+            durable: _,
+            known: _,
+            next_ticket: _,
+            submits: _,
+            mut waiting,
+            kept: _,
+            commit: _,
+            receipt: _,
+            stopped: _,
+        } = self;
+        while let Some(waiting) = waiting.pop() {
+            waiting.into_token().abandon();
+        }
+        waiting.destroy_empty();
+    }
+}

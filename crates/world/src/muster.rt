@@ -1,0 +1,78 @@
+ghost use Rattle.std.specs.Prelude.{◌≡◌, ◌<◌, ◌≤◌, ◌↔◌, IsTrue, map};
+ghost use Rattle.flush_barrier.specs.Mask.{counts, slots_below};
+
+use flush_barrier::{Board, Crew, Floor, Gauges};
+use gate_journal::Slot;
+
+/// A crew whose gauges are looked up one by one, slots ascending.
+#[derive(Debug, Drop)]
+pub(crate) struct Muster {
+    crew: Crew,
+    gauges: Gauges,
+    next: u8,
+    ghost within: { next ≤ 8 },
+    ghost in_order: { map (λ gauge. gauge.slot) gauges ≡ slots_below crew.mask next },
+    ghost counted: { next < 8 → IsTrue (counts crew.mask next) },
+}
+
+impl Muster {
+    ghost use Rattle.world.specs.Muster.{next_of};
+
+    /// A crew of which no gauge is looked up yet.
+    #[tactic(auto, using(crate::proofs::MusterSteps::muster_steps))]
+    pub(crate) fn new(crew: Crew) -> Muster {
+        let next = next_counted(&crew, 0);
+        Muster {
+            crew,
+            gauges: Gauges::new(),
+            next,
+        }
+    }
+
+    /// Whether the gauge of each counted slot is looked up.
+    pub(crate) fn is_complete(&self) -> bool
+        ensures { IsTrue result ↔ (next_of self.now ≡ 8) }
+    {
+        self.next == Slot::COUNT
+    }
+
+    /// Looks up the gauge of the next counted slot, where there is one.
+    #[tactic(auto, using(crate::proofs::MusterSteps::muster_steps))]
+    pub(crate) fn look_up(&mut self, board: &mut Board)
+        ensures { board.new ≡ board.old }
+    {
+        if let Some(slot) = Slot::new(self.next) {
+            self.gauges.push(board.gauge(&self.crew, slot));
+            self.next = next_counted(&self.crew, self.next + 1);
+        }
+    }
+
+    /// The floor of the crew.
+    pub(crate) fn into_floor(self) -> Floor
+        requires { next_of self ≡ 8 }
+    {
+        let Muster {
+            crew,
+            gauges,
+            next: _,
+        } = self;
+        Floor::new(crew, gauges.as_slice())
+    }
+}
+
+/// The first slot from this one on that the crew counts, or 8.
+#[tactic(auto, using(crate::proofs::MusterSteps::muster_steps))]
+fn next_counted(crew: &Crew, from: u8) -> u8
+    requires { from ≤ 8 }
+    ensures within { result ≤ 8 }
+    ensures passed { slots_below crew.now.mask result ≡ slots_below crew.now.mask from }
+    ensures counted { result < 8 → IsTrue (counts crew.now.mask result) }
+{
+    let mut next = from;
+    while let Some(slot) = Slot::new(next)
+        && !crew.holds(slot)
+    {
+        next += 1;
+    }
+    next
+}
