@@ -117,6 +117,7 @@ fn a_fua_write_waits_for_its_floor(rt: HostRuntime) {
     }
     let refused = OwedFua::new(&board, SESSION, COOKIE).refuse(rt.alloc(), ErrorCode::Io);
     assert_reply(&rt, &refused, Some(5), &[]);
+    OwedFua::new(&board, SESSION, COOKIE).abandon();
 }
 
 #[test]
@@ -138,4 +139,5 @@ fn a_flush_waits_for_its_floor(rt: HostRuntime) {
     }
     let no_memory = OwedFlush::new(&board, SESSION, COOKIE).refuse(rt.alloc(), ErrorCode::NoMemory);
     assert_reply(&rt, &no_memory, Some(12), &[]);
+    OwedFlush::new(&board, SESSION, COOKIE).abandon();
 }

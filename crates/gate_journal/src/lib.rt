@@ -1,8 +1,9 @@
-//! A journal of batches on a disk: each batch is there whole or not at all.
+//! A journal of batches on a disk: a batch is a front and whole images of blocks, behind a gate.
 //!
-//! Its contract for the layers above: since an append began, a stop leaves the old batches, or the old ones and the new
-//! one; after Ok, the new. A batch is a front and whole images of blocks. What the blocks mean, and when a batch may be
-//! overwritten, is left to those layers.
+//! Its contract for the layers above, so far: `append` makes its device calls or refuses, exactly where the batch doesn't
+//! fit or a device call failed before, and its receipt has the journal's slot and the batch's front. What a stop within
+//! a call leaves isn't stated yet, and a journal isn't read yet. What the blocks mean, and when a batch may be
+//! overwritten, is left to the layers above.
 #![tactic(auto)]
 
 mod batch;
