@@ -1,2 +1,1 @@
 mod Patches
-mod PieceLemmas

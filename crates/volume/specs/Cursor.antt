@@ -1,5 +1,5 @@
 -- Where an iterator over pieces stands.
-use Rattle.std.specs.Prelude.{ℕ, ◌+◌, ◌-◌, ◌*◌, ◌<◌, ◌≤◌, List, map}
+use Rattle.std.specs.Prelude.{◌+◌, ◌-◌, ◌*◌, ◌<◌, ◌≤◌, List, map}
 use Rattle.std.specs.List.{range_with_len}
 use Rattle.volume.specs.declared.piece.PieceIter.TheInside.{Inside}
 use Rattle.volume.specs.declared.piece.Piece.{Piece}

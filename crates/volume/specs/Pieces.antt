@@ -1,5 +1,5 @@
 -- The pieces of a range of bytes, one in each block that it touches.
-use Rattle.std.specs.Prelude.{◌≡◌, ℕ, ◌+◌, ◌-◌, ◌*◌, ◌/◌, ◌<◌, ◌≤◌, min, max, List, map, if◌then◌else◌, ◌==◌}
+use Rattle.std.specs.Prelude.{◌≡◌, ℕ, ◌+◌, ◌-◌, ◌*◌, ◌/◌, ◌<◌, ◌≤◌, min, max, List, length, map, sum_by, take, slice_index_or, if◌then◌else◌, ◌==◌}
 use Rattle.std.specs.List.{range_with_len}
 use Rattle.volume.specs.declared.piece.Piece.{Piece}
 
@@ -29,3 +29,11 @@ pub record IsPieceOf (offset len : ℕ) (piece : Piece) : Type 0 where
   pub in_block : piece.start + piece.len ≤ 4096
   pub in_range : piece.from + piece.len ≤ len
   pub place : 4096 * piece.block + piece.start ≡ offset + piece.from
+
+-- the bytes of these pieces
+abbrev pub piece_bytes : List Piece → ℕ
+piece_bytes pieces = sum_by (λ piece. piece.len) pieces
+
+-- each piece begins in the range where those before it end
+abbrev pub GoInTurn : List Piece → Type 0
+GoInTurn pieces = (k : ℕ) (d : Piece) → k < length pieces → (slice_index_or pieces k d).from ≡ piece_bytes (take k pieces)

@@ -1,10 +1,14 @@
 -- What writes make of a volume.
-use Rattle.std.specs.Prelude.{◌≡◌, ℕ, ◌+◌, ◌*◌, ◌<◌, List, ◌++◌, length, take, drop, replicate, fold}
+use Rattle.std.specs.Prelude.{ℕ, ◌+◌, ◌*◌, ◌<◌, ◌≤◌, Bool, ◌&&◌, nat_lt, List, ◌++◌, length, take, drop, replicate, fold}
 
 -- bytes, and the place of the first of them in the volume
 pub record Placed : Type 0 where
   pub offset : ℕ
   pub bytes : List ℕ
+
+-- the write lies within so many bytes
+abbrev pub Fits : ℕ → Placed → Type 0
+Fits size w = w.offset + length w.bytes ≤ size
 
 -- the volume with the write's bytes in their places
 abbrev pub patched : List ℕ → Placed → List ℕ
@@ -21,3 +25,11 @@ block_of volume block = take 4096 (drop (4096 * block) volume)
 -- some byte of the write lies in the block
 abbrev pub IsTouched : Placed → ℕ → Type 0
 IsTouched w block = (w.offset < 4096 * block + 4096) × (4096 * block < w.offset + length w.bytes) × (0 < length w.bytes)
+
+-- whether some byte of the write lies in the block
+abbrev pub touches : ℕ → Placed → Bool
+touches block w = nat_lt w.offset (4096 * block + 4096) && nat_lt (4096 * block) (w.offset + length w.bytes) && nat_lt 0 (length w.bytes)
+
+-- some byte of the write lies in the range
+abbrev pub Reaches : Placed → ℕ → ℕ → Type 0
+Reaches w offset len = (w.offset < offset + len) × (offset < w.offset + length w.bytes) × (0 < length w.bytes) × (0 < len)

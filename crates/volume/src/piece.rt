@@ -1,4 +1,5 @@
-ghost use Rattle.std.specs.Prelude.{◌≡◌, ◌+◌, ◌*◌, ◌≤◌, All};
+ghost use Rattle.std.specs.Prelude.{◌≡◌, ◌+◌, ◌*◌, ◌≤◌, map, All};
+ghost use Rattle.std.specs.List.Sorted.{IsStrictlyIncreasing};
 ghost use Rattle.std.specs.Iterator.{YieldsFirst, item_count};
 
 use crate::geometry::BLOCK_SIZE;
@@ -65,7 +66,7 @@ impl Iterator for PieceIter {
     }
 }
 
-ghost use Rattle.volume.specs.Pieces.{pieces_of, IsPieceOf};
+ghost use Rattle.volume.specs.Pieces.{pieces_of, piece_bytes, IsPieceOf, GoInTurn};
 
 /// The pieces of the `len` bytes from `offset` on: one in each block that they touch, blocks ascending, and none for
 /// no bytes. The range lies within the largest volume.
@@ -73,6 +74,9 @@ pub fn pieces(offset: u64, len: u32) -> PieceIter
     requires { offset + len ≤ 4096 * 65536 }
     ensures pieces { result ≡ pieces_of offset len }
     ensures each { All (IsPieceOf offset len) result }
+    ensures ascending { IsStrictlyIncreasing (map (λ piece. piece.block) result) }
+    ensures in_turn { GoInTurn result }
+    ensures whole { piece_bytes result ≡ len }
 {
     first_piece(offset, len)
 }
