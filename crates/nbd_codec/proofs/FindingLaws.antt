@@ -7,6 +7,7 @@ use Rattle.nbd_codec.specs.declared.findings.Reading.TheVariants as readings
 use Rattle.nbd_codec.specs.declared.fields.Ending.{Ending}
 use Rattle.nbd_codec.specs.declared.fields.Ending.TheVariants as endings
 use Rattle.nbd_codec.specs.Findings.{AreBytes, IfValue, IsFault, IsImpossible, IsProperFront, Takes, finding, seen_by}
+use Rattle.nbd_codec.specs.Laws.{IsSpelled}
 use Rattle.nbd_codec.proofs.Parts.{IsField}
 use Rattle.nbd_codec.proofs.Basics.{done, done_is}
 
@@ -139,3 +140,11 @@ module _ {A X : Type 0} (f : List ℕ → Result (A × List ℕ) Ending) (s : A 
   -- a fault is found exactly where nothing that is spelled can come
   pub is_impossible : (bytes : List ℕ) (r : Reading X) → AreBytes bytes → seen_by view r ≡ finding bytes (f bytes) → IsFault r ↔ IsImpossible s F bytes
   is_impossible bytes r is_bytes same = impossible_by bytes r is_bytes same
+
+-- what is found is what is spelled
+pub is_spelled : {A : Type 0} (f : List ℕ → Result (A × List ℕ) Ending) (s : A → List ℕ) (F : A → Type 0) → IsField f s F → IsSpelled s F (λ bytes. finding bytes (f bytes))
+is_spelled {A = A} f s F field = record {
+  value = λ bytes x taken is_bytes is. is_found f s F (λ (x : A). x) field bytes (readings.Value x taken) is_bytes (sym is);
+  more = λ bytes is_bytes is. (is_more f s F (λ (x : A). x) field bytes readings.More is_bytes (sym is)).0 refl;
+  fault = λ bytes fault is_bytes is. (is_impossible f s F (λ (x : A). x) field bytes (readings.Fault fault) is_bytes (sym is)).0 tt;
+}

@@ -1,7 +1,7 @@
 -- Options: what is read is spelled so, and what is spelled so is read.
-use Rattle.std.proofs.Common.{◌≡◌, ℕ, ◌^◌, ◌<◌, ◌≤◌, true, false, cond, eqb, ltb, List, [], ◌++◌, length, replicate, Result, Ok, refl, sym, ap, subst, ◌∙◌, arith, inl, inr}
+use Rattle.std.proofs.Common.{◌+◌, ◌≡◌, ℕ, ◌^◌, ◌<◌, ◌≤◌, true, false, cond, eqb, ltb, List, [], ◌++◌, length, replicate, Result, Ok, refl, sym, ap, subst, ◌∙◌, arith, inl, inr}
 use Rattle.std.proofs.lemmas.Bool.{eqb-true, eqb-false, ne_eqb, cases_Bool, cond-true, cond-false, cond_both, ltb-true, ltb-false}
-use Rattle.std.proofs.lemmas.List.{length-replicate}
+use Rattle.std.proofs.lemmas.List.{length-replicate, nil_from_length}
 use Rattle.byteorder.specs.Endian.{big_bytes}
 use Rattle.nbd_codec.specs.declared.constants.TheConstants.{OPTION_HEADER, OPTION_MAGIC, OPTION_EXPORT_NAME, OPTION_ABORT, OPTION_LIST, OPTION_STARTTLS, OPTION_INFO, OPTION_GO, OPTION_STRUCTURED_REPLY, MAX_OPTION_DATA}
 use Rattle.nbd_codec.specs.declared.findings.Fault.TheVariants as faults
@@ -50,21 +50,21 @@ module _ (number : ℕ) (bytes : List ℕ) (fits : IsData bytes) where
   own_data : (option : PlainOption) → ContentFits option → content_of option ≡ bytes → length_of option ≡ length bytes → number ≡ number_of option → Holds number bytes option
   own_data option ok content len e = record { is_number = sym e; is_content = content; is_length = len; fits = ok }
 
-  data_holds : (number ≡ OPTION_INFO → ⊥) → (number ≡ OPTION_GO → ⊥) → Holds number bytes (data_option number bytes)
-  data_holds n6 n7 =
-      step number OPTION_EXPORT_NAME bytes _ _ (own_data (ExportName bytes) fits refl refl) (λ n1.
+  data_holds : (number ≡ OPTION_EXPORT_NAME → ⊥) → (number ≡ OPTION_INFO → ⊥) → (number ≡ OPTION_GO → ⊥) → Holds number bytes (data_option number bytes)
+  data_holds n1 n6 n7 =
       step number OPTION_ABORT bytes _ _ (own_data (Abort bytes) fits refl refl) (λ n2.
       step number OPTION_LIST bytes _ _ (own_data (Lists bytes) fits refl refl) (λ n3.
       step number OPTION_STARTTLS bytes _ _ (own_data (StartTls bytes) fits refl refl) (λ n5.
       step number OPTION_STRUCTURED_REPLY bytes _ _ (own_data (StructuredReply bytes) fits refl refl) (λ n8.
-      own_data (Other number bytes) (unknown number n1 n2 n3 n5 n6 n7 n8, fits) refl refl refl)))))
+      own_data (Other number bytes) (unknown number n1 n2 n3 n5 n6 n7 n8, fits) refl refl refl))))
 
-  holds : Holds number bytes (option_of number bytes)
-  holds =
+  holds : (number ≡ OPTION_EXPORT_NAME → bytes ≡ []) → Holds number bytes (option_of number bytes)
+  holds none =
       let info = info_fits bytes fits in
       let same = (info_into bytes fits.1).1 in
+      step number OPTION_EXPORT_NAME bytes _ _ (λ e. own_data ExportName tt (sym (none e)) (ap length (sym (none e))) e) (λ n1.
       step number OPTION_INFO bytes _ _ (own_data (Info (info_of bytes)) info same (info_length bytes fits)) (λ n6.
-      step number OPTION_GO bytes _ _ (own_data (Go (info_of bytes)) info same (info_length bytes fits)) (λ n7. data_holds n6 n7))
+      step number OPTION_GO bytes _ _ (own_data (Go (info_of bytes)) info same (info_length bytes fits)) (λ n7. data_holds n1 n6 n7)))
 
 -- an option that isn't oversized is that of its number with its data
 record IsWhole (option : PlainOption) : Type 0 where
@@ -73,7 +73,7 @@ record IsWhole (option : PlainOption) : Type 0 where
   is_data : IsData (content_of option)
 
 is_whole : (option : PlainOption) → ContentFits option → length_of option ≤ MAX_OPTION_DATA → IsWhole option
-is_whole (ExportName name) fits le = record { again = refl; is_length = refl; is_data = fits }
+is_whole ExportName fits le = record { again = refl; is_length = refl; is_data = (omega arith, λ i. omega arith) }
 is_whole (Abort bytes) fits le = record { again = refl; is_length = refl; is_data = fits }
 is_whole (Lists bytes) fits le = record { again = refl; is_length = refl; is_data = fits }
 is_whole (StartTls bytes) fits le = record { again = refl; is_length = refl; is_data = fits }
@@ -88,11 +88,11 @@ is_whole (Other number bytes) fits le =
     let e6 = ne_eqb number OPTION_INFO (λ k. fits.0 (inr (inr (inr (inr (inl k)))))) in
     let e7 = ne_eqb number OPTION_GO (λ k. fits.0 (inr (inr (inr (inr (inr (inl k))))))) in
     let e8 = ne_eqb number OPTION_STRUCTURED_REPLY (λ k. fits.0 (inr (inr (inr (inr (inr (inr k))))))) in
-    record { again = rw (e6, e7, e1, e2, e3, e5, e8) refl; is_length = refl; is_data = fits.1 }
+    record { again = rw (e1, e6, e7, e2, e3, e5, e8) refl; is_length = refl; is_data = fits.1 }
 is_whole (Oversized number len) fits le = absurd (omega (arith, fits.0))
 
 is_oversized : (option : PlainOption) → ContentFits option → MAX_OPTION_DATA < length_of option → option ≡ Oversized (number_of option) (length_of option)
-is_oversized (ExportName name) fits lt = absurd (omega (arith, fits.0))
+is_oversized ExportName fits lt = absurd (omega arith)
 is_oversized (Abort bytes) fits lt = absurd (omega (arith, fits.0))
 is_oversized (Lists bytes) fits lt = absurd (omega (arith, fits.0))
 is_oversized (StartTls bytes) fits lt = absurd (omega (arith, fits.0))
@@ -105,20 +105,20 @@ is_oversized (Oversized number len) fits lt = refl
 -- ---- the length
 
 abbrev IsLength : ℕ → ℕ → Type 0
-IsLength number len = (len < 2 ^ 32) × (number ≡ OPTION_EXPORT_NAME → len ≤ MAX_OPTION_DATA)
+IsLength number len = (len < 2 ^ 32) × (number ≡ OPTION_EXPORT_NAME → len ≡ 0)
 
 length_fits : (option : PlainOption) → ContentFits option → IsLength (number_of option) (length_of option)
-length_fits (ExportName name) fits = (omega (arith, fits.0), λ e. fits.0)
-length_fits (Abort bytes) fits = (omega (arith, fits.0), λ e. fits.0)
-length_fits (Lists bytes) fits = (omega (arith, fits.0), λ e. fits.0)
-length_fits (StartTls bytes) fits = (omega (arith, fits.0), λ e. fits.0)
-length_fits (Info info) fits = (omega (arith, fits.1.0), λ e. fits.1.0)
-length_fits (Go info) fits = (omega (arith, fits.1.0), λ e. fits.1.0)
-length_fits (StructuredReply bytes) fits = (omega (arith, fits.0), λ e. fits.0)
-length_fits (Other number bytes) fits = (omega (arith, fits.1.0), λ e. fits.1.0)
+length_fits ExportName fits = (omega arith, λ e. refl)
+length_fits (Abort bytes) fits = (omega (arith, fits.0), λ e. absurd (omega arith))
+length_fits (Lists bytes) fits = (omega (arith, fits.0), λ e. absurd (omega arith))
+length_fits (StartTls bytes) fits = (omega (arith, fits.0), λ e. absurd (omega arith))
+length_fits (Info info) fits = (omega (arith, fits.1.0), λ e. absurd (omega arith))
+length_fits (Go info) fits = (omega (arith, fits.1.0), λ e. absurd (omega arith))
+length_fits (StructuredReply bytes) fits = (omega (arith, fits.0), λ e. absurd (omega arith))
+length_fits (Other number bytes) fits = (omega (arith, fits.1.0), λ e. absurd (fits.0 (inl e)))
 length_fits (Oversized number len) fits = (fits.1, λ e. absurd (fits.2 e))
 
-pub limited_reads : (number : ℕ) → eqb number OPTION_EXPORT_NAME ≡ true → (bytes : List ℕ) → length_at number bytes ≡ limited_at MAX_OPTION_DATA faults.ExportName bytes
+pub limited_reads : (number : ℕ) → eqb number OPTION_EXPORT_NAME ≡ true → (bytes : List ℕ) → length_at number bytes ≡ limited_at 0 faults.ExportName bytes
 unfolding length_at
 limited_reads number e bytes = cond-true (eqb number OPTION_EXPORT_NAME) _ _ e
 
@@ -129,7 +129,7 @@ number_reads number e bytes = cond-false (eqb number OPTION_EXPORT_NAME) _ _ e
 length_field : (number : ℕ) → IsField (length_at number) (big_bytes 4) (IsLength number)
 length_field number =
     elim (cases_Bool (eqb number OPTION_EXPORT_NAME)) [
-      | inl e ↦ IsField-respelled (limited_at MAX_OPTION_DATA faults.ExportName) (length_at number) (big_bytes 4) (big_bytes 4) (λ len. len ≤ MAX_OPTION_DATA) (IsLength number) (IsField-limited MAX_OPTION_DATA faults.ExportName width4 (omega arith)) (limited_reads number e) (λ len w. w.1 (eqb-true _ _ e)) (λ len w. (omega arith, λ _. w)) (λ len w. refl)
+      | inl e ↦ IsField-respelled (limited_at 0 faults.ExportName) (length_at number) (big_bytes 4) (big_bytes 4) (λ len. len ≤ 0) (IsLength number) (IsField-limited 0 faults.ExportName width4 (omega arith)) (limited_reads number e) (λ len w. omega (arith, w.1 (eqb-true _ _ e))) (λ len w. (omega arith, λ same. omega arith)) (λ len w. refl)
       | inr e ↦ IsField-respelled (number_at 4) (length_at number) (big_bytes 4) (big_bytes 4) (λ len. len < 256 ^ 4) (IsLength number) (IsField-number 4 width4) (number_reads number e) (λ len w. w.0) (λ len w. (w, λ same. absurd (eqb-false _ _ e same))) (λ len w. refl)
     ]
 
@@ -150,9 +150,9 @@ skipped_at number len bytes = Ok (Oversized number len, bytes)
 abbrev pub content_at : ℕ → ℕ → List ℕ → Result (PlainOption × List ℕ) Ending
 content_at number len bytes = cond (ltb MAX_OPTION_DATA len) (skipped_at number len bytes) (whole_at number len bytes)
 
-whole_into : (number len : ℕ) → number < 2 ^ 32 → len ≤ MAX_OPTION_DATA → (bytes : List ℕ) → AreSome len bytes → With2 number len (option_of number bytes) × (content_of (option_of number bytes) ≡ bytes)
-whole_into number len small le bytes fits =
-    let w = holds number bytes (omega (arith, fits.0), fits.1) in
+whole_into : (number len : ℕ) → number < 2 ^ 32 → len ≤ MAX_OPTION_DATA → IsLength number len → (bytes : List ℕ) → AreSome len bytes → With2 number len (option_of number bytes) × (content_of (option_of number bytes) ≡ bytes)
+whole_into number len small le named bytes fits =
+    let w = holds number bytes (omega (arith, fits.0), fits.1) (λ e. nil_from_length bytes (fits.0 ∙ named.1 e)) in
     (((record { number = subst (λ (n : ℕ). n < 2 ^ 32) (sym w.is_number) small; content = w.fits }, w.is_number), w.is_length ∙ fits.0), w.is_content)
 
 whole_back : (number len : ℕ) → len ≤ MAX_OPTION_DATA → (option : PlainOption) → With2 number len option → (bytes : List ℕ) × AreSome len bytes × (option_of number bytes ≡ option)
@@ -161,16 +161,16 @@ whole_back number len le option w =
     let whole = is_whole option w.0.0.content short in
     (content_of option, (whole.is_length ∙ w.1, whole.is_data.1), ap (λ (n : ℕ). option_of n (content_of option)) (sym w.0.1) ∙ whole.again)
 
-whole_field : (number len : ℕ) → number < 2 ^ 32 → len ≤ MAX_OPTION_DATA → IsField (whole_at number len) content_of (With2 number len)
-whole_field number len small le =
-    IsField-seen (bytes_at len) (λ (x : List ℕ). x) (AreSome len) (option_of number) content_of (With2 number len) (IsField-bytes len) (whole_into number len small le) (whole_back number len le)
+whole_field : (number len : ℕ) → number < 2 ^ 32 → len ≤ MAX_OPTION_DATA → IsLength number len → IsField (whole_at number len) content_of (With2 number len)
+whole_field number len small le named =
+    IsField-seen (bytes_at len) (λ (x : List ℕ). x) (AreSome len) (option_of number) content_of (With2 number len) (IsField-bytes len) (whole_into number len small le named) (whole_back number len le)
 
 skipped_only : (number len : ℕ) → MAX_OPTION_DATA < len → (option : PlainOption) → With2 number len option → option ≡ Oversized number len
 skipped_only number len lt option w =
     let long : MAX_OPTION_DATA < length_of option = subst (λ (n : ℕ). MAX_OPTION_DATA < n) (sym w.1) lt in
     is_oversized option w.0.0.content long ∙ ap (λ (n : ℕ). Oversized n (length_of option)) w.0.1 ∙ ap (Oversized number) w.1
 
-not_both : (n : ℕ) → MAX_OPTION_DATA < n → n ≤ MAX_OPTION_DATA → ⊥
+not_both : (n : ℕ) → MAX_OPTION_DATA < n → n ≡ 0 → ⊥
 not_both n p q = omega arith
 
 skipped_fits : (number len : ℕ) → number < 2 ^ 32 → MAX_OPTION_DATA < len → IsLength number len → With2 number len (Oversized number len)
@@ -184,7 +184,7 @@ content_field : (number len : ℕ) → number < 2 ^ 32 → IsLength number len �
 content_field number len small fits =
     elim (cases_Bool (ltb MAX_OPTION_DATA len)) [
       | inl e ↦ IsField-respelled (skipped_at number len) (content_at number len) content_of content_of (With2 number len) (With2 number len) (skipped_field number len small (ltb-true _ _ e) fits) (λ bytes. cond-true (ltb MAX_OPTION_DATA len) _ _ e) (λ x w. w) (λ x w. w) (λ x w. refl)
-      | inr e ↦ IsField-respelled (whole_at number len) (content_at number len) content_of content_of (With2 number len) (With2 number len) (whole_field number len small (ltb-false _ _ e)) (λ bytes. cond-false (ltb MAX_OPTION_DATA len) _ _ e) (λ x w. w) (λ x w. w) (λ x w. refl)
+      | inr e ↦ IsField-respelled (whole_at number len) (content_at number len) content_of content_of (With2 number len) (With2 number len) (whole_field number len small (ltb-false _ _ e) fits) (λ bytes. cond-false (ltb MAX_OPTION_DATA len) _ _ e) (λ x w. w) (λ x w. w) (λ x w. refl)
     ]
 
 some_with : (number len : ℕ) → number < 2 ^ 32 → IsLength number len → (option : PlainOption) × With1 number option × (length_of option ≡ len)
@@ -195,7 +195,7 @@ some_with number len small fits =
           (Oversized number len, w.0, w.1)
       | inr e ↦
           let same : length {A = ℕ} (replicate len 0) ≡ len = length-replicate {A = ℕ} len 0 in
-          let w = whole_into number len small (ltb-false _ _ e) (replicate len 0) (same, AreBytes-zeros [] len (λ i. omega arith)) in
+          let w = whole_into number len small (ltb-false _ _ e) fits (replicate len 0) (same, AreBytes-zeros [] len (λ i. omega arith)) in
           (option_of number (replicate len 0), w.0.0, w.0.1)
     ]
 
@@ -222,7 +222,7 @@ field2 number small =
 field1 : IsField at1 text1 IsOption
 field1 =
     IsField-both (number_at 4) (big_bytes 4) (λ x. x < 256 ^ 4) at2 text2 IsOption number_of (IsField-number 4 width4) field2 (λ option w. w.number)
-    (λ number small. let w = some_with number 0 small (omega arith, λ e. omega arith) in (w.0, w.1.0, w.1.1))
+    (λ number small. let w = some_with number 0 small (omega arith, λ e. refl) in (w.0, w.1.0, w.1.1))
 
 some_option : (option : PlainOption) × IsOption option
 some_option = (Abort [], record { number = omega arith; content = (omega arith, λ i. omega arith) })
@@ -245,3 +245,19 @@ IsField-option =
 pub spelling_len : (option : PlainOption) → OPTION_HEADER ≤ length (spelling option)
 unfolding spelling
 spelling_len option = omega arith
+
+content_short : (option : PlainOption) → ContentFits option → length (content_of option) ≤ MAX_OPTION_DATA
+content_short ExportName fits = omega arith
+content_short (Abort bytes) fits = fits.0
+content_short (Lists bytes) fits = fits.0
+content_short (StartTls bytes) fits = fits.0
+content_short (Info info) fits = fits.1.0
+content_short (Go info) fits = fits.1.0
+content_short (StructuredReply bytes) fits = fits.0
+content_short (Other number bytes) fits = fits.1.0
+content_short (Oversized number len) fits = omega arith
+
+-- and at most its header and the most data
+pub spelling_short : (option : PlainOption) → IsOption option → length (spelling option) ≤ OPTION_HEADER + MAX_OPTION_DATA
+unfolding spelling
+spelling_short option fits = omega (arith, content_short option fits.content)

@@ -1,5 +1,5 @@
 -- Requests: what is read is spelled so, and what is spelled so is read.
-use Rattle.std.proofs.Common.{cond, ◌≡◌, ℕ, ◌^◌, ◌<◌, ◌≤◌, true, false, eqb, List, [], ◌++◌, length, length-append, Result, Ok, refl, sym, ap, subst, ◌∙◌, arith, inl, inr}
+use Rattle.std.proofs.Common.{◌+◌, cond, ◌≡◌, ℕ, ◌^◌, ◌<◌, ◌≤◌, true, false, eqb, List, [], ◌++◌, length, length-append, Result, Ok, refl, sym, ap, subst, ◌∙◌, arith, inl, inr}
 use Rattle.std.proofs.lemmas.Bool.{eqb-true, eqb-false, ne_eqb, cases_Bool, cond-true, cond-false, cond_both}
 use Rattle.std.proofs.lemmas.List.{append-nil}
 use Rattle.byteorder.specs.Endian.{big_bytes}
@@ -259,3 +259,16 @@ body_len (Other kind flags cookie offset len) = omega arith
 pub spelling_len : (request : PlainRequest) → REQUEST_HEADER ≤ length (spelling request)
 unfolding spelling
 spelling_len request = omega (arith, length-append (head_spelling (head_of request)) (body_spelling request), head_len (head_of request), body_len request)
+
+body_short : (max_payload : ℕ) (request : PlainRequest) → BodyFits max_payload request → length (body_spelling request) ≤ 4 + max_payload
+unfolding body_spelling
+body_short max_payload (Read flags cookie offset len) fits = omega arith
+body_short max_payload (Write flags cookie offset payload) fits = omega (arith, fits.0)
+body_short max_payload (Disc flags cookie offset len) fits = omega arith
+body_short max_payload (Flush flags cookie offset len) fits = omega arith
+body_short max_payload (Other kind flags cookie offset len) fits = omega arith
+
+-- and at most its header and the longest payload
+pub spelling_short : (max_payload : ℕ) (request : PlainRequest) → IsRequest max_payload request → length (spelling request) ≤ REQUEST_HEADER + max_payload
+unfolding spelling
+spelling_short max_payload request fits = omega (arith, length-append (head_spelling (head_of request)) (body_spelling request), head_len (head_of request), body_short max_payload request fits.body)

@@ -21,7 +21,7 @@ pub data PlainInfo : Type 0 where
 
 -- an option without where it lies in memory
 pub data PlainOption : Type 0 where
-  ExportName : (name : List ℕ) → PlainOption
+  ExportName : PlainOption
   Abort : (bytes : List ℕ) → PlainOption
   Lists : (bytes : List ℕ) → PlainOption
   StartTls : (bytes : List ℕ) → PlainOption
@@ -38,7 +38,7 @@ info_view (infos.Malformed bytes) = Malformed bytes.items
 
 -- an option as contracts see it
 abbrev pub option_view : ClientOption → PlainOption
-option_view (options.ExportName name) = ExportName name.items
+option_view options.ExportName = ExportName
 option_view (options.Abort bytes) = Abort bytes.items
 option_view (options.List bytes) = Lists bytes.items
 option_view (options.StartTls bytes) = StartTls bytes.items
@@ -55,7 +55,7 @@ info_spelling (Malformed bytes) = bytes
 
 -- the number of an option
 abbrev pub number_of : PlainOption → ℕ
-number_of (ExportName name) = OPTION_EXPORT_NAME
+number_of ExportName = OPTION_EXPORT_NAME
 number_of (Abort bytes) = OPTION_ABORT
 number_of (Lists bytes) = OPTION_LIST
 number_of (StartTls bytes) = OPTION_STARTTLS
@@ -67,7 +67,7 @@ number_of (Oversized number len) = number
 
 -- the data of an option, as far as it belongs to the spelling
 abbrev pub content_of : PlainOption → List ℕ
-content_of (ExportName name) = name
+content_of ExportName = []
 content_of (Abort bytes) = bytes
 content_of (Lists bytes) = bytes
 content_of (StartTls bytes) = bytes
@@ -79,7 +79,7 @@ content_of (Oversized number len) = []
 
 -- the length of the data of an option
 abbrev pub length_of : PlainOption → ℕ
-length_of (ExportName name) = length name
+length_of ExportName = 0
 length_of (Abort bytes) = length bytes
 length_of (Lists bytes) = length bytes
 length_of (StartTls bytes) = length bytes
@@ -115,9 +115,9 @@ abbrev pub InfoFits : PlainInfo → Type 0
 InfoFits (Asks name types) = AreAsked name types
 InfoFits (Malformed bytes) = (name types : List ℕ) → AreAsked name types → bytes ≡ info_spelling (Asks name types) → ⊥
 
--- data that is taken, under a number of its own; or an oversized option, which isn't EXPORT_NAME
+-- EXPORT_NAME, which has no data; data that is taken, under a number of its own; or an oversized option, which isn't EXPORT_NAME
 abbrev pub ContentFits : PlainOption → Type 0
-ContentFits (ExportName name) = IsData name
+ContentFits ExportName = Unit {0}
 ContentFits (Abort bytes) = IsData bytes
 ContentFits (Lists bytes) = IsData bytes
 ContentFits (StartTls bytes) = IsData bytes
@@ -159,23 +159,23 @@ info_of bytes = asks_or bytes (asks_at bytes)
 -- the option whose data is passed on as it is
 abbrev pub data_option : ℕ → List ℕ → PlainOption
 data_option number bytes =
-    if number == OPTION_EXPORT_NAME then ExportName bytes
-    else (if number == OPTION_ABORT then Abort bytes
+    if number == OPTION_ABORT then Abort bytes
     else (if number == OPTION_LIST then Lists bytes
     else (if number == OPTION_STARTTLS then StartTls bytes
     else (if number == OPTION_STRUCTURED_REPLY then StructuredReply bytes
-    else Other number bytes))))
+    else Other number bytes)))
 
--- the option of that number with that data
+-- the option of that number with that data, of which EXPORT_NAME has none
 abbrev pub option_of : ℕ → List ℕ → PlainOption
 option_of number bytes =
-    if number == OPTION_INFO then Info (info_of bytes)
+    if number == OPTION_EXPORT_NAME then ExportName
+    else (if number == OPTION_INFO then Info (info_of bytes)
     else (if number == OPTION_GO then Go (info_of bytes)
-    else data_option number bytes)
+    else data_option number bytes))
 
--- the length of the data of the option of that number
+-- the length of the data of the option of that number, which is 0 for EXPORT_NAME
 unfoldable pub length_at : ℕ → List ℕ → Result (ℕ × List ℕ) Ending
-length_at number bytes = if number == OPTION_EXPORT_NAME then limited_at MAX_OPTION_DATA faults.ExportName bytes else number_at 4 bytes
+length_at number bytes = if number == OPTION_EXPORT_NAME then limited_at 0 faults.ExportName bytes else number_at 4 bytes
 
 -- the option at the front, and the bytes after it
 unfoldable pub option_at : List ℕ → Result (PlainOption × List ℕ) Ending
@@ -191,8 +191,8 @@ option_at bytes = do
 abbrev pub option_in : List ℕ → Reading PlainOption
 option_in bytes = finding bytes (option_at bytes)
 
--- EXPORT_NAME, and so much of its length that it is above 4,096: bytes that are still to come count as 0
-pub record HasLongName (bytes : List ℕ) : Type 0 where
+-- EXPORT_NAME, and so much of its length that it isn't 0: bytes that are still to come count as 0
+pub record HasName (bytes : List ℕ) : Type 0 where
   pub rest : List ℕ
   pub whole : bytes ≡ big_bytes 8 OPTION_MAGIC ++ (big_bytes 4 OPTION_EXPORT_NAME ++ rest)
-  pub long : MAX_OPTION_DATA < big_number 4 rest
+  pub some : 0 < big_number 4 rest

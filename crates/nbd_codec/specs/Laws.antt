@@ -1,10 +1,12 @@
 -- What holds of all spellings of a kind.
-use Rattle.std.specs.Prelude.{◌≡◌, ◌≢◌, ℕ, ◌<◌, ◌^◌, List, [], ◌++◌, length}
+use Rattle.std.specs.Prelude.{◌≡◌, ◌≢◌, ℕ, ◌<◌, ◌≤◌, ◌^◌, List, [], ◌++◌, length}
 use Rattle.nbd_codec.specs.declared.findings.Reading.{Reading}
-use Rattle.nbd_codec.specs.declared.findings.Reading.TheVariants.{More}
+use Rattle.nbd_codec.specs.declared.findings.Fault.{Fault}
+use Rattle.nbd_codec.specs.declared.findings.Reading.TheVariants as reading
+use Rattle.nbd_codec.specs.declared.findings.Reading.TheVariants.{Value, More}
 use Rattle.nbd_codec.specs.declared.option_replies.OptionReply.{OptionReply}
 use Rattle.nbd_codec.specs.declared.option_replies.OptionReply.TheVariants as replies
-use Rattle.nbd_codec.specs.Findings.{AreBytes}
+use Rattle.nbd_codec.specs.Findings.{AreBytes, IsImpossible, IsProperFront, Takes}
 use Rattle.nbd_codec.specs.OptionReply.{option_reply_spelling}
 use Rattle.nbd_codec.specs.Reply.{PlainReply, Done, Refused}
 
@@ -19,6 +21,16 @@ IsKept find = (bytes more : List ℕ) → AreBytes bytes → find bytes ≢ More
 -- where nothing came, more is needed
 abbrev pub NeedsSome : {A : Type 0} → (List ℕ → Reading A) → Type 0
 NeedsSome find = find [] ≡ More
+
+-- no spelling has more bytes
+abbrev pub IsAtMost : {A : Type 0} → ℕ → (A → List ℕ) → (A → Type 0) → Type 0
+IsAtMost {A = A} len spelling Fits = (x : A) → Fits x → length (spelling x) ≤ len
+
+-- what is found is what is spelled at the front of the bytes: a value, a proper front of one, or what no value begins with
+pub record IsSpelled {A : Type 0} (spelling : A → List ℕ) (Fits : A → Type 0) (find : List ℕ → Reading A) : Type 0 where
+  pub value : (bytes : List ℕ) (x : A) (taken : ℕ) → AreBytes bytes → find bytes ≡ Value x taken → Takes spelling Fits bytes x taken
+  pub more : (bytes : List ℕ) → AreBytes bytes → find bytes ≡ More → IsProperFront spelling Fits bytes
+  pub fault : (bytes : List ℕ) (fault : Fault) → AreBytes bytes → find bytes ≡ reading.Fault fault → IsImpossible spelling Fits bytes
 
 -- the numbers of a reply to an option fit their bytes
 abbrev pub OptionReplyFits : OptionReply → Type 0

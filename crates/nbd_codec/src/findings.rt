@@ -18,7 +18,7 @@ pub enum Fault {
     ClientFlags,
     /// An option doesn't begin with its magic.
     OptionMagic,
-    /// The data of EXPORT_NAME is longer than 4,096 bytes.
+    /// EXPORT_NAME asks for another export than the one with the empty name.
     ExportName,
     /// A request doesn't begin with its magic.
     RequestMagic,

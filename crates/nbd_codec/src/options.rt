@@ -4,7 +4,7 @@ ghost use Rattle.std.specs.Prelude.{false, ◌≡◌, ◌≤◌, ◌++◌, ◌�
 ghost use Rattle.byteorder.specs.Endian.{big_bytes};
 ghost use Rattle.nbd_codec.specs.Fields.{Gives, agrees};
 ghost use Rattle.nbd_codec.specs.Findings.{IfValue, IsFault, IsImpossible, IsProperFront, Takes, seen_by};
-ghost use Rattle.nbd_codec.specs.ClientOption.{HasLongName, PlainOption, IsOption, spelling, option_view, number_of, info_view, numbers_in, asks_at, info_of, data_option, option_of, length_at, option_at, option_in};
+ghost use Rattle.nbd_codec.specs.ClientOption.{HasName, PlainOption, IsOption, spelling, option_view, number_of, info_view, numbers_in, asks_at, info_of, data_option, option_of, length_at, option_at, option_in};
 
 use crate::constants::*;
 use crate::fields::{Ending, Stop, limited_u32, magic, taken, u16_at, u32_at};
@@ -24,8 +24,8 @@ pub enum InfoData {
 /// An option, with what its data holds.
 #[derive(Debug, PartialEq, Eq, Drop)]
 pub enum ClientOption {
-    /// EXPORT_NAME.
-    ExportName { name: Vec<u8> },
+    /// EXPORT_NAME: it asks for the one export, whose name is empty, so it has no data.
+    ExportName,
     /// ABORT: its data is passed over.
     Abort { data: Vec<u8> },
     /// LIST: it should have no data.
@@ -51,7 +51,7 @@ impl ClientOption {
         ensures { result ≡ number_of (option_view self.now) }
     {
         match *self {
-            ClientOption::ExportName { .. } => OPTION_EXPORT_NAME,
+            ClientOption::ExportName => OPTION_EXPORT_NAME,
             ClientOption::Abort { .. } => OPTION_ABORT,
             ClientOption::List { .. } => OPTION_LIST,
             ClientOption::StartTls { .. } => OPTION_STARTTLS,
@@ -112,7 +112,6 @@ fn with_data(number: u32, content: Vec<u8>) -> ClientOption
     ensures { option_view result ≡ data_option number content.items }
 {
     match number {
-        OPTION_EXPORT_NAME => ClientOption::ExportName { name: content },
         OPTION_ABORT => ClientOption::Abort { data: content },
         OPTION_LIST => ClientOption::List { data: content },
         OPTION_STARTTLS => ClientOption::StartTls { data: content },
@@ -124,24 +123,25 @@ fn with_data(number: u32, content: Vec<u8>) -> ClientOption
     }
 }
 
-/// The option of that number with that data.
-fn known_option(alloc: Global, number: u32, data: &[u8]) -> Result<ClientOption, AllocError>
-    ensures { IfOk result (λ option. option_view option ≡ option_of number data.now) }
+/// The option of that number with that data, of which EXPORT_NAME has none.
+fn known_option(alloc: Global, number: u32, content: &[u8]) -> Result<ClientOption, AllocError>
+    ensures { IfOk result (λ option. option_view option ≡ option_of number content.now) }
 {
     match number {
-        OPTION_INFO => Ok(ClientOption::Info(info_data(alloc, data)?)),
-        OPTION_GO => Ok(ClientOption::Go(info_data(alloc, data)?)),
-        _ => Ok(with_data(number, Vec::from_slice(alloc, data)?)),
+        OPTION_EXPORT_NAME => Ok(ClientOption::ExportName),
+        OPTION_INFO => Ok(ClientOption::Info(info_data(alloc, content)?)),
+        OPTION_GO => Ok(ClientOption::Go(info_data(alloc, content)?)),
+        _ => Ok(with_data(number, Vec::from_slice(alloc, content)?)),
     }
 }
 
-/// The length of the data of the option of that number.
+/// The length of the data of the option of that number, which is 0 for EXPORT_NAME.
 #[tactic(auto, unfolding(crate::specs::ClientOption::length_at))]
 fn length_of(number: u32, bytes: &[u8]) -> Result<(u32, &[u8]), Stop>
     ensures { Gives (λ x. (x.0, x.1.now)) result (length_at number bytes.now) }
 {
     if number == OPTION_EXPORT_NAME {
-        return limited_u32(bytes, MAX_OPTION_DATA, Fault::ExportName);
+        return limited_u32(bytes, 0, Fault::ExportName);
     }
     u32_at(bytes)
 }
@@ -157,8 +157,8 @@ fn option_at_front(alloc: Global, bytes: &[u8]) -> Result<(ClientOption, &[u8]),
     if len > MAX_OPTION_DATA {
         return Ok((ClientOption::Oversized { number, len }, rest));
     }
-    let (data, rest) = taken(rest, len)?;
-    Ok((known_option(alloc, number, data)?, rest))
+    let (content, rest) = taken(rest, len)?;
+    Ok((known_option(alloc, number, content)?, rest))
 }
 
 /// What is found at the front, without what follows from it.
@@ -174,10 +174,10 @@ fn find_option(alloc: Global, input: &[u8]) -> Result<Reading<ClientOption>, All
     }
 }
 
-/// Reads the option at the front. One with more than 4,096 bytes of data ends with its header, and
-/// EXPORT_NAME with so many ends the session. The session ends at the first byte that can't be of
-/// an option that is taken. It fails only for want of memory, of which it takes about as much as the
-/// data has bytes.
+/// Reads the option at the front. One with more than 4,096 bytes of data ends with its header. The
+/// one export has the empty name, so EXPORT_NAME has no data: the first byte of its length that isn't
+/// 0 ends the session. The session ends at the first byte that can't be of an option that is taken.
+/// It fails only for want of memory, of which it takes about as much as the data has bytes.
 pub fn read_option(alloc: Global, input: &[u8]) -> Result<Reading<ClientOption>, AllocError>
     // An option stands at the front, spelled so.
     ensures found { IfOk result (λ reading. IfValue reading (λ option len.
@@ -200,9 +200,9 @@ pub fn read_option(alloc: Global, input: &[u8]) -> Result<Reading<ClientOption>,
     ensures magic { IfOk result (λ reading.
         (reading ≡ Reading.Fault Fault.OptionMagic)
         ↔ (agrees (big_bytes 8 OPTION_MAGIC) input.now ≡ false)) }
-    // A name is too long exactly where an EXPORT_NAME has begun whose length is above the limit.
-    ensures too_long { IfOk result (λ reading.
-        (reading ≡ Reading.Fault Fault.ExportName) ↔ HasLongName input.now) }
+    // Another export is asked for exactly where an EXPORT_NAME has begun whose length isn't 0.
+    ensures other_export { IfOk result (λ reading.
+        (reading ≡ Reading.Fault Fault.ExportName) ↔ HasName input.now) }
     // All of this at once: what reading from left to right gives.
     ensures exact { IfOk result (λ reading. seen_by option_view reading ≡ option_in input.now) }
 {

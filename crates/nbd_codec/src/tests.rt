@@ -89,57 +89,105 @@ fn asks(alloc: Global, name: &[u8], types: &[u16]) -> Result<InfoData, AllocErro
 #[test]
 fn options(rt: HostRuntime) -> Result<(), Fail> {
     let alloc = rt.alloc();
-    let name = Vec::new(alloc);
-    option_is(&rt, alloc, EXPORT_NAME, ClientOption::ExportName { name })?;
+    option_is(&rt, alloc, EXPORT_NAME, ClientOption::ExportName)?;
     let data = Vec::new(alloc);
     option_is(&rt, alloc, LIST, ClientOption::List { data })?;
-    let (number, len) = (3, 4097);
-    option_is(
-        &rt,
-        alloc,
-        LONG_LIST,
-        ClientOption::Oversized { number, len },
-    )?;
-    let len = u32::MAX;
-    option_is(
-        &rt,
-        alloc,
-        LONGEST_LIST,
-        ClientOption::Oversized { number, len },
-    )?;
-    option_is(&rt, alloc, INFO, ClientOption::Info(asks(alloc, b"", &[])?))?;
-    option_is(
-        &rt,
-        alloc,
-        GO_SIZES,
-        ClientOption::Go(asks(alloc, b"", &[3])?),
-    )?;
-    option_is(&rt, alloc, GO, ClientOption::Go(asks(alloc, b"", &[3, 9])?))?;
-    option_is(
-        &rt,
-        alloc,
-        GO_TO_X,
-        ClientOption::Go(asks(alloc, b"x", &[])?),
-    )?;
-    let data = Vec::from_slice(alloc, b"\xff\xff\xff\xff")?;
-    option_is(
-        &rt,
-        alloc,
-        GO_NOWHERE,
-        ClientOption::Go(InfoData::Malformed { data }),
-    )?;
-
+    let number = 3;
+    for (text, len) in [(LONG_LIST, 4097), (LONGEST_LIST, u32::MAX)] {
+        option_is(&rt, alloc, text, ClientOption::Oversized { number, len })?;
+    }
     let foreign = read_option(alloc, b"IHAVEOPX")?;
     assert_eq!(rt; foreign, Reading::Fault(Fault::OptionMagic));
-    let long = read_option(alloc, b"IHAVEOPT\0\0\0\x01\x01")?;
-    assert_eq!(rt; long, Reading::Fault(Fault::ExportName));
+    Ok(())
+}
+
+#[test]
+fn options_that_ask(rt: HostRuntime) -> Result<(), Fail> {
+    let alloc = rt.alloc();
+    option_is(&rt, alloc, INFO, ClientOption::Info(asks(alloc, b"", &[])?))?;
+    for (text, name, types) in [
+        (GO_SIZES, b"".as_slice(), [3].as_slice()),
+        (GO, b"", &[3, 9]),
+        (GO_TO_X, b"x", &[]),
+    ] {
+        let asked = asks(alloc, name, types)?;
+        option_is(&rt, alloc, text, ClientOption::Go(asked))?;
+    }
+    let data = Vec::from_slice(alloc, b"\xff\xff\xff\xff")?;
+    let malformed = InfoData::Malformed { data };
+    option_is(&rt, alloc, GO_NOWHERE, ClientOption::Go(malformed))?;
+    Ok(())
+}
+
+// The first byte of the name's length that isn't 0 ends the session, and before it more is needed.
+#[test]
+fn other_exports(rt: HostRuntime) -> Result<(), Fail> {
+    let alloc = rt.alloc();
+    for (text, end) in [
+        (b"IHAVEOPT\0\0\0\x01\0\0\0\x01x".as_slice(), 16),
+        (b"IHAVEOPT\0\0\0\x01\0\0\x10\0x", 15),
+        (b"IHAVEOPT\0\0\0\x01\0\0\x10\x01x", 15),
+        (b"IHAVEOPT\0\0\0\x01\xff\xff\xff\xffx", 13),
+    ] {
+        for len in 0..text.len() {
+            let want = if len < end {
+                Reading::More
+            } else {
+                Reading::Fault(Fault::ExportName)
+            };
+            let found = read_option(alloc, &text[..len])?;
+            assert_eq!(rt; found, want, "{len} bytes of {text:?}");
+        }
+    }
+    Ok(())
+}
+
+// The reply is the magic, and behind it what is wanted.
+fn reply_is(
+    rt: &impl Abort,
+    alloc: Global,
+    option: u32,
+    reply: OptionReply,
+    want: &[u8],
+) -> Result<(), AllocError> {
+    let magic = b"\0\x03\xe8\x89\x04\x55\x65\xa9";
+    let written = write_option_reply(alloc, option, &reply)?;
+    assert!(rt; written.starts_with(magic), "{reply:?}");
+    assert!(rt; written.ends_with(want), "{reply:?}");
+    assert_eq!(rt; written.len(), magic.len() + want.len());
     Ok(())
 }
 
 #[test]
 fn option_replies(rt: HostRuntime) -> Result<(), Fail> {
     let alloc = rt.alloc();
-    let magic = b"\0\x03\xe8\x89\x04\x55\x65\xa9";
+    for (option, reply, want) in [
+        (
+            7,
+            OptionReply::Ack,
+            b"\0\0\0\x07\0\0\0\x01\0\0\0\0".as_slice(),
+        ),
+        (
+            7,
+            OptionReply::ErrUnknown,
+            b"\0\0\0\x07\x80\0\0\x06\0\0\0\0",
+        ),
+        (3, OptionReply::ErrTooBig, b"\0\0\0\x03\x80\0\0\x09\0\0\0\0"),
+        (
+            3,
+            OptionReply::ErrInvalid,
+            b"\0\0\0\x03\x80\0\0\x03\0\0\0\0",
+        ),
+        (5, OptionReply::ErrUnsup, b"\0\0\0\x05\x80\0\0\x01\0\0\0\0"),
+    ] {
+        reply_is(&rt, alloc, option, reply, want)?;
+    }
+    Ok(())
+}
+
+#[test]
+fn option_replies_with_data(rt: HostRuntime) -> Result<(), Fail> {
+    let alloc = rt.alloc();
     let max_payload = MAX_PAYLOAD;
     for (option, reply, want) in [
         (
@@ -152,30 +200,20 @@ fn option_replies(rt: HostRuntime) -> Result<(), Fail> {
             OptionReply::BlockSize { max_payload },
             b"\0\0\0\x07\0\0\0\x03\0\0\0\x0e\0\x03\0\0\0\x01\0\0\x10\0\0\0\x10\0",
         ),
-        (7, OptionReply::Ack, b"\0\0\0\x07\0\0\0\x01\0\0\0\0"),
-        (
-            7,
-            OptionReply::ErrUnknown,
-            b"\0\0\0\x07\x80\0\0\x06\0\0\0\0",
-        ),
-        (3, OptionReply::ErrTooBig, b"\0\0\0\x03\x80\0\0\x09\0\0\0\0"),
-        (
-            3,
-            OptionReply::ErrInvalid,
-            b"\0\0\0\x03\x80\0\0\x03\0\0\0\0",
-        ),
         (
             3,
             OptionReply::Server,
             b"\0\0\0\x03\0\0\0\x02\0\0\0\x04\0\0\0\0",
         ),
-        (5, OptionReply::ErrUnsup, b"\0\0\0\x05\x80\0\0\x01\0\0\0\0"),
     ] {
-        let written = write_option_reply(alloc, option, &reply)?;
-        assert!(rt; written.starts_with(magic), "{reply:?}");
-        assert!(rt; written.ends_with(want), "{reply:?}");
-        assert_eq!(rt; written.len(), magic.len() + want.len());
+        reply_is(&rt, alloc, option, reply, want)?;
     }
+    Ok(())
+}
+
+#[test]
+fn exports(rt: HostRuntime) -> Result<(), Fail> {
+    let alloc = rt.alloc();
     let export = b"\0\0\0\0\0\0\x80\0\x01\x0d";
     assert_eq!(rt;
         write_export(alloc, SIZE, true)?.as_slice(),
@@ -260,9 +298,10 @@ fn requests(rt: HostRuntime) -> Result<(), Fail> {
 }
 
 #[test]
-fn checks(rt: HostRuntime) -> Result<(), Fail> {
+fn checks_of_ranges(rt: HostRuntime) -> Result<(), Fail> {
     let alloc = rt.alloc();
     let invalid = Checked::Refused(NbdError::Invalid);
+    let no_space = Checked::Refused(NbdError::NoSpace);
     let four = b"four";
     for (request, want) in [
         (read_of(0, 32_764, 4), Checked::Volume),
@@ -271,43 +310,43 @@ fn checks(rt: HostRuntime) -> Result<(), Fail> {
         (read_of(0, u64::MAX, u32::MAX), invalid),
         (read_of(0, 32_768, 0), Checked::Done),
         (write_of(alloc, 32_764, four)?, Checked::Volume),
-        (
-            write_of(alloc, 32_765, four)?,
-            Checked::Refused(NbdError::NoSpace),
-        ),
+        (write_of(alloc, 32_765, four)?, no_space),
         (write_of(alloc, 32_768, b"")?, Checked::Done),
-        (
-            Request::Flush {
-                flags: 0,
-                cookie: 5,
-                offset: 0,
-                length: 1,
-            },
-            invalid,
-        ),
-        (
-            Request::Other {
-                kind: 9,
-                flags: 0,
-                cookie: 6,
-                offset: 0,
-                length: 0,
-            },
-            invalid,
-        ),
-        (
-            Request::Disc {
-                flags: 9,
-                cookie: 7,
-                offset: 9,
-                length: 9,
-            },
-            Checked::Disconnect,
-        ),
     ] {
         assert_eq!(rt; check(&request, SIZE, MAX_PAYLOAD), want, "{request:?}");
     }
     Ok(())
+}
+
+#[test]
+fn checks_of_others(rt: HostRuntime) {
+    let flush = Request::Flush {
+        flags: 0,
+        cookie: 5,
+        offset: 0,
+        length: 1,
+    };
+    let other = Request::Other {
+        kind: 9,
+        flags: 0,
+        cookie: 6,
+        offset: 0,
+        length: 0,
+    };
+    let disc = Request::Disc {
+        flags: 9,
+        cookie: 7,
+        offset: 9,
+        length: 9,
+    };
+    let invalid = Checked::Refused(NbdError::Invalid);
+    for (request, want) in [
+        (flush, invalid),
+        (other, invalid),
+        (disc, Checked::Disconnect),
+    ] {
+        assert_eq!(rt; check(&request, SIZE, MAX_PAYLOAD), want, "{request:?}");
+    }
 }
 
 #[test]

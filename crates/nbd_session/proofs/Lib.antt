@@ -1,0 +1,4 @@
+pub mod Courses
+pub mod Cuttings
+pub mod Endings
+pub mod Lawfulness

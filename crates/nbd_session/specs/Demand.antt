@@ -1,11 +1,49 @@
 -- What a demand asks of the volume, and whose reply it owes.
-use Rattle.std.specs.Prelude.{ℕ, ◌+◌, ◌<◌, ◌≤◌, length}
+use Rattle.std.specs.Prelude.{ℕ, ◌+◌, ◌<◌, ◌≤◌, List, length}
 use Rattle.flush_barrier.specs.declared.session_id.SessionId.{SessionId}
 use Rattle.nbd_session.specs.declared.demand.Demand.{Demand}
 use Rattle.nbd_session.specs.declared.demand.Demand.TheVariants as demands
 use Rattle.nbd_session.specs.declared.demand.WantedKind.{WantedKind}
 use Rattle.nbd_session.specs.declared.demand.WantedKind.TheVariants as kinds
 use Rattle.nbd_session.specs.declared.demand.Wanted.{Wanted}
+
+-- what a request asks of the volume: under its cookie, a range of bytes, or bytes from a place on
+pub data Asked : Type 0 where
+  Read : (cookie offset len : ℕ) → Asked
+  Write : (cookie offset : ℕ) → (payload : List ℕ) → Asked
+  Fua : (cookie offset : ℕ) → (payload : List ℕ) → Asked
+
+-- what a demand asks
+abbrev pub asked_by : Demand → Asked
+asked_by (demands.Read token offset len) = Read token.cookie offset len
+asked_by (demands.Write token offset payload) = Write token.cookie offset payload.items
+asked_by (demands.Fua token offset payload) = Fua token.cookie offset payload.items
+
+-- what is asked under a cookie from an offset on
+abbrev pub asked_of : ℕ → ℕ → WantedKind → Asked
+asked_of cookie offset (kinds.Read len) = Read cookie offset len
+asked_of cookie offset (kinds.Write payload) = Write cookie offset payload.items
+asked_of cookie offset (kinds.Fua payload) = Fua cookie offset payload.items
+
+-- what is asked where there is no token yet
+abbrev pub wanted_view : Wanted → Asked
+wanted_view wanted = asked_of wanted.cookie wanted.offset wanted.kind
+
+-- where the range begins in the volume
+abbrev pub offset_in : Asked → ℕ
+offset_in (Read cookie offset len) = offset
+offset_in (Write cookie offset payload) = offset
+offset_in (Fua cookie offset payload) = offset
+
+-- the bytes of the range
+abbrev pub len_in : Asked → ℕ
+len_in (Read cookie offset len) = len
+len_in (Write cookie offset payload) = length payload
+len_in (Fua cookie offset payload) = length payload
+
+-- the range has at least one byte, and lies inside a volume of this size
+abbrev pub IsAskedInside : ℕ → Asked → Type 0
+IsAskedInside size asked = (0 < len_in asked) × (offset_in asked + len_in asked ≤ size)
 
 -- where the demand's range begins in the volume
 abbrev pub offset_of : Demand → ℕ
@@ -25,22 +63,6 @@ session_of (demands.Read token offset len) = token.session
 session_of (demands.Write token offset payload) = token.session
 session_of (demands.Fua token offset payload) = token.session
 
--- the cookie of its request
-abbrev pub cookie_of : Demand → ℕ
-cookie_of (demands.Read token offset len) = token.cookie
-cookie_of (demands.Write token offset payload) = token.cookie
-cookie_of (demands.Fua token offset payload) = token.cookie
-
 -- the range has at least one byte, and lies inside a volume of this size
 abbrev pub IsInside : ℕ → Demand → Type 0
 IsInside size demand = (0 < len_of demand) × (offset_of demand + len_of demand ≤ size)
-
--- the bytes of a range that has no token yet
-abbrev pub wanted_len : WantedKind → ℕ
-wanted_len (kinds.Read len) = len
-wanted_len (kinds.Write payload) = length payload.items
-wanted_len (kinds.Fua payload) = length payload.items
-
--- such a range has at least one byte, and lies inside a volume of this size
-abbrev pub IsWantedInside : ℕ → Wanted → Type 0
-IsWantedInside size wanted = (0 < wanted_len wanted.kind) × (wanted.offset + wanted_len wanted.kind ≤ size)

@@ -1,24 +1,101 @@
--- What contracts see of a session.
-use Rattle.std.specs.Prelude.{◌≡◌, ℕ, List, ◌++◌}
+-- What contracts see of a session, and how it goes through its input.
+use Rattle.std.specs.Prelude.{◌≡◌, ◌⊎◌, ℕ, ◌+◌, ◌-◌, ◌≤◌, suc, zero, Option, Some, None, List, [], ◌++◌, drop, length, nat_lt, if◌then◌else◌}
+use Rattle.std.specs.Option.{option_to_list}
 use Rattle.flush_barrier.specs.declared.session_id.SessionId.{SessionId}
+use Rattle.nbd_session.specs.declared.session.TheConstants.{LIMIT_IN_FLIGHT}
+use Rattle.nbd_session.specs.declared.negotiation.Export.{Export}
 use Rattle.nbd_session.specs.declared.phase.Phase.{Phase}
+use Rattle.nbd_session.specs.Demand.{Asked}
+use Rattle.nbd_session.specs.Turn.{Turned, is_over, phase_after, turn_in}
 
--- a session at an export of size bytes: how far it has come, how many of its demands are owed a reply, the input that
--- it hasn't taken, and the bytes that wait to go out
+-- a session at an export: how far it has come, how many of its demands are owed a reply, the input that it hasn't
+-- taken, and the bytes that wait to go out
 pub record State : Type 0 where
   pub id : SessionId
-  pub size : ℕ
-  pub max_payload : ℕ
+  pub export : Export
   pub phase : Phase
   pub in_flight : ℕ
   pub kept : List ℕ
   pub output : List ℕ
 
+-- a session in the middle of its input, and what it has asked of the volume since the piece came
+pub record Course : Type 0 where
+  pub session : State
+  pub asked : List Asked
+
+-- one more, if something is asked
+abbrev pub more_in_flight : ℕ → Option Asked → ℕ
+more_in_flight n None = n
+more_in_flight n (Some asked) = n + 1
+
+-- after a turn: one that ends the session leaves the rest of the input
+abbrev pub after_turn : Course → Turned → Course
+after_turn c turn =
+    if is_over turn.phase then record {
+      session = record c.session { phase = phase_after turn.phase c.session.in_flight; kept = []; output = c.session.output ++ turn.output };
+      asked = c.asked;
+    }
+    else record {
+      session = record c.session {
+        phase = phase_after turn.phase c.session.in_flight;
+        in_flight = more_in_flight c.session.in_flight turn.asked;
+        kept = drop turn.taken c.session.kept;
+        output = c.session.output ++ turn.output;
+      };
+      asked = c.asked ++ option_to_list turn.asked;
+    }
+
+-- after a turn, if there is one
+abbrev pub after_any : Course → Option Turned → Course
+after_any c (Some turn) = after_turn c turn
+after_any c None = c
+
+-- one turn more, while fewer requests are in flight than may be
+unfoldable pub step : Course → Course
+step c = if nat_lt c.session.in_flight LIMIT_IN_FLIGHT then after_any c (turn_in c.session.export c.session.phase c.session.kept) else c
+
+-- so many turns
+abbrev pub play : ℕ → Course → Course
+play zero c = c
+play (suc n) c = play n (step c)
+
+-- no turn comes: as many requests are in flight as may be, or the input has none
+abbrev pub IsDone : Course → Type 0
+IsDone c = (LIMIT_IN_FLIGHT ≤ c.session.in_flight) ⊎ (turn_in c.session.export c.session.phase c.session.kept ≡ None)
+
+-- after some turns no further one comes
+pub record Settles (from to : Course) : Type 0 where
+  pub turns : ℕ
+  pub there : play turns from ≡ to
+  pub done : IsDone to
+
+-- the session with a further piece of input
+abbrev pub fed : State → List ℕ → Course
+fed session piece = record { session = record session { kept = session.kept ++ piece }; asked = [] }
+
+-- the piece leaves the session so, and asks this of the volume
+abbrev pub Feeds : State → List ℕ → State → List Asked → Type 0
+Feeds old piece new asked = Settles (fed old piece) (record { session = new; asked = asked })
+
+-- the session before its first turn
+abbrev pub course_of : State → Course
+course_of session = record { session = session; asked = [] }
+
+-- the session once so many bytes of its input are taken, and this is asked of the volume
+abbrev pub taken_from : State → ℕ → Option Asked → Course
+taken_from session taken asked = record {
+  session = record session { in_flight = more_in_flight session.in_flight asked; kept = drop taken session.kept };
+  asked = option_to_list asked;
+}
+
 -- more waits to go out, and nothing else changed but the phase
 pub record Grows (old new : State) : Type 0 where
   pub id : new.id ≡ old.id
-  pub size : new.size ≡ old.size
-  pub max_payload : new.max_payload ≡ old.max_payload
+  pub export : new.export ≡ old.export
   pub in_flight : new.in_flight ≡ old.in_flight
   pub kept : new.kept ≡ old.kept
   pub more : (more : List ℕ) × (new.output ≡ old.output ++ more)
+
+-- what a session can still take: the input behind its first bytes, and its own end
+abbrev pub left_to_take : State → ℕ → ℕ
+left_to_take session taken = (length session.kept - taken) + (if is_over session.phase then 0 else 1)

@@ -46,14 +46,12 @@ pub(crate) enum WantedKind {
 }
 
 impl Wanted {
-    ghost use Rattle.nbd_session.specs.Demand.{offset_of, len_of, session_of, cookie_of, wanted_len};
+    ghost use Rattle.nbd_session.specs.Demand.{asked_by, session_of, wanted_view};
 
     /// The demand, with a token of the board.
     pub(crate) fn into_demand(self, board: &Board, session: SessionId) -> Demand
-        ensures offset { offset_of result ≡ self.offset }
-        ensures len { len_of result ≡ wanted_len self.kind }
+        ensures asked { asked_by result ≡ wanted_view self }
         ensures session { session_of result ≡ session }
-        ensures cookie { cookie_of result ≡ self.cookie }
     {
         let Wanted {
             cookie,

@@ -7,6 +7,7 @@
 #![tactic(auto)]
 
 mod demand;
+mod laws;
 mod negotiation;
 mod phase;
 mod refusal;
@@ -15,5 +16,6 @@ mod transmission;
 mod turn;
 
 pub use demand::Demand;
+pub use laws::{cuttings_agree, feeds_are_lawful};
 pub use refusal::Refusal;
 pub use session::{LIMIT_IN_FLIGHT, Session};

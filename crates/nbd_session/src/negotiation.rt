@@ -1,7 +1,10 @@
 //! The handshake: client flags, and options up to the one that begins transmission.
-ghost use Rattle.std.specs.Prelude.{ℕ, ◌<◌, length, IfOk, IfSome};
-ghost use Rattle.nbd_codec.specs.ClientOption.{IsOption, option_view};
-ghost use Rattle.nbd_session.specs.Turn.{IsPhase, IsTurn};
+ghost use Rattle.std.specs.Prelude.{◌≡◌, ◌<◌, ◌≤◌, length, IfOk, IfSome, option_map};
+ghost use Rattle.nbd_codec.specs.ClientOption.{IsOption, info_view, option_in, option_view};
+ghost use Rattle.nbd_codec.specs.Handshake.{flags_in};
+ghost use Rattle.nbd_session.specs.Answers as answers;
+ghost use Rattle.nbd_session.specs.Turn as turns;
+ghost use Rattle.nbd_session.specs.Turn.{IsPhase, IsTurn, turn_view};
 
 use crate::phase::Phase;
 use crate::transmission::ended;
@@ -16,9 +19,19 @@ use nbd_codec::{
 };
 use std::alloc::{AllocError, Global};
 
+/// What the session exports.
+#[derive(Clone, Copy, Debug)]
+pub(crate) struct Export {
+    /// The bytes of the volume.
+    pub size: u64,
+    /// The longest payload, in bytes.
+    pub max_payload: u32,
+}
+
 /// The client flags at the front of the input, or `None` where more is needed.
-pub(crate) fn flags_turn(alloc: Global, export: Export, input: &[u8]) -> Option<Turn>
-    ensures { IfSome result (IsTurn export.size (length input.now)) }
+pub(crate) fn flags_turn(alloc: Global, input: &[u8]) -> Option<Turn>
+    ensures exact { option_map turn_view result ≡ turns.flags_turn (length input.now) (flags_in input.now) }
+    ensures turn { IfSome result (λ turn. IsTurn (length input.now) (turn_view turn)) }
 {
     match read_client_flags(input) {
         Reading::Value(flags, taken) => Some(Turn {
@@ -34,15 +47,6 @@ pub(crate) fn flags_turn(alloc: Global, export: Export, input: &[u8]) -> Option<
     }
 }
 
-/// What the session exports.
-#[derive(Clone, Copy, Debug)]
-pub(crate) struct Export {
-    /// The bytes of the volume.
-    pub size: u64,
-    /// The longest payload, in bytes.
-    pub max_payload: u32,
-}
-
 /// The option at the front of the input, or `None` where more is needed.
 pub(crate) fn option_turn(
     alloc: Global,
@@ -50,105 +54,108 @@ pub(crate) fn option_turn(
     no_zeroes: bool,
     input: &[u8],
 ) -> Result<Option<Turn>, AllocError>
-    ensures { IfOk result (λ turn. IfSome turn (IsTurn export.size (length input.now))) }
+    ensures exact { IfOk result (λ turn. option_map turn_view turn ≡ turns.option_turn export no_zeroes (length input.now) (option_in input.now)) }
+    ensures turn { IfOk result (λ turn. IfSome turn (λ t. IsTurn (length input.now) (turn_view t))) }
 {
     match read_option(alloc, input)? {
-        Reading::Value(option, taken) => {
-            let (phase, output) = after_option(alloc, export, no_zeroes, &option)?;
-            Ok(Some(Turn {
-                phase,
-                taken,
-                output,
-                wanted: None,
-            }))
-        }
+        Reading::Value(option, taken) => Ok(Some(Turn {
+            phase: phase_after(no_zeroes, &option),
+            taken,
+            output: answer_at_once(alloc, export, no_zeroes, &option)?,
+            wanted: None,
+        })),
         Reading::More => Ok(None),
         Reading::Fault(_) => Ok(Some(ended(alloc, input.len()))),
     }
 }
 
-/// How far the session has come after an option, and the answer to it.
-fn after_option(
+/// How far the session has come after an option.
+fn phase_after(no_zeroes: bool, option: &ClientOption) -> Phase
+    requires { IsOption (option_view option.now) }
+    ensures phase { result ≡ turns.phase_after_option no_zeroes (option_view option.now) }
+    ensures is_phase { IsPhase result }
+{
+    match option {
+        ClientOption::ExportName => Phase::Transmitting,
+        ClientOption::Abort { .. } => Phase::Over,
+        ClientOption::Go(InfoData::Asks { name, .. }) => {
+            if name.is_empty() {
+                Phase::Transmitting
+            } else {
+                Phase::Negotiating { no_zeroes }
+            }
+        }
+        ClientOption::Oversized { number, len } => Phase::Skipping {
+            no_zeroes,
+            option: *number,
+            left: *len,
+        },
+        ClientOption::List { .. }
+        | ClientOption::StartTls { .. }
+        | ClientOption::Info(_)
+        | ClientOption::Go(InfoData::Malformed { .. })
+        | ClientOption::StructuredReply { .. }
+        | ClientOption::Other { .. } => Phase::Negotiating { no_zeroes },
+    }
+}
+
+/// The answer that goes out at once. That to an option that is too long waits for the end of its data.
+fn answer_at_once(
     alloc: Global,
     export: Export,
     no_zeroes: bool,
     option: &ClientOption,
-) -> Result<(Phase, Vec<u8>), AllocError>
-    requires { IsOption (option_view option.now) }
-    ensures { IfOk result (λ r. IsPhase r.0) }
+) -> Result<Vec<u8>, AllocError>
+    ensures { IfOk result (λ answer. answer.items ≡ turns.output_after_option export no_zeroes (option_view option.now)) }
 {
     match option {
-        ClientOption::ExportName { name } if name.is_empty() => {
-            let answer = write_export(alloc, export.size, no_zeroes)?;
-            Ok((Phase::Transmitting, answer))
-        }
-        ClientOption::ExportName { .. } => Ok((Phase::Over, Vec::new(alloc))),
-        ClientOption::Abort { .. } => {
-            let answer = write_option_reply(alloc, OPTION_ABORT, &OptionReply::Ack)?;
-            Ok((Phase::Over, answer))
-        }
-        ClientOption::Oversized { number, len } => {
-            let phase = Phase::Skipping {
-                no_zeroes,
-                option: *number,
-                left: *len,
-            };
-            Ok((phase, Vec::new(alloc)))
-        }
-        ClientOption::Go(InfoData::Asks { name, types }) if name.is_empty() => {
-            let answer = information(alloc, export, OPTION_GO, types)?;
-            Ok((Phase::Transmitting, answer))
-        }
-        option => {
-            let answer = answer_to(alloc, export, option)?;
-            Ok((Phase::Negotiating { no_zeroes }, answer))
-        }
-    }
-}
-
-/// The answer to an option after which negotiation goes on.
-fn answer_to(alloc: Global, export: Export, option: &ClientOption) -> Result<Vec<u8>, AllocError> {
-    match option {
-        ClientOption::List { data } if data.is_empty() => {
-            let mut answer = write_option_reply(alloc, OPTION_LIST, &OptionReply::Server)?;
-            answer.extend_from_slice(&write_option_reply(alloc, OPTION_LIST, &OptionReply::Ack)?)?;
-            Ok(answer)
-        }
-        ClientOption::List { .. } => write_option_reply(
-            alloc,
-            OPTION_LIST,
-            &OptionReply::ErrInvalid,
-        ),
+        ClientOption::ExportName => write_export(alloc, export.size, no_zeroes),
+        ClientOption::Abort { .. } => write_option_reply(alloc, OPTION_ABORT, &OptionReply::Ack),
+        ClientOption::List { data } => list_answer(alloc, data),
         ClientOption::StartTls { .. } => {
             write_option_reply(alloc, OPTION_STARTTLS, &OptionReply::ErrUnsup)
         }
+        ClientOption::Info(asked) => info_answer(alloc, export, OPTION_INFO, asked),
+        ClientOption::Go(asked) => info_answer(alloc, export, OPTION_GO, asked),
         ClientOption::StructuredReply { .. } => {
             write_option_reply(alloc, OPTION_STRUCTURED_REPLY, &OptionReply::ErrUnsup)
         }
-        ClientOption::Info(asked) => info_answer(alloc, export, OPTION_INFO, asked),
-        ClientOption::Go(asked) => info_answer(alloc, export, OPTION_GO, asked),
         ClientOption::Other { number, .. } => {
             write_option_reply(alloc, *number, &OptionReply::ErrUnsup)
         }
-        // These end the negotiation, or its data is passed over first.
-        ClientOption::ExportName { .. }
-        | ClientOption::Abort { .. }
-        | ClientOption::Oversized { .. } => { Ok(Vec::new(alloc)) }
+        ClientOption::Oversized { .. } => Ok(Vec::new(alloc)),
     }
 }
 
-/// The answer to INFO, and to a GO that begins no transmission.
+/// The answer to LIST: there is one export, and no data is taken.
+fn list_answer(alloc: Global, data: &[u8]) -> Result<Vec<u8>, AllocError>
+    ensures { IfOk result (λ answer. answer.items ≡ answers.list_answer data.now) }
+{
+    if !data.is_empty() {
+        return write_option_reply(alloc, OPTION_LIST, &OptionReply::ErrInvalid);
+    }
+    let mut answer = write_option_reply(alloc, OPTION_LIST, &OptionReply::Server)?;
+    answer.extend_from_slice(&write_option_reply(alloc, OPTION_LIST, &OptionReply::Ack)?)?;
+    Ok(answer)
+}
+
+/// The answer to INFO and to GO.
 fn info_answer(
     alloc: Global,
     export: Export,
     option: u32,
     asked: &InfoData,
-) -> Result<Vec<u8>, AllocError> {
+) -> Result<Vec<u8>, AllocError>
+    ensures { IfOk result (λ answer. answer.items ≡ answers.info_answer export option (info_view asked.now)) }
+{
     match asked {
-        InfoData::Asks { name, types } if name.is_empty() => {
-            information(alloc, export, option, types)
+        InfoData::Asks { name, types } => {
+            if name.is_empty() {
+                information(alloc, export, option, types)
+            } else {
+                write_option_reply(alloc, option, &OptionReply::ErrUnknown)
+            }
         }
-        InfoData::Asks { .. } => write_option_reply(alloc, option, &OptionReply::ErrUnknown),
         InfoData::Malformed { .. } => write_option_reply(alloc, option, &OptionReply::ErrInvalid),
     }
 }
@@ -159,7 +166,9 @@ fn information(
     export: Export,
     option: u32,
     types: &[u16],
-) -> Result<Vec<u8>, AllocError> {
+) -> Result<Vec<u8>, AllocError>
+    ensures { IfOk result (λ answer. answer.items ≡ answers.information export option types.now) }
+{
     let size = OptionReply::Export { size: export.size };
     let mut answer = write_option_reply(alloc, option, &size)?;
     if types.contains(&INFO_BLOCK_SIZE) {
@@ -182,28 +191,28 @@ pub(crate) fn skip_turn(
     input: &[u8],
 ) -> Result<Option<Turn>, AllocError>
     requires { 0 < left }
-    ensures { IfOk result (λ turn. IfSome turn (λ t. (size : ℕ) → IsTurn size (length input.now) t)) }
+    ensures exact { IfOk result (λ turn. option_map turn_view turn ≡ turns.skip_turn no_zeroes option left (length input.now)) }
+    ensures turn { IfOk result (λ turn. IfSome turn (λ t. IsTurn (length input.now) (turn_view t))) }
 {
     if input.is_empty() {
         return Ok(None);
     }
-    let taken = input.len().min(left as usize);
-    let left = left - taken as u32;
-    let (phase, output) = if left == 0 {
-        let answer = write_option_reply(alloc, option, &OptionReply::ErrTooBig)?;
-        (Phase::Negotiating { no_zeroes }, answer)
-    } else {
-        let phase = Phase::Skipping {
-            no_zeroes,
-            option,
-            left,
-        };
-        (phase, Vec::new(alloc))
-    };
+    if input.len() < left as usize {
+        return Ok(Some(Turn {
+            phase: Phase::Skipping {
+                no_zeroes,
+                option,
+                left: left - input.len() as u32,
+            },
+            taken: input.len(),
+            output: Vec::new(alloc),
+            wanted: None,
+        }));
+    }
     Ok(Some(Turn {
-        phase,
-        taken,
-        output,
+        phase: Phase::Negotiating { no_zeroes },
+        taken: left as usize,
+        output: write_option_reply(alloc, option, &OptionReply::ErrTooBig)?,
         wanted: None,
     }))
 }

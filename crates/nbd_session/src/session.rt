@@ -1,11 +1,16 @@
-ghost use Rattle.std.specs.Prelude.{◌≡◌, ◌+◌, ◌<◌, ◌≤◌, ◌↔◌, ◌++◌, [], true, false, length, drop, IsTrue, IfOk, IfErr, IfSome, IsSome, OnOk, OnErr, IsErrOf, All, if◌then◌else◌, is_some};
+ghost use Rattle.std.specs.Prelude.{◌≡◌, ◌+◌, ◌<◌, ◌≤◌, ◌↔◌, ◌++◌, [], true, false, length, drop, map, IsTrue, IsOk, IfOk, IfErr, IfSome, IsSome, OnOk, OnErr, IsErrOf, MatchOption, All, option_map};
+ghost use Rattle.std.specs.Option.{option_to_list};
 ghost use Rattle.nbd_codec.specs.Handshake.{greeting_spelling};
 ghost use Rattle.nbd_codec.specs.Reply.{spelling, reply_view};
-ghost use Rattle.nbd_session.specs.Demand.{IsInside, IsWantedInside, session_of};
-ghost use Rattle.nbd_session.specs.Turn.{IsTurn, is_over, phase_after};
+ghost use Rattle.nbd_session.specs.Demand.{IsAskedInside, IsInside, asked_by, session_of, wanted_view};
+ghost use Rattle.nbd_session.specs.Lawful.{History, NeedsMore, Stands, fed_and_asked, handed_out, most_kept, nothing, replied};
+ghost use Rattle.nbd_session.specs.Replies.{answered, error_of, reply_seen};
+ghost use Rattle.nbd_session.specs.Session.{Feeds, Settles};
+ghost use Rattle.nbd_session.specs.Turn.{IsTurn, asked_view, is_over, phase_after, turn_in, turn_view};
 ghost use Rattle.nbd_session.specs.declared.phase.Phase.TheVariants.{Greeted, Over};
 
 use crate::demand::{Demand, Wanted};
+use crate::laws::feeds_are_lawful;
 use crate::negotiation::{Export, flags_turn, option_turn, skip_turn};
 use crate::phase::Phase;
 use crate::refusal::Refusal;
@@ -34,18 +39,19 @@ pub struct Session {
 
 impl Model for Session {
     ghost use Rattle.std.specs.Prelude.{◌≤◌};
+    ghost use Rattle.nbd_codec.specs.Findings.{AreBytes};
     ghost use Rattle.nbd_session.specs.Turn.{IsPhase};
     ghost use Rattle.nbd_session.specs.Session.{State};
 
     ghost Value = { State };
 
-    ghost view = { λ s. record { id = s.id; size = s.export.size; max_payload = s.export.max_payload; phase = s.phase; in_flight = s.in_flight; kept = s.kept.items; output = s.output.items } };
+    ghost view = { λ s. record { id = s.id; export = s.export; phase = s.phase; in_flight = s.in_flight; kept = s.kept.items; output = s.output.items } };
 
-    ghost invariant = { λ s. (s.in_flight ≤ 1) × IsPhase s.phase };
+    ghost invariant = { λ s. (s.in_flight ≤ 1) × IsPhase s.phase × AreBytes s.kept.items };
 }
 
 impl Session {
-    ghost use Rattle.nbd_session.specs.Session.{State, Grows};
+    ghost use Rattle.nbd_session.specs.Session.{Grows, State, course_of, left_to_take, step, taken_from};
 
     /// A session at an export of `size` bytes that takes payloads of up to `max_payload` bytes. The greeting waits to
     /// go out.
@@ -55,7 +61,8 @@ impl Session {
         size: u64,
         max_payload: u32,
     ) -> Result<Session, AllocError>
-        ensures { IfOk result (λ s. s ≡ record { id = id; size = size; max_payload = max_payload; phase = Greeted; in_flight = 0; kept = []; output = greeting_spelling }) }
+        ensures session { IfOk result (λ s. s ≡ record { id = id; export = record { size = size; max_payload = max_payload }; phase = Greeted; in_flight = 0; kept = []; output = greeting_spelling }) }
+        ensures lawful { IfOk result (λ s. Stands s nothing) }
     {
         Ok(Session {
             alloc,
@@ -76,9 +83,16 @@ impl Session {
     pub fn feed(&mut self, board: &Board, piece: &[u8]) -> Result<Vec<Demand>, Refusal>
         ensures over { IsErrOf result Refusal.SessionOver ↔ (is_over self.old.phase ≡ true) }
         ensures err { OnErr result (self.new ≡ self.old) }
-        ensures export { self.new.size ≡ self.old.size }
+        ensures feeds { IfOk result (λ demands. Feeds self.old piece.now self.new (map asked_by demands.items)) }
+        ensures lawful { (history : History) → Stands self.old history →
+            IfOk result (λ demands. Stands self.new (fed_and_asked history piece.now (map asked_by demands.items))) }
+        ensures takes_all { OnOk result (is_over self.new.phase ≡ false → self.new.in_flight < LIMIT_IN_FLIGHT →
+            NeedsMore self.new.phase self.new.export.max_payload self.new.kept) }
+        ensures keeps_little { OnOk result (is_over self.new.phase ≡ false → self.new.in_flight < LIMIT_IN_FLIGHT →
+            length self.new.kept < most_kept self.new.phase self.new.export.max_payload) }
+        ensures export { self.new.export ≡ self.old.export }
         ensures id { self.new.id ≡ self.old.id }
-        ensures inside { IfOk result (λ demands. All (IsInside self.old.size) demands.items) }
+        ensures inside { IfOk result (λ demands. All (IsInside self.old.export.size) demands.items) }
         ensures whose { IfOk result (λ demands. All (λ demand. session_of demand ≡ self.old.id) demands.items) }
         ensures in_flight { IfOk result (λ demands. self.new.in_flight ≡ self.old.in_flight + length demands.items) }
         ensures limit { self.new.in_flight ≤ LIMIT_IN_FLIGHT }
@@ -86,6 +100,7 @@ impl Session {
         if self.is_over() {
             return Err(Refusal::SessionOver);
         }
+        feeds_are_lawful();
         let mut demands = Vec::with_capacity(self.alloc, LIMIT_IN_FLIGHT)?;
         match self.take(piece) {
             Ok(Some(wanted)) => demands.push_reserved(wanted.into_demand(board, self.id)),
@@ -98,47 +113,40 @@ impl Session {
         Ok(demands)
     }
 
-    /// Puts out the reply to a demand of this session, unless the session has ended. Where memory runs out, the reply
-    /// comes back and nothing has changed.
+    /// Puts out the reply to a demand of this session, unless none is owed or the session has ended. Where memory runs
+    /// out, the reply comes back and nothing has changed.
     pub fn done(&mut self, reply: Reply) -> Result<(), Reply>
-        ensures back { IfErr result (λ r. (r.session ≡ reply.session) × (r.cookie ≡ reply.cookie) × (r.error ≡ reply.error)) }
+        ensures ok { OnOk result (self.new ≡ answered self.old (reply_seen reply)) }
+        ensures lawful { (history : History) → Stands self.old history →
+            OnOk result (Stands self.new (replied self.old history (reply_seen reply))) }
+        ensures back { IfErr result (λ r. r ≡ reply) }
         ensures err { OnErr result (self.new ≡ self.old) }
-        ensures over { self.old.phase ≡ Over → OnOk result (self.new.output ≡ self.old.output) }
-        ensures export { self.new.size ≡ self.old.size }
+        ensures over { self.old.phase ≡ Over → IsOk result }
+        ensures export { self.new.export ≡ self.old.export }
         ensures id { self.new.id ≡ self.old.id }
     {
-        if self.phase != Phase::Over {
-            let Reply {
-                session,
-                cookie,
-                error,
-                payload,
-            } = reply;
-            let simple = SimpleReply {
-                cookie,
-                outcome: match error {
-                    None => Ok(payload),
-                    Some(code) => Err(nbd_error(code)),
-                },
-            };
-            if self.put_out(&simple).is_err() {
-                return Err(Reply {
-                    session,
-                    cookie,
-                    error,
-                    payload: simple.outcome.unwrap_or(Vec::new(self.alloc)),
-                });
-            }
+        if self.phase != Phase::Over && self.in_flight > 0 {
+            self.put_out_reply(reply)?;
         }
         self.in_flight = self.in_flight.saturating_sub(1);
         self.end_if_left();
         Ok(())
     }
 
+    /// The client's input has ended, or its session can't go on: nothing more comes in, and no reply goes out that
+    /// doesn't wait in `output` already.
+    pub fn end(&mut self)
+        ensures { self.new ≡ record self.old { phase = Over; kept = [] } }
+    {
+        self.phase = Phase::Over;
+        self.kept.clear();
+    }
+
     /// The bytes that wait to go out to the client; from now on they are the caller's.
     pub fn output(&mut self) -> Vec<u8>
         ensures bytes { result.items ≡ self.old.output }
         ensures none_left { self.new ≡ record self.old { output = [] } }
+        ensures lawful { (history : History) → Stands self.old history → Stands self.new (handed_out self.old history) }
     {
         mem::replace(&mut self.output, Vec::new(self.alloc))
     }
@@ -160,10 +168,11 @@ impl Session {
     /// Takes a piece and plays the turns of the input; an error leaves the session as it was.
     fn take(&mut self, piece: &[u8]) -> Result<Option<Wanted>, AllocError>
         ensures err { OnErr result (self.new ≡ self.old) }
-        ensures export { self.new.size ≡ self.old.size }
+        ensures feeds { IfOk result (λ wanted. Feeds self.old piece.now self.new (option_to_list (asked_view wanted))) }
+        ensures export { self.new.export ≡ self.old.export }
         ensures id { self.new.id ≡ self.old.id }
-        ensures inside { IfOk result (λ wanted. IfSome wanted (IsWantedInside self.old.size)) }
-        ensures in_flight { IfOk result (λ wanted. self.new.in_flight ≡ self.old.in_flight + (if is_some wanted then 1 else 0)) }
+        ensures inside { IfOk result (λ wanted. IfSome wanted (λ w. IsAskedInside self.old.export.size (wanted_view w))) }
+        ensures in_flight { IfOk result (λ wanted. self.new.in_flight ≡ self.old.in_flight + length (option_to_list wanted)) }
     {
         let (kept, output, phase) = (self.kept.len(), self.output.len(), self.phase);
         self.kept.extend_from_slice(piece)?;
@@ -173,7 +182,6 @@ impl Session {
                 if wanted.is_some() {
                     self.in_flight += 1;
                 }
-                self.end_if_left();
                 Ok(wanted)
             }
             Err(error) => {
@@ -190,26 +198,16 @@ impl Session {
     fn turns(&mut self) -> Result<(usize, Option<Wanted>), AllocError>
         ensures grows { Grows self.old self.new }
         ensures taken { IfOk result (λ r. r.0 ≤ length self.old.kept) }
-        ensures inside { IfOk result (λ r. IfSome r.1 (IsWantedInside self.old.size)) }
+        ensures settles { IfOk result (λ r. Settles (course_of self.old) (taken_from self.new r.0 (asked_view r.1))) }
+        ensures inside { IfOk result (λ r. IfSome r.1 (λ w. IsAskedInside self.old.export.size (wanted_view w))) }
         ensures limit { IfOk result (λ r. IsSome r.1 → self.old.in_flight < LIMIT_IN_FLIGHT) }
     {
         let mut taken = 0;
         while self.in_flight < LIMIT_IN_FLIGHT {
-            let Some(turn) = self.turn(&self.kept[taken..])? else {
+            let Some((front, wanted)) = self.play_turn(taken)? else {
                 break;
             };
-            let Turn {
-                phase,
-                taken: count,
-                output,
-                wanted,
-            } = turn;
-            self.output.extend_from_slice(&output)?;
-            self.phase = phase;
-            if self.is_over() {
-                return Ok((self.kept.len(), None));
-            }
-            taken += count;
+            taken = front;
             if wanted.is_some() {
                 return Ok((taken, wanted));
             }
@@ -217,12 +215,45 @@ impl Session {
         Ok((taken, None))
     }
 
+    /// Plays the turn at the input behind its first `taken` bytes, if there is one: how many bytes are taken then, and
+    /// what is wanted of the volume.
+    fn play_turn(&mut self, taken: usize) -> Result<Option<(usize, Option<Wanted>)>, AllocError>
+        requires within { taken ≤ length self.old.kept }
+        requires free { self.old.in_flight < LIMIT_IN_FLIGHT }
+        ensures grows { Grows self.old self.new }
+        ensures plays { IfOk result (λ r. MatchOption r ((self.new ≡ self.old) × (turn_in self.old.export self.old.phase (drop taken self.old.kept) ≡ None))
+            (λ t. step (taken_from self.old taken None) ≡ taken_from self.new t.0 (asked_view t.1))) }
+        ensures within { IfOk result (λ r. IfSome r (λ t. t.0 ≤ length self.old.kept)) }
+        ensures advances { IfOk result (λ r. IfSome r (λ t. left_to_take self.new t.0 < left_to_take self.old taken)) }
+        ensures inside { IfOk result (λ r. IfSome r (λ t. IfSome t.1 (λ w. IsAskedInside self.old.export.size (wanted_view w)))) }
+    {
+        let Some(turn) = self.turn(&self.kept[taken..])? else {
+            return Ok(None);
+        };
+        let Turn {
+            phase,
+            taken: count,
+            output,
+            wanted,
+        } = turn;
+        self.output.extend_from_slice(&output)?;
+        self.phase = phase;
+        self.end_if_left();
+        if self.is_over() {
+            return Ok(Some((self.kept.len(), None)));
+        }
+        Ok(Some((taken + count, wanted)))
+    }
+
     /// What comes next in the input, or `None` where more is needed or nothing more is taken.
+    #[tactic(auto, unfolding(crate::specs::Turn::turn_in))]
     fn turn(&self, input: &[u8]) -> Result<Option<Turn>, AllocError>
-        ensures turn { IfOk result (λ turn. IfSome turn (IsTurn self.now.size (length input.now))) }
+        ensures exact { IfOk result (λ turn. option_map turn_view turn ≡ turn_in self.now.export self.now.phase input.now) }
+        ensures turn { IfOk result (λ turn. IfSome turn (λ t. IsTurn (length input.now) (turn_view t))) }
+        ensures inside { IfOk result (λ turn. IfSome turn (λ t. IfSome t.wanted (λ w. IsAskedInside self.now.export.size (wanted_view w)))) }
     {
         match self.phase {
-            Phase::Greeted => Ok(flags_turn(self.alloc, self.export, input)),
+            Phase::Greeted => Ok(flags_turn(self.alloc, input)),
             Phase::Negotiating { no_zeroes } => {
                 option_turn(self.alloc, self.export, no_zeroes, input)
             }
@@ -234,6 +265,34 @@ impl Session {
             Phase::Transmitting => request_turn(self.alloc, self.export, input),
             Phase::Leaving | Phase::Over => Ok(None),
         }
+    }
+
+    /// Puts a reply to a demand out. Where memory runs out, it comes back and all is as it was.
+    fn put_out_reply(&mut self, reply: Reply) -> Result<(), Reply>
+        ensures ok { OnOk result (self.new ≡ record self.old { output = self.old.output ++ spelling (reply_seen reply) }) }
+        ensures back { IfErr result (λ r. r ≡ reply) }
+        ensures err { OnErr result (self.new ≡ self.old) }
+    {
+        let Reply {
+            session,
+            cookie,
+            error,
+            payload,
+        } = reply;
+        let (outcome, dropped) = match error {
+            None => (Ok(payload), Vec::new(self.alloc)),
+            Some(code) => (Err(nbd_error(code)), payload),
+        };
+        let simple = SimpleReply { cookie, outcome };
+        if self.put_out(&simple).is_ok() {
+            return Ok(());
+        }
+        Err(Reply {
+            session,
+            cookie,
+            error,
+            payload: simple.outcome.unwrap_or(dropped),
+        })
     }
 
     /// Puts a reply out, or leaves all as it was.
@@ -256,7 +315,9 @@ impl Session {
 }
 
 /// The error on the wire.
-fn nbd_error(code: ErrorCode) -> NbdError {
+fn nbd_error(code: ErrorCode) -> NbdError
+    ensures { result ≡ error_of code }
+{
     match code {
         ErrorCode::Io => NbdError::Io,
         ErrorCode::NoMemory => NbdError::NoMemory,

@@ -1,11 +1,12 @@
 //! Requests, and the replies that need no volume.
-ghost use Rattle.std.specs.Prelude.{◌≡◌, length, IfOk, IfSome};
+ghost use Rattle.std.specs.Prelude.{◌≡◌, ◌≤◌, [], length, IfOk, IfSome, option_map};
 ghost use Rattle.nbd_codec.specs.Checked.{checked};
-ghost use Rattle.nbd_codec.specs.Request.{request_view};
+ghost use Rattle.nbd_codec.specs.Reply.{spelling, Done, Refused};
+ghost use Rattle.nbd_codec.specs.Request.{request_in, request_view};
 ghost use Rattle.nbd_codec.specs.declared.checks.Checked.TheVariants.{Volume};
-ghost use Rattle.nbd_session.specs.Demand.{IsWantedInside};
-ghost use Rattle.nbd_session.specs.Turn.{IsPhase, IsTurn};
-ghost use Rattle.nbd_session.specs.declared.phase.Phase.TheVariants.{Over};
+ghost use Rattle.nbd_session.specs.Demand.{IsAskedInside, wanted_view};
+ghost use Rattle.nbd_session.specs.Turn as turns;
+ghost use Rattle.nbd_session.specs.Turn.{IsPhase, IsTurn, asked_by_request, asked_view, checked_turn, turn_view};
 
 use crate::demand::{Wanted, WantedKind};
 use crate::negotiation::Export;
@@ -22,7 +23,9 @@ pub(crate) fn request_turn(
     export: Export,
     input: &[u8],
 ) -> Result<Option<Turn>, AllocError>
-    ensures { IfOk result (λ turn. IfSome turn (IsTurn export.size (length input.now))) }
+    ensures exact { IfOk result (λ turn. option_map turn_view turn ≡ turns.request_turn export (length input.now) (request_in export.max_payload input.now)) }
+    ensures turn { IfOk result (λ turn. IfSome turn (λ t. IsTurn (length input.now) (turn_view t))) }
+    ensures inside { IfOk result (λ turn. IfSome turn (λ t. IfSome t.wanted (λ w. IsAskedInside export.size (wanted_view w)))) }
 {
     match read_request(alloc, input, export.max_payload)? {
         Reading::Value(request, taken) => Ok(Some(turn_of(alloc, export, request, taken)?)),
@@ -38,9 +41,10 @@ fn turn_of(
     request: Request,
     taken: usize,
 ) -> Result<Turn, AllocError>
+    ensures exact { IfOk result (λ turn. turn_view turn ≡ checked_turn (request_view request) taken (checked export.size export.max_payload (request_view request))) }
     ensures taken { IfOk result (λ turn. turn.taken ≡ taken) }
     ensures phase { IfOk result (λ turn. IsPhase turn.phase) }
-    ensures inside { IfOk result (λ turn. IfSome turn.wanted (IsWantedInside export.size)) }
+    ensures inside { IfOk result (λ turn. IfSome turn.wanted (λ w. IsAskedInside export.size (wanted_view w))) }
 {
     let (phase, output, wanted) = match check(&request, export.size, export.max_payload) {
         Checked::Volume => (
@@ -65,14 +69,12 @@ fn turn_of(
 }
 
 /// The session ends, without a reply.
-pub(crate) fn ended(alloc: Global, taken: usize) -> Turn
-    ensures phase { result.phase ≡ Over }
-    ensures taken { result.taken ≡ taken }
-    ensures wanted { result.wanted ≡ None }
+pub(crate) fn ended(alloc: Global, came: usize) -> Turn
+    ensures { turn_view result ≡ turns.ended came }
 {
     Turn {
         phase: Phase::Over,
-        taken,
+        taken: came,
         output: Vec::new(alloc),
         wanted: None,
     }
@@ -81,7 +83,8 @@ pub(crate) fn ended(alloc: Global, taken: usize) -> Turn
 /// What a request of the volume wants of it.
 fn wanted_of(request: Request, export: Export) -> Option<Wanted>
     requires { checked export.size export.max_payload (request_view request) ≡ Volume }
-    ensures { IfSome result (IsWantedInside export.size) }
+    ensures asked { asked_view result ≡ asked_by_request (request_view request) }
+    ensures inside { IfSome result (λ w. IsAskedInside export.size (wanted_view w)) }
 {
     let fua = request.is_fua();
     match request {
@@ -109,12 +112,14 @@ fn wanted_of(request: Request, export: Export) -> Option<Wanted>
                 WantedKind::Write { payload }
             },
         }),
-        _ => None,
+        Request::Disc { .. } | Request::Flush { .. } | Request::Other { .. } => None,
     }
 }
 
 /// The reply to a request of no bytes.
-fn done(alloc: Global, cookie: u64) -> Result<Vec<u8>, AllocError> {
+fn done(alloc: Global, cookie: u64) -> Result<Vec<u8>, AllocError>
+    ensures { IfOk result (λ bytes. bytes.items ≡ spelling (Done cookie [])) }
+{
     let reply = SimpleReply {
         cookie,
         outcome: Ok(Vec::new(alloc)),
@@ -122,7 +127,10 @@ fn done(alloc: Global, cookie: u64) -> Result<Vec<u8>, AllocError> {
     write_reply(alloc, &reply)
 }
 
-fn refused(alloc: Global, cookie: u64, error: NbdError) -> Result<Vec<u8>, AllocError> {
+/// The reply to a request that isn't carried out.
+fn refused(alloc: Global, cookie: u64, error: NbdError) -> Result<Vec<u8>, AllocError>
+    ensures { IfOk result (λ bytes. bytes.items ≡ spelling (Refused cookie error)) }
+{
     let reply = SimpleReply {
         cookie,
         outcome: Err(error),

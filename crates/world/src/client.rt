@@ -11,28 +11,26 @@ pub(crate) struct Client {
     pub id: SessionId,
     /// The session.
     pub session: Session,
-    /// Whether it ended without the session's doing: its input ended, or memory for a reply ran out.
-    pub gone: bool,
     /// Whether its end was told.
     pub told: bool,
 }
 
 impl Client {
-    /// Takes the reply to one of its requests. A session without memory for it ends; one that is gone takes none.
+    /// Takes the reply to one of its requests. A session without memory for it ends.
     pub(crate) fn take_reply(&mut self, reply: Reply)
-        ensures { self.new.session.size ≡ self.old.session.size }
+        ensures { self.new.session.export.size ≡ self.old.session.export.size }
     {
-        if !self.gone && self.session.done(reply).is_err() {
-            self.gone = true;
+        if self.session.done(reply).is_err() {
+            self.session.end();
         }
     }
 
     /// What waits to go out, and the session's end if it wasn't told yet.
     pub(crate) fn put_out(&mut self) -> Option<Output>
-        ensures { self.new.session.size ≡ self.old.session.size }
+        ensures { self.new.session.export.size ≡ self.old.session.export.size }
     {
         let bytes = self.session.output();
-        let closed = (self.gone || self.session.closed()) && !self.told;
+        let closed = self.session.closed() && !self.told;
         self.told = self.told || closed;
         if bytes.is_empty() && !closed {
             return None;

@@ -69,7 +69,7 @@ pub struct World<D: Disk> {
     ghost front: { ((fronts_of member).known ≤ board.front) × (board.front ≤ (fronts_of member).applied) },
     ghost kept: { KeepsWithin board.front member },
     ghost volume: { (fronts_of member).size ≡ 4096 * geometry.blocks },
-    ghost sessions: { All (λ client. client.session.size ≡ 4096 * geometry.blocks) clients.items },
+    ghost sessions: { All (λ client. client.session.export.size ≡ 4096 * geometry.blocks) clients.items },
     ghost demands_inside: { All (IsInside (4096 * geometry.blocks)) demands.items },
 }
 
@@ -250,7 +250,6 @@ impl<D: Disk + Drop> World<D> {
         let client = Client {
             id,
             session,
-            gone: false,
             told: false,
         };
         let at = self
@@ -272,7 +271,7 @@ impl<D: Disk + Drop> World<D> {
         let Some(at) = self.position(id) else {
             return Outcome::Skipped;
         };
-        if self.clients[at].gone {
+        if self.clients[at].session.is_over() {
             return Outcome::Refused(nbd_session::Refusal::SessionOver.number());
         }
         if self.demands.reserve(LIMIT_IN_FLIGHT).is_err() {
@@ -302,13 +301,13 @@ impl<D: Disk + Drop> World<D> {
         demands.destroy_empty();
     }
 
-    /// A client sends no more: its session is gone, and replies that come for it are not put out.
+    /// A client sends no more: its session ends, and replies that come for it are not put out.
     fn end(&mut self, id: SessionId) -> Outcome
         ensures { vec_len self.new.clients ≡ vec_len self.old.clients }
     {
         match self.position(id) {
-            Some(at) if !self.clients[at].gone => {
-                self.clients[at].gone = true;
+            Some(at) if !self.clients[at].session.closed() => {
+                self.clients[at].session.end();
                 Outcome::Taken
             }
             _ => Outcome::Skipped,

@@ -1,8 +1,8 @@
 use Rattle.std.proofs.Common.{refl}
 use Rattle.nbd_codec.specs.Fields.{magic_at}
 use Rattle.nbd_codec.specs.ClientOption.{IsOption, option_at, option_view, spelling}
-use Rattle.nbd_codec.proofs.FindingLaws.{is_kept, is_one}
-use Rattle.nbd_codec.proofs.OptionLaws.{IsField-option}
+use Rattle.nbd_codec.proofs.FindingLaws.{is_kept, is_one, is_spelled}
+use Rattle.nbd_codec.proofs.OptionLaws.{IsField-option, spelling_short}
 use Rattle.nbd_codec.proofs.laws.options_are_apart.Goals as goal
 
 pub returns-clause-apart : goal.returns-clause-apart
@@ -14,3 +14,9 @@ returns-clause-kept c = is_kept option_at spelling IsOption option_view IsField-
 pub returns-clause-empty : goal.returns-clause-empty
 unfolding option_at magic_at
 returns-clause-empty c = refl
+
+pub returns-clause-spelled : goal.returns-clause-spelled
+returns-clause-spelled c = is_spelled option_at spelling IsOption IsField-option
+
+pub returns-clause-short : goal.returns-clause-short
+returns-clause-short c = spelling_short

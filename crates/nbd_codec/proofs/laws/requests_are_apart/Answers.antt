@@ -1,8 +1,8 @@
 use Rattle.std.proofs.Common.{refl}
 use Rattle.nbd_codec.specs.Fields.{magic_at}
 use Rattle.nbd_codec.specs.Request.{IsRequest, head_at, request_at, request_view, spelling}
-use Rattle.nbd_codec.proofs.FindingLaws.{is_kept, is_one}
-use Rattle.nbd_codec.proofs.RequestLaws.{IsField-request}
+use Rattle.nbd_codec.proofs.FindingLaws.{is_kept, is_one, is_spelled}
+use Rattle.nbd_codec.proofs.RequestLaws.{IsField-request, spelling_short}
 use Rattle.nbd_codec.proofs.laws.requests_are_apart.Goals as goal
 
 pub returns-clause-apart : goal.returns-clause-apart
@@ -14,3 +14,9 @@ returns-clause-kept c = λ max small. is_kept (request_at max) spelling (IsReque
 pub returns-clause-empty : goal.returns-clause-empty
 unfolding request_at head_at magic_at
 returns-clause-empty c = λ max. refl
+
+pub returns-clause-spelled : goal.returns-clause-spelled
+returns-clause-spelled c = λ max small. is_spelled (request_at max) spelling (IsRequest max) (IsField-request max small)
+
+pub returns-clause-short : goal.returns-clause-short
+returns-clause-short c = spelling_short

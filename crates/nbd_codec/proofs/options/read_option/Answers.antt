@@ -6,9 +6,9 @@ use Rattle.nbd_codec.specs.declared.findings.Fault.TheVariants.{OptionMagic, Exp
 use Rattle.byteorder.specs.Endian.{big_bytes}
 use Rattle.nbd_codec.specs.Fields.{agrees}
 use Rattle.nbd_codec.specs.Findings.{IfValue, IsFault, IsImpossible, IsProperFront, Takes, seen_by}
-use Rattle.nbd_codec.specs.ClientOption.{HasLongName, IsOption, option_at, option_in, option_view, spelling}
+use Rattle.nbd_codec.specs.ClientOption.{HasName, IsOption, option_at, option_in, option_view, spelling}
 use Rattle.nbd_codec.proofs.FindingLaws.{is_fault, is_found, is_impossible, is_within, is_only, is_more}
-use Rattle.nbd_codec.proofs.OptionFaults.{foreign_option, long_option, option_foreign, option_long}
+use Rattle.nbd_codec.proofs.OptionFaults.{foreign_option, named_option, option_foreign, option_named}
 use Rattle.nbd_codec.proofs.OptionLaws.{IsField-option, spelling_len}
 use Rattle.nbd_codec.proofs.options.read_option.Goals as goal
 
@@ -50,8 +50,8 @@ returns-clause-magic c =
     IfOk-weaker c.find_option.result (λ r. seen_by option_view r ≡ option_in bytes) (λ r. (r ≡ Fault OptionMagic) ↔ P)
     (λ r same. is_fault option_at spelling IsOption option_view IsField-option bytes r OptionMagic P same (foreign_option bytes (λ i. omega (arith, c.type_inv.input i))) (option_foreign bytes)) c.find_option.ensures
 
-pub returns-clause-too_long : goal.returns-clause-too_long
-returns-clause-too_long c =
+pub returns-clause-other_export : goal.returns-clause-other_export
+returns-clause-other_export c =
     let bytes = c.args.input.now in
-    IfOk-weaker c.find_option.result (λ r. seen_by option_view r ≡ option_in bytes) (λ r. (r ≡ Fault ExportName) ↔ HasLongName bytes)
-    (λ r same. is_fault option_at spelling IsOption option_view IsField-option bytes r ExportName (HasLongName bytes) same (long_option bytes (λ i. omega (arith, c.type_inv.input i))) (option_long bytes)) c.find_option.ensures
+    IfOk-weaker c.find_option.result (λ r. seen_by option_view r ≡ option_in bytes) (λ r. (r ≡ Fault ExportName) ↔ HasName bytes)
+    (λ r same. is_fault option_at spelling IsOption option_view IsField-option bytes r ExportName (HasName bytes) same (named_option bytes (λ i. omega (arith, c.type_inv.input i))) (option_named bytes)) c.find_option.ensures

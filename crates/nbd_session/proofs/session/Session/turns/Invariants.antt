@@ -1,14 +1,15 @@
-use Rattle.std.proofs.Common.{◌-◌, ◌≤◌, length}
-use Rattle.nbd_session.specs.Session.{Grows}
+use Rattle.std.proofs.Common.{◌≡◌, ℕ, ◌≤◌, None, length}
+use Rattle.nbd_session.specs.Session.{Grows, course_of, left_to_take, play, taken_from}
 use Rattle.nbd_session.proofs.session.Session.turns.Given as goal
 
--- the turns so far took some of the input
+-- so many turns took so much of the input
 abbrev pub invariant-loop-self : goal.invariant-loop-self
 invariant-loop-self l = record {
   grows : Grows l.fn.self l.self;
   within : l.taken ≤ length l.fn.self.kept;
+  there : (n : ℕ) × (play n (course_of l.fn.self) ≡ taken_from l.self l.taken None);
 }
 
--- the input that is left
+-- the input that is left, and the session's end
 abbrev pub decreases-loop-self : goal.decreases-loop-self
-decreases-loop-self l = length l.fn.self.kept - l.taken
+decreases-loop-self l = left_to_take l.self l.taken

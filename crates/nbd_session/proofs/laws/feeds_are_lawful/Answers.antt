@@ -1,0 +1,16 @@
+use Rattle.nbd_session.proofs.Endings.{feeds_take_all, histories_are_lawful}
+use Rattle.nbd_session.proofs.Lawfulness.{feeds_lawfully}
+use Rattle.nbd_session.proofs.laws.feeds_are_lawful.Goals as goal
+
+pub returns-clause-lawful : goal.returns-clause-lawful
+returns-clause-lawful c = histories_are_lawful
+
+pub returns-clause-feeds : goal.returns-clause-feeds
+returns-clause-feeds c = feeds_lawfully c.client_flags_are_apart.ensures.spelled c.options_are_apart.ensures.spelled c.requests_are_apart.ensures.spelled
+
+pub returns-clause-all : goal.returns-clause-all
+returns-clause-all c =
+    let flags = c.client_flags_are_apart.ensures in
+    let options = c.options_are_apart.ensures in
+    let requests = c.requests_are_apart.ensures in
+    feeds_take_all flags.spelled flags.short options.spelled options.short requests.spelled requests.short

@@ -1,0 +1,41 @@
+-- What holds of each session: however its client's text is cut, and of all that it puts out.
+use Rattle.std.specs.Prelude.{◌≡◌, ◌<◌, ◌^◌, false, List, ◌++◌, ℕ, length}
+use Rattle.nbd_codec.specs.Findings.{AreBytes}
+use Rattle.nbd_session.specs.declared.session.TheConstants.{LIMIT_IN_FLIGHT}
+use Rattle.nbd_session.specs.Demand.{Asked}
+use Rattle.nbd_session.specs.Lawful.{History, IsLawful, NeedsMore, Stands, fed_and_asked, most_kept, sent_by}
+use Rattle.nbd_session.specs.Session.{Feeds, State}
+use Rattle.nbd_session.specs.Turn.{is_over}
+
+-- a piece leaves the session in one way, and asks one thing of the volume
+abbrev pub FeedsInOneWay : Type 0
+FeedsInOneWay = (old : State) (piece : List ℕ) (one other : State) (asked asked_too : List Asked)
+    → Feeds old piece one asked → Feeds old piece other asked_too
+    → (one ≡ other) × (asked ≡ asked_too)
+
+-- two pieces, one after the other, leave the session and ask of the volume what the two joined do, unless the first
+-- ends the session
+abbrev pub CuttingsAgree : Type 0
+CuttingsAgree = (old mid two one : State) (first second : List ℕ) (asked_first asked_second asked : List Asked)
+    → AreBytes (old.kept ++ first) → old.export.max_payload < 2 ^ 32
+    → Feeds old first mid asked_first → is_over mid.phase ≡ false → Feeds mid second two asked_second
+    → Feeds old (first ++ second) one asked
+    → (one ≡ two) × (asked ≡ asked_first ++ asked_second)
+
+-- a piece leaves the session with its history, and this piece and what it asks
+abbrev pub FeedsLawfully : Type 0
+FeedsLawfully = (old new : State) (history : History) (piece : List ℕ) (asked : List Asked)
+    → AreBytes (old.kept ++ piece) → old.export.max_payload < 2 ^ 32 → is_over old.phase ≡ false
+    → Stands old history → Feeds old piece new asked → Stands new (fed_and_asked history piece asked)
+
+-- whoever has this history put out what is lawful
+abbrev pub HistoriesAreLawful : Type 0
+HistoriesAreLawful = (session : State) (history : History)
+    → Stands session history → IsLawful session.export history.fed (sent_by session history) history.asked history.replies
+
+-- a piece after which the session still takes input leaves less than a whole thing of it
+abbrev pub FeedsTakeAll : Type 0
+FeedsTakeAll = (old new : State) (piece : List ℕ) (asked : List Asked)
+    → AreBytes (old.kept ++ piece) → old.export.max_payload < 2 ^ 32 → Feeds old piece new asked
+    → is_over new.phase ≡ false → new.in_flight < LIMIT_IN_FLIGHT
+    → NeedsMore new.phase new.export.max_payload new.kept × (length new.kept < most_kept new.phase new.export.max_payload)
