@@ -15,8 +15,8 @@ use Rattle.nbd_codec.specs.Request.{IsRequest, PlainRequest, request_in, spellin
 use Rattle.nbd_session.specs.declared.negotiation.Export.{Export}
 use Rattle.nbd_session.specs.declared.phase.Phase.{Phase}
 use Rattle.nbd_session.specs.declared.phase.Phase.TheVariants.{Greeted, Negotiating, Skipping, Transmitting, Leaving, Over}
-use Rattle.nbd_session.specs.Laws.{FeedsTakeAll, HistoriesAreLawful}
-use Rattle.nbd_session.specs.Lawful.{Ended, History, IsLawful, IsQuiet, NeedsMore, Stands, StandsIn, Transmission, handed_out, most_kept, replied, sent_by}
+use Rattle.nbd_session.specs.Laws.{FeedsTakeAll, HistoriesAreLawful, NeedyGoOn}
+use Rattle.nbd_session.specs.Lawful.{Ended, GoesOnIn, History, IsLawful, IsQuiet, NeedsMore, Stands, StandsIn, Transmission, handed_out, most_kept, replied, sent_by}
 use Rattle.nbd_session.specs.Negotiation.{Haggled, IsOver, Negotiation}
 use Rattle.nbd_session.specs.Replies.{answered, is_owed}
 use Rattle.nbd_session.specs.Session.{Course, State, fed, play, step}
@@ -202,3 +202,17 @@ pub bytes_both : (a b : List ℕ) → AreBytes a → AreBytes b → AreBytes (a 
 bytes_both [] b left right i = right i
 bytes_both (x ∷ a) b left right zero = left 0
 bytes_both (x ∷ a) b left right (suc i) = bytes_both a b (λ k. left (suc k)) right i
+
+-- ---- where a session that needs more stands
+
+goes_on_at : (phase : Phase) (s : State) (h : History) → StandsIn phase s h → NeedsMore phase s.export.max_payload s.kept → GoesOnIn phase s h
+goes_on_at Greeted s h (fed_is, went, quiet) more = inl (went, subst (IsProperFront flags_spelling AreFlags) (sym fed_is) more)
+goes_on_at (Negotiating no_zeroes) s h (haggled, quiet) more = inr (no_zeroes, s.kept, haggled, inl more)
+goes_on_at (Skipping no_zeroes option left) s h (bytes, haggled, passing, quiet) more =
+    inr (no_zeroes, bytes, subst (λ (l : List ℕ). Haggled s.export no_zeroes h.fed (sent_by s h) l) (ap (λ (l : List ℕ). bytes ++ l) more ∙ append-nil bytes) haggled, inr (option, left, passing))
+goes_on_at Transmitting s h talks more = (s.kept, talks, more)
+goes_on_at Leaving s h stands more = tt
+goes_on_at Over s h stands more = tt
+
+pub needy_go_on : NeedyGoOn
+needy_go_on session history stands more = goes_on_at session.phase session history stands more

@@ -10,10 +10,10 @@ use Rattle.nbd_session.specs.declared.negotiation.Export.{Export}
 use Rattle.nbd_session.specs.declared.phase.Phase.{Phase}
 use Rattle.nbd_session.specs.declared.phase.Phase.TheVariants.{Greeted, Negotiating, Skipping, Transmitting, Leaving, Over}
 use Rattle.nbd_session.specs.Demand.{Asked}
-use Rattle.nbd_session.specs.Negotiation.{Begins, Ends, Haggled, HasLast, IsOver, IsPassing, Negotiation}
+use Rattle.nbd_session.specs.Negotiation.{Begins, Ends, GoesOn, Haggled, HasLast, IsOver, IsPassing, Negotiation}
 use Rattle.nbd_session.specs.Replies.{is_owed}
 use Rattle.nbd_session.specs.Session.{State}
-use Rattle.nbd_session.specs.Transcript.{EndsSo, Faulty, Left, Talks, TextEnd}
+use Rattle.nbd_session.specs.Transcript.{EndsSo, Faulty, Left, Talks, TextEnd, Unfinished}
 
 -- what a session was fed, what was handed out of its output, what it has asked of the volume, and the replies to
 -- demands that it put out
@@ -88,6 +88,16 @@ IsLawful export from to asked replies =
     ⊎ (((no_zeroes : Bool) × (rest : List ℕ) × Haggled export no_zeroes from to rest × (asked ≡ []) × (replies ≡ []))
     ⊎ (((rest : List ℕ) × HasLast export Ends from to rest × (asked ≡ []) × (replies ≡ []))
     ⊎ ((rest : List ℕ) × Transmission export from to asked replies rest)))
+
+-- where a session that needs more stands: its negotiation goes on, or it has begun transmission, whose text contains the
+-- requests that were reached
+abbrev pub GoesOnIn : Phase → State → History → Type 0
+GoesOnIn Greeted session history = Negotiation session.export history.fed (sent_by session history) GoesOn
+GoesOnIn (Negotiating no_zeroes) session history = Negotiation session.export history.fed (sent_by session history) GoesOn
+GoesOnIn (Skipping no_zeroes option left) session history = Negotiation session.export history.fed (sent_by session history) GoesOn
+GoesOnIn Transmitting session history = Ended session history Unfinished
+GoesOnIn Leaving session history = ⊤
+GoesOnIn Over session history = ⊤
 
 -- what a session that still takes input keeps of it is no whole thing yet
 abbrev pub NeedsMore : Phase → ℕ → List ℕ → Type 0

@@ -3,7 +3,7 @@ use Rattle.std.specs.Prelude.{◌≡◌, ◌<◌, ◌^◌, false, List, ◌++◌
 use Rattle.nbd_codec.specs.Findings.{AreBytes}
 use Rattle.nbd_session.specs.declared.session.TheConstants.{LIMIT_IN_FLIGHT}
 use Rattle.nbd_session.specs.Demand.{Asked}
-use Rattle.nbd_session.specs.Lawful.{History, IsLawful, NeedsMore, Stands, fed_and_asked, most_kept, sent_by}
+use Rattle.nbd_session.specs.Lawful.{GoesOnIn, History, IsLawful, NeedsMore, Stands, fed_and_asked, most_kept, sent_by}
 use Rattle.nbd_session.specs.Session.{Feeds, State}
 use Rattle.nbd_session.specs.Turn.{is_over}
 
@@ -39,3 +39,8 @@ FeedsTakeAll = (old new : State) (piece : List ℕ) (asked : List Asked)
     → AreBytes (old.kept ++ piece) → old.export.max_payload < 2 ^ 32 → Feeds old piece new asked
     → is_over new.phase ≡ false → new.in_flight < LIMIT_IN_FLIGHT
     → NeedsMore new.phase new.export.max_payload new.kept × (length new.kept < most_kept new.phase new.export.max_payload)
+
+-- a session that needs more is in the middle of its negotiation, or of its transcript
+abbrev pub NeedyGoOn : Type 0
+NeedyGoOn = (session : State) (history : History)
+    → Stands session history → NeedsMore session.phase session.export.max_payload session.kept → GoesOnIn session.phase session history

@@ -1,6 +1,6 @@
 //! Laws of sessions, for callers that argue about whole texts. The functions do nothing.
 
-ghost use Rattle.nbd_session.specs.Laws.{CuttingsAgree, FeedsInOneWay, FeedsLawfully, FeedsTakeAll, HistoriesAreLawful};
+ghost use Rattle.nbd_session.specs.Laws.{CuttingsAgree, FeedsInOneWay, FeedsLawfully, FeedsTakeAll, HistoriesAreLawful, NeedyGoOn};
 
 use nbd_codec::{client_flags_are_apart, options_are_apart, requests_are_apart};
 
@@ -19,6 +19,7 @@ pub fn feeds_are_lawful()
     ensures lawful { HistoriesAreLawful }
     ensures feeds { FeedsLawfully }
     ensures all { FeedsTakeAll }
+    ensures needy { NeedyGoOn }
 {
     client_flags_are_apart();
     options_are_apart();

@@ -1,9 +1,9 @@
 //! A session with one NBD client: bytes in, demands and bytes out.
 //!
-//! Its contract for the layer above, so far: demands lie inside the volume, carry tokens of their session, and are at
-//! most as many as may be in flight; a refused call leaves the session as it was. Every other request is answered here.
-//! That it makes no difference in which pieces the bytes came isn't stated yet. What becomes of a demand is left to the
-//! layer above, which hands the token's reply back.
+//! Its contract for the layer above: in whatever pieces a client's text comes, the session asks of the volume and puts
+//! out the same, and what it puts out is lawful by Negotiation and Transcript for all that came in. Demands lie inside
+//! the volume and carry tokens of their session; every other request is answered here; a refused call leaves the session
+//! as it was. What becomes of a demand is left to the layer above, which hands the token's reply back.
 #![tactic(auto)]
 
 mod demand;

@@ -128,10 +128,10 @@ fn answer_at_once(
 }
 
 /// The answer to LIST: there is one export, and no data is taken.
-fn list_answer(alloc: Global, data: &[u8]) -> Result<Vec<u8>, AllocError>
-    ensures { IfOk result (λ answer. answer.items ≡ answers.list_answer data.now) }
+fn list_answer(alloc: Global, content: &[u8]) -> Result<Vec<u8>, AllocError>
+    ensures { IfOk result (λ answer. answer.items ≡ answers.list_answer content.now) }
 {
-    if !data.is_empty() {
+    if !content.is_empty() {
         return write_option_reply(alloc, OPTION_LIST, &OptionReply::ErrInvalid);
     }
     let mut answer = write_option_reply(alloc, OPTION_LIST, &OptionReply::Server)?;

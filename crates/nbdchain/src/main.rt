@@ -5,6 +5,7 @@ use std::env;
 use std::io::{self, BufReader, BufWriter};
 use std::process::ExitCode;
 
+mod client;
 mod command;
 mod printed;
 mod refusal;

@@ -1,4 +1,5 @@
 //! What a command of a script prints of its sessions.
+use crate::client::ScriptedClient;
 use crate::refusal::Refusal;
 use flush_barrier::SessionId;
 use std::alloc::Global;
@@ -13,10 +14,12 @@ struct Line {
     closed: bool,
 }
 
-/// What the sessions put out during a command, by session number.
+/// What the sessions put out during a command: the replies to scripted clients as they came, and what the others were
+/// sent, by session number.
 #[derive(Debug, Drop)]
 pub(crate) struct Printed {
     alloc: Global,
+    replies: Vec<u8>,
     lines: BTreeMap<SessionId, Line>,
 }
 
@@ -25,17 +28,25 @@ impl Printed {
     pub(crate) fn new(alloc: Global) -> Printed {
         Printed {
             alloc,
+            replies: Vec::new(alloc),
             lines: BTreeMap::new(alloc),
         }
     }
 
-    /// Adds what a step put out.
-    pub(crate) fn add(&mut self, output: Output) -> Result<(), Refusal> {
+    /// Adds what a step put out, which goes to a scripted client where the session has one.
+    pub(crate) fn add(
+        &mut self,
+        output: Output,
+        clients: &mut BTreeMap<SessionId, ScriptedClient>,
+    ) -> Result<(), Refusal> {
         let Output {
             session,
             bytes,
             closed,
         } = output;
+        if let Some(client) = clients.get_mut(&session) {
+            return client.is_sent(&bytes, &mut self.replies);
+        }
         let line = self.lines.entry(session)?.or_insert(Line {
             bytes: Vec::new(self.alloc),
             closed: false,
@@ -45,8 +56,9 @@ impl Printed {
         Ok(())
     }
 
-    /// Prints `out S H` for each session that put bytes out, and `closed S` for each that ended.
+    /// Prints the replies, and then `out S H` for each session that put bytes out, and `closed S` for each that ended.
     pub(crate) fn print<W: Write>(&self, writer: &mut W) -> Result<(), Refusal> {
+        writer.write_all(&self.replies)?;
         for (session, line) in &self.lines {
             let number = session.0;
             if !line.bytes.is_empty() {

@@ -1,4 +1,5 @@
 //! The lines of a script.
+use crate::client::{ClientRequest, RequestKind};
 use flush_barrier::SessionId;
 use std::alloc::{AllocError, Global};
 use std::str;
@@ -18,6 +19,21 @@ pub enum ScriptCommand {
         session: SessionId,
         member: u64,
     },
+    /// `session S M`: a session at a member that has negotiated by GO.
+    Session {
+        session: SessionId,
+        member: u64,
+    },
+    /// `write S C O H`, `fua S C O H`, `read S C O L`, `flush S C`: a request from a session's client.
+    Request {
+        session: SessionId,
+        request: ClientRequest,
+    },
+    /// `take M`, `raise M` and the like: steps of a member.
+    Act {
+        act: MemberAct,
+        member: u64,
+    },
     /// `bytes S H ..`: bytes from a session's client.
     Bytes {
         session: SessionId,
@@ -25,6 +41,33 @@ pub enum ScriptCommand {
     },
     /// `run`: rounds until one changes nothing.
     Run,
+}
+
+/// What a member is told to do.
+#[derive(Clone, Copy, Debug, PartialEq, Eq)]
+pub enum MemberAct {
+    /// It takes the oldest waiting demand of its sessions.
+    Take,
+    /// The head takes the write at the front of the submit link from it.
+    Number,
+    /// The tail raises the front, and takes it.
+    Raise,
+    /// It builds the images of the next write to be journaled.
+    Begin,
+    /// It journals them.
+    End,
+    /// Both.
+    Commit,
+    /// It posts its last receipt.
+    Post,
+    /// It looks up the front and goes on with it; the front is kept for the mask.
+    Front,
+    /// The mask is looked up behind the kept front.
+    Crew,
+    /// The gauges are looked up, and it answers with the floor.
+    Settle,
+    /// The three of them.
+    Floor,
 }
 
 /// Why a line is no command.
@@ -65,14 +108,81 @@ pub fn parse(alloc: Global, line: &[u8]) -> Result<Option<ScriptCommand>, LineEr
             session: SessionId(number(session)?),
             member: number(member)?,
         },
+        ["session", session, member] => ScriptCommand::Session {
+            session: SessionId(number(session)?),
+            member: number(member)?,
+        },
+        ["write", session, cookie, offset, payload] => {
+            let payload = bytes(alloc, payload)?;
+            request(session, RequestKind::Write, cookie, offset, payload)?
+        }
+        ["fua", session, cookie, offset, payload] => {
+            let payload = bytes(alloc, payload)?;
+            request(session, RequestKind::Fua, cookie, offset, payload)?
+        }
+        ["read", session, cookie, offset, len] => ScriptCommand::Request {
+            session: SessionId(number(session)?),
+            request: ClientRequest {
+                kind: RequestKind::Read,
+                cookie: number(cookie)?,
+                offset: number(offset)?,
+                length: length(len)?,
+                payload: Vec::new(alloc),
+            },
+        },
+        ["flush", session, cookie] => {
+            request(session, RequestKind::Flush, cookie, "0", Vec::new(alloc))?
+        }
         ["bytes", session, first, others @ ..] => ScriptCommand::Bytes {
             session: SessionId(number(session)?),
             piece: joined(alloc, first, others)?,
         },
         ["run"] => ScriptCommand::Run,
+        [act, member] => ScriptCommand::Act {
+            act: member_act(act)?,
+            member: number(member)?,
+        },
         _ => return Err(LineError::Malformed),
     };
     Ok(Some(command))
+}
+
+/// A request with this payload.
+fn request(
+    session: &str,
+    kind: RequestKind,
+    cookie: &str,
+    offset: &str,
+    payload: Vec<u8>,
+) -> Result<ScriptCommand, LineError> {
+    Ok(ScriptCommand::Request {
+        session: SessionId(number(session)?),
+        request: ClientRequest {
+            kind,
+            cookie: number(cookie)?,
+            offset: number(offset)?,
+            length: u32::try_from(payload.len()).map_err(|_| LineError::Malformed)?,
+            payload,
+        },
+    })
+}
+
+/// What a member is told by this word.
+fn member_act(word: &str) -> Result<MemberAct, LineError> {
+    match word {
+        "take" => Ok(MemberAct::Take),
+        "number" => Ok(MemberAct::Number),
+        "raise" => Ok(MemberAct::Raise),
+        "begin" => Ok(MemberAct::Begin),
+        "end" => Ok(MemberAct::End),
+        "commit" => Ok(MemberAct::Commit),
+        "post" => Ok(MemberAct::Post),
+        "front" => Ok(MemberAct::Front),
+        "crew" => Ok(MemberAct::Crew),
+        "settle" => Ok(MemberAct::Settle),
+        "floor" => Ok(MemberAct::Floor),
+        _ => Err(LineError::Malformed),
+    }
 }
 
 /// A number below 2^64.

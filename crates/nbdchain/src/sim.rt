@@ -1,11 +1,13 @@
 //! `nbdchain sim`: plays a script over a disk in memory.
+use crate::client::{ClientRequest, NEGOTIATION, ScriptedClient};
 use crate::printed::Printed;
 use crate::refusal::Refusal;
-use crate::script::{ScriptCommand, parse};
+use crate::script::{MemberAct, ScriptCommand, parse};
 use disk_model::{MemDisk, Script};
 use flush_barrier::SessionId;
 use gate_journal::Slot;
 use std::alloc::Global;
+use std::collections::BTreeMap;
 use std::io::{BufRead, Write};
 use std::mem;
 use volume::Geometry;
@@ -66,6 +68,7 @@ pub(crate) struct Sim {
     begun: bool,
     world: Option<World<MemDisk>>,
     sessions: Vec<SessionId>,
+    clients: BTreeMap<SessionId, ScriptedClient>,
 }
 
 impl Sim {
@@ -75,6 +78,7 @@ impl Sim {
             begun: false,
             world: None,
             sessions: Vec::new(alloc),
+            clients: BTreeMap::new(alloc),
         }
     }
 
@@ -85,6 +89,7 @@ impl Sim {
             begun: _,
             world,
             sessions: _,
+            clients: _,
         } = self;
         if let Some(world) = world {
             let _disk = world.abandon();
@@ -114,6 +119,9 @@ impl Sim {
             ScriptCommand::New { .. } => Err(Refusal::BadScript { line }),
             _ if is_first => Err(Refusal::BadScript { line }),
             ScriptCommand::Connect { session, member } => self.connect(session, member, writer),
+            ScriptCommand::Session { session, member } => self.session(session, member, writer),
+            ScriptCommand::Request { session, request } => self.request(session, &request, writer),
+            ScriptCommand::Act { act, member } => self.act(act, member, writer),
             ScriptCommand::Bytes { session, piece } => {
                 self.show(&[Step::Bytes { session, piece }], writer)
             }
@@ -144,31 +152,121 @@ impl Sim {
         Ok(())
     }
 
-    /// A client connects. A slot that is none changes nothing.
+    /// A client connects. A slot that is none, or a session that was there before, changes nothing.
     fn connect<W: Write>(
         &mut self,
         session: SessionId,
         member: u64,
         writer: &mut W,
     ) -> Result<(), Refusal> {
-        let Some(slot) = u8::try_from(member).ok().and_then(Slot::new) else {
+        let Some(slot) = slot_of(member) else {
             return Ok(());
         };
-        if !self.sessions.contains(&session) {
-            self.sessions.push(session)?;
-            self.sessions.sort()?;
+        if self
+            .shown(&[Step::Connect { session, slot }], writer)?
+            .taken
+        {
+            self.knows(session)?;
         }
-        self.show(&[Step::Connect { session, slot }], writer)
+        Ok(())
+    }
+
+    /// A client connects and negotiates. A slot that is none, or a session that was there before, changes nothing.
+    fn session<W: Write>(
+        &mut self,
+        session: SessionId,
+        member: u64,
+        writer: &mut W,
+    ) -> Result<(), Refusal> {
+        let Some(slot) = slot_of(member) else {
+            return Ok(());
+        };
+        if self.sessions.contains(&session) {
+            return Ok(());
+        }
+        let client = ScriptedClient::new(self.alloc, session);
+        let _none = self.clients.insert(session, client)?;
+        let piece = Vec::from_slice(self.alloc, &NEGOTIATION)?;
+        let steps = [
+            Step::Connect { session, slot },
+            Step::Bytes { session, piece },
+        ];
+        if self.shown(&steps, writer)?.taken {
+            return self.knows(session);
+        }
+        let _client = self.clients.remove(&session);
+        Ok(())
+    }
+
+    /// Keeps the number of a session that is there now.
+    fn knows(&mut self, session: SessionId) -> Result<(), Refusal> {
+        self.sessions.push(session)?;
+        Ok(self.sessions.sort()?)
+    }
+
+    /// The client of a session sends a request.
+    fn request<W: Write>(
+        &mut self,
+        session: SessionId,
+        request: &ClientRequest,
+        writer: &mut W,
+    ) -> Result<(), Refusal> {
+        if let Some(client) = self.clients.get_mut(&session) {
+            client.asks(request)?;
+        }
+        let piece = request.spelled(self.alloc)?;
+        self.show(&[Step::Bytes { session, piece }], writer)
+    }
+
+    /// The member does what it is told. A slot that is none does nothing.
+    fn act<W: Write>(
+        &mut self,
+        act: MemberAct,
+        member: u64,
+        writer: &mut W,
+    ) -> Result<(), Refusal> {
+        let Some(slot) = slot_of(member) else {
+            return Ok(());
+        };
+        match act {
+            MemberAct::Take => self.show(&[Step::Take { slot }], writer),
+            MemberAct::Number => self.show(&[Step::Number { from: slot }], writer),
+            MemberAct::Raise => self.show(&raise_steps(slot), writer),
+            MemberAct::Begin => self.show(&[Step::BeginCommit { slot }], writer),
+            MemberAct::End => self.show(&[Step::EndCommit { slot }], writer),
+            MemberAct::Commit => self.show(
+                &[Step::BeginCommit { slot }, Step::EndCommit { slot }],
+                writer,
+            ),
+            MemberAct::Post => self.show(&[Step::Post { slot }], writer),
+            MemberAct::Front => self.show(
+                &[Step::Look { slot }, Step::AnswerFront { slot }],
+                writer,
+            ),
+            MemberAct::Crew => self.show(&[Step::Crew { slot }], writer),
+            MemberAct::Settle => self.show(
+                &[Step::Gauge { slot }, Step::AnswerFloor { slot }],
+                writer,
+            ),
+            MemberAct::Floor => self.show(&floor_steps(slot), writer),
+        }
     }
 
     /// Plays steps, and prints what they put out and their refusals.
     fn show<W: Write>(&mut self, steps: &[Step], writer: &mut W) -> Result<(), Refusal> {
+        self.shown(steps, writer)?;
+        Ok(())
+    }
+
+    /// Plays steps, and prints what they put out and their refusals; what became of them.
+    fn shown<W: Write>(&mut self, steps: &[Step], writer: &mut W) -> Result<Played, Refusal> {
         let mut printed = Printed::new(self.alloc);
         let played = self.steps(steps, &mut printed)?;
         if let Some(number) = played.refused {
             writeln!(writer, "refused {number}")?;
         }
-        printed.print(writer)
+        printed.print(writer)?;
+        Ok(played)
     }
 
     /// Plays steps, and adds what they put out.
@@ -188,7 +286,7 @@ impl Sim {
                     played.taken = true;
                     for output in outputs {
                         played.put_out = true;
-                        printed.add(output)?;
+                        printed.add(output, &mut self.clients)?;
                     }
                 }
                 Answer::Refused(number) => played.refused = Some(number),
@@ -271,7 +369,7 @@ impl Sim {
             .member(slot)
             .is_some_and(|member| member.known < member.applied && !member.stopped);
         if is_behind {
-            self.steps(&[Step::Raise { slot }, Step::AnswerFront { slot }], printed)?;
+            self.steps(&raise_steps(slot), printed)?;
         }
         Ok(is_behind)
     }
@@ -305,16 +403,28 @@ impl Sim {
         if !awaits_floor {
             return Ok(false);
         }
-        let played = self.steps(
-            &[
-                Step::Look { slot },
-                Step::AnswerFront { slot },
-                Step::Crew { slot },
-                Step::Gauge { slot },
-                Step::AnswerFloor { slot },
-            ],
-            printed,
-        )?;
+        let played = self.steps(&floor_steps(slot), printed)?;
         Ok(played.put_out)
     }
+}
+
+/// The slot with this number, if it is one.
+fn slot_of(member: u64) -> Option<Slot> {
+    u8::try_from(member).ok().and_then(Slot::new)
+}
+
+/// The tail raises the front, and takes it.
+fn raise_steps(slot: Slot) -> [Step; 2] {
+    [Step::Raise { slot }, Step::AnswerFront { slot }]
+}
+
+/// The member looks up the front, goes on with it, and answers with the floor of the mask and the gauges.
+fn floor_steps(slot: Slot) -> [Step; 5] {
+    [
+        Step::Look { slot },
+        Step::AnswerFront { slot },
+        Step::Crew { slot },
+        Step::Gauge { slot },
+        Step::AnswerFloor { slot },
+    ]
 }

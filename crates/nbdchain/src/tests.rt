@@ -15,9 +15,11 @@ struct Row {
     printed: &'static str,
 }
 
+const GREETING: &str = "4e42444d41474943 49484156454f5054 0003";
+
 const GREETED: &str = "out 1 4e42444d4147494349484156454f50540003\n";
 
-const ROWS: [Row; 9] = [
+const ROWS: [Row; 16] = [
     Row {
         name: "an empty script",
         script: "",
@@ -59,6 +61,41 @@ const ROWS: [Row; 9] = [
         printed: "out 1 4e42444d4147494349484156454f50540003\nout 1 0000000000008000010d\nout 1 67446698000000000000000000000001\nout 1 67446698000000160000000000000002\nout 1 67446698000000160000000000000003\nout 1 67446698000000160000000000000004\n",
     },
     Row {
+        name: "a write with FUA, and a read of it",
+        script: "new 1 8 4096\nsession 1 0\nfua 1 1 5 aabb\nrun\nread 1 2 4 4\nrun\nread 1 3 0 0\n",
+        printed: "reply 1 1 0\nreply 1 2 0 00aabb00\nreply 1 3 0\n",
+    },
+    Row {
+        name: "a write, step by step",
+        script: "new 1 8 4096\nsession 1 0\nwrite 1 1 0 aa\ntake 0\nnumber 0\nraise 0\ncommit 0\npost 0\n",
+        printed: "reply 1 1 0\n",
+    },
+    Row {
+        name: "a write with FUA waits for the post",
+        script: "new 1 8 4096\nsession 1 0\nfua 1 1 0 aa\ntake 0\nnumber 0\nraise 0\nfloor 0\nbegin 0\nend 0\nfloor 0\npost 0\nfront 0\ncrew 0\nsettle 0\n",
+        printed: "reply 1 1 0\n",
+    },
+    Row {
+        name: "two sessions that write and read in turn",
+        script: "new 1 8 4096\nsession 1 0\nsession 2 0\nwrite 1 1 0 aa\ntake 0\nnumber 0\nread 2 2 0 1\ntake 0\nraise 0\nread 2 3 0 1\ntake 0\nwrite 2 4 0 bb\nread 1 5 0 1\nrun\nread 1 6 0 1\nrun\n",
+        printed: "reply 2 2 0 00\nreply 1 1 0\nreply 2 3 0 aa\nreply 1 5 0 aa\nreply 2 4 0\nreply 1 6 0 bb\n",
+    },
+    Row {
+        name: "requests that wait for the one in flight",
+        script: "new 1 8 4096\nsession 1 0\nread 1 7 0 1\nread 1 7 4096 1\ntake 0\ntake 0\nrun\n",
+        printed: "reply 1 7 0 00\nreply 1 7 0 00\n",
+    },
+    Row {
+        name: "commands that the state doesn't allow",
+        script: "new 1 8 4096\ntake 0\nnumber 0\nbegin 0\nend 0\ncommit 0\npost 0\ncrew 0\nsettle 0\ntake 1\nraise 9\nwrite 1 1 0 aa\nsession 1 3\nconnect 1 8\nsession 1 0\nsession 1 0\nread 1 2 0 1\nrun\n",
+        printed: "reply 1 2 0 00\n",
+    },
+    Row {
+        name: "requests that are refused",
+        script: "new 1 8 4096\nsession 1 0\nflush 1 1\nread 1 2 32767 2\nwrite 1 3 32767 aabb\nread 1 4 0 4097\n",
+        printed: "reply 1 1 22\nreply 1 2 22\nreply 1 3 28\nreply 1 4 22\n",
+    },
+    Row {
         name: "no world",
         script: "# a volume of no blocks\n\nnew 1 0 4096\nconnect 1 0\nbytes 1 00\nrun\n",
         printed: "refused 111\n",
@@ -72,7 +109,7 @@ struct BadRow {
     ended: Refusal,
 }
 
-const BAD_ROWS: [BadRow; 12] = [
+const BAD_ROWS: [BadRow; 16] = [
     BadRow {
         script: "bytes 1 00\n",
         printed: "",
@@ -133,6 +170,26 @@ const BAD_ROWS: [BadRow; 12] = [
         printed: "",
         ended: Refusal::BadScript { line: 2 },
     },
+    BadRow {
+        script: "new 1 8 4096\ntake\n",
+        printed: "",
+        ended: Refusal::BadScript { line: 2 },
+    },
+    BadRow {
+        script: "new 1 8 4096\nsession 1 0\nwrite 1 1 0\n",
+        printed: "",
+        ended: Refusal::BadScript { line: 3 },
+    },
+    BadRow {
+        script: "new 1 8 4096\nsession 1 0\nread 1 1 0 aa\n",
+        printed: "",
+        ended: Refusal::BadScript { line: 3 },
+    },
+    BadRow {
+        script: "session 1 0\n",
+        printed: "",
+        ended: Refusal::BadScript { line: 1 },
+    },
 ];
 
 #[test]
@@ -166,6 +223,283 @@ fn bad_rows(rt: HostRuntime) -> Result<(), Fail> {
         Some(script::LineError::NotText)
     );
     assert!(rt; matches!(parse(alloc, b"# \xff"), Ok(None)));
+    Ok(())
+}
+
+/// What the client of a session sends, what it is sent behind the greeting, and whether the session ends.
+struct SessionRow {
+    name: &'static str,
+    input: &'static str,
+    output: &'static str,
+    closes: bool,
+}
+
+const SESSION_ROWS: [SessionRow; 17] = [
+    SessionRow {
+        name: "export-name",
+        input: "00000003 49484156454f5054 00000001 00000000",
+        output: "0000000000008000 010d",
+        closes: false,
+    },
+    SessionRow {
+        name: "other client flags",
+        input: "00000002",
+        output: "",
+        closes: true,
+    },
+    SessionRow {
+        name: "first-write",
+        input: "00000003 49484156454f5054 00000001 00000000 25609513 0001 0001 0000000000000001 0000000000000fff 00000003 414243 25609513 0000 0000 0000000000000002 0000000000000ffe 00000005 25609513 0000 0002 0000000000000003 0000000000000000 00000000",
+        output: "0000000000008000 010d 67446698 00000000 0000000000000001 67446698 00000000 0000000000000002 0041424300",
+        closes: true,
+    },
+    SessionRow {
+        name: "volume-edges",
+        input: "00000003 49484156454f5054 00000001 00000000 25609513 0000 0000 0000000000000001 0000000000007ffc 00000004 25609513 0000 0000 0000000000000002 0000000000007ffd 00000004 25609513 0000 0001 0000000000000003 0000000000007ffc 00000004 01020304 25609513 0000 0001 0000000000000004 0000000000007ffd 00000004 01020304",
+        output: "0000000000008000 010d 67446698 00000000 0000000000000001 00000000 67446698 00000016 0000000000000002 67446698 00000000 0000000000000003 67446698 0000001c 0000000000000004",
+        closes: false,
+    },
+    SessionRow {
+        name: "empty-and-refused",
+        input: "00000003 49484156454f5054 00000001 00000000 25609513 0000 0001 0000000000000001 0000000000008000 00000000 25609513 0000 0003 0000000000000002 0000000000000000 00000001 25609513 0000 0009 0000000000000003 0000000000000000 00000000 25609513 0020 0000 0000000000000004 0000000000000000 00000001",
+        output: "0000000000008000 010d 67446698 00000000 0000000000000001 67446698 00000016 0000000000000002 67446698 00000016 0000000000000003 67446698 00000016 0000000000000004",
+        closes: false,
+    },
+    SessionRow {
+        name: "GO that asks for sizes",
+        input: "00000003 49484156454f5054 00000007 00000008 00000000 0001 0003",
+        output: "0003e889045565a9 00000007 00000003 0000000c 0000 0000000000008000 010d 0003e889045565a9 00000007 00000003 0000000e 0003 00000001 00001000 00001000 0003e889045565a9 00000007 00000001 00000000",
+        closes: false,
+    },
+    SessionRow {
+        name: "GO that asks for sizes and another type",
+        input: "00000003 49484156454f5054 00000007 0000000a 00000000 0002 0003 0009",
+        output: "0003e889045565a9 00000007 00000003 0000000c 0000 0000000000008000 010d 0003e889045565a9 00000007 00000003 0000000e 0003 00000001 00001000 00001000 0003e889045565a9 00000007 00000001 00000000",
+        closes: false,
+    },
+    SessionRow {
+        name: "GO to another export, then EXPORT_NAME",
+        input: "00000003 49484156454f5054 00000007 00000007 00000001 78 0000 49484156454f5054 00000001 00000000",
+        output: "0003e889045565a9 00000007 80000006 00000000 0000000000008000 010d",
+        closes: false,
+    },
+    SessionRow {
+        name: "INFO that asks for nothing, then ABORT",
+        input: "00000003 49484156454f5054 00000006 00000006 00000000 0000 49484156454f5054 00000002 00000000",
+        output: "0003e889045565a9 00000006 00000003 0000000c 0000 0000000000008000 010d 0003e889045565a9 00000006 00000001 00000000 0003e889045565a9 00000002 00000001 00000000",
+        closes: true,
+    },
+    SessionRow {
+        name: "INFO whose lengths don't add up",
+        input: "00000003 49484156454f5054 00000006 00000004 00000000",
+        output: "0003e889045565a9 00000006 80000003 00000000",
+        closes: false,
+    },
+    SessionRow {
+        name: "LIST",
+        input: "00000003 49484156454f5054 00000003 00000000",
+        output: "0003e889045565a9 00000003 00000002 00000004 00000000 0003e889045565a9 00000003 00000001 00000000",
+        closes: false,
+    },
+    SessionRow {
+        name: "LIST with data",
+        input: "00000003 49484156454f5054 00000003 00000002 0102",
+        output: "0003e889045565a9 00000003 80000003 00000000",
+        closes: false,
+    },
+    SessionRow {
+        name: "options that aren't served",
+        input: "00000003 49484156454f5054 00000005 00000000 49484156454f5054 00000008 00000000 49484156454f5054 00000063 00000001 01",
+        output: "0003e889045565a9 00000005 80000001 00000000 0003e889045565a9 00000008 80000001 00000000 0003e889045565a9 00000063 80000001 00000000",
+        closes: false,
+    },
+    SessionRow {
+        name: "EXPORT_NAME with a name of 4,097 bytes",
+        input: "00000003 49484156454f5054 00000001 00001001",
+        output: "",
+        closes: true,
+    },
+    SessionRow {
+        name: "an option of ffffffff bytes",
+        input: "00000003 49484156454f5054 00000063 ffffffff 0102030405",
+        output: "",
+        closes: false,
+    },
+    SessionRow {
+        name: "an option with another magic",
+        input: "00000003 49484156454f5055",
+        output: "",
+        closes: true,
+    },
+    SessionRow {
+        name: "a payload that is too long",
+        input: "00000003 49484156454f5054 00000001 00000000 25609513 0000 0001 0000000000000001 0000000000000000 00001001",
+        output: "0000000000008000 010d",
+        closes: true,
+    },
+];
+
+/// The bytes of hexadecimal words.
+fn bytes_of(alloc: Global, words: &str) -> Result<Vec<u8>, Fail> {
+    let mut bytes = Vec::new(alloc);
+    for word in words.split(' ').filter(|word| !word.is_empty()) {
+        bytes.extend_from_slice(&hex::decode(alloc, word)?)?;
+    }
+    Ok(bytes)
+}
+
+/// What a session was sent, and whether it ended.
+#[derive(Debug, PartialEq, Eq, Drop)]
+struct Sent {
+    bytes: Vec<u8>,
+    closed: bool,
+}
+
+impl Sent {
+    /// Plays steps, and adds what they put out.
+    fn play(&mut self, world: &mut World<MemDisk>, steps: &[Step]) -> Result<(), Fail> {
+        for answer in world.play(steps)?.into_vec() {
+            if let Answer::Taken(outputs) = answer {
+                for output in outputs {
+                    self.bytes.extend_from_slice(&output.bytes)?;
+                    self.closed = self.closed || output.closed;
+                }
+            }
+        }
+        Ok(())
+    }
+
+    /// The client connects, and sends pieces.
+    fn play_pieces(
+        &mut self,
+        alloc: Global,
+        world: &mut World<MemDisk>,
+        slot: Slot,
+        pieces: &[&[u8]],
+    ) -> Result<(), Fail> {
+        let session = SessionId(1);
+        self.play(world, &[Step::Connect { session, slot }])?;
+        for piece in pieces {
+            self.play_piece(alloc, world, slot, piece)?;
+        }
+        Ok(())
+    }
+
+    /// The client sends a piece, and the member does all that there is to do for three requests.
+    fn play_piece(
+        &mut self,
+        alloc: Global,
+        world: &mut World<MemDisk>,
+        slot: Slot,
+        piece: &[u8],
+    ) -> Result<(), Fail> {
+        let session = SessionId(1);
+        let piece = Vec::from_slice(alloc, piece)?;
+        self.play(world, &[Step::Bytes { session, piece }])?;
+        for _ in 0..3 {
+            let rest = Step::Bytes {
+                session,
+                piece: Vec::new(alloc),
+            };
+            self.play(
+                world,
+                &[
+                    Step::Take { slot },
+                    Step::Number { from: slot },
+                    Step::Raise { slot },
+                    Step::AnswerFront { slot },
+                    Step::BeginCommit { slot },
+                    Step::EndCommit { slot },
+                    Step::Post { slot },
+                    Step::Look { slot },
+                    Step::Crew { slot },
+                    Step::Gauge { slot },
+                    Step::AnswerFloor { slot },
+                    rest,
+                ],
+            )?;
+        }
+        Ok(())
+    }
+}
+
+/// What a session is sent in all, and whether it ends, where its client's bytes come in these pieces.
+fn session_output(alloc: Global, pieces: &[&[u8]]) -> Result<Sent, Fail> {
+    let slot = Slot::new(0).ok_or("there is a slot 0")?;
+    let geometry = Geometry::new(8, LEAST_AREA, 4_096)?;
+    let disk = MemDisk::new(alloc, u64::from(LEAST_AREA), Script::new(alloc))?;
+    let mut world = World::new(alloc, geometry, disk)?;
+    let mut sent = Sent {
+        bytes: Vec::new(alloc),
+        closed: false,
+    };
+    let played = sent.play_pieces(alloc, &mut world, slot, pieces);
+    let _disk = world.abandon();
+    played?;
+    Ok(sent)
+}
+
+#[test]
+fn sessions_in_any_pieces(rt: HostRuntime) -> Result<(), Fail> {
+    let alloc = rt.alloc();
+    for row in &SESSION_ROWS {
+        let input = bytes_of(alloc, row.input)?;
+        let mut bytes = bytes_of(alloc, GREETING)?;
+        bytes.extend_from_slice(&bytes_of(alloc, row.output)?)?;
+        let wanted = Sent {
+            bytes,
+            closed: row.closes,
+        };
+        let single: Vec<&[u8]> = input.chunks(1).collect(alloc)?;
+        let single = session_output(alloc, &single)?;
+        assert_eq!(rt; single, wanted, "{}, byte by byte", row.name);
+        for at in 0..=input.len() {
+            let (front, back) = input.split_at(at);
+            let cut = session_output(alloc, &[front, back])?;
+            assert_eq!(rt; cut, wanted, "{}, cut at {at}", row.name);
+        }
+    }
+    Ok(())
+}
+
+/// What becomes of a session's end and of input behind it, where its client sent these bytes.
+fn answers_at_the_end(alloc: Global, bytes: &[u8]) -> Result<Vec<Answer>, Fail> {
+    let slot = Slot::new(0).ok_or("there is a slot 0")?;
+    let session = SessionId(1);
+    let steps = [
+        Step::Connect { session, slot },
+        Step::Bytes {
+            session,
+            piece: Vec::from_slice(alloc, bytes)?,
+        },
+        Step::End { session },
+        Step::Bytes {
+            session,
+            piece: Vec::new(alloc),
+        },
+    ];
+    let geometry = Geometry::new(8, LEAST_AREA, 4_096)?;
+    let disk = MemDisk::new(alloc, u64::from(LEAST_AREA), Script::new(alloc))?;
+    let mut world = World::new(alloc, geometry, disk)?;
+    let answers = world.play(&steps);
+    let _disk = world.abandon();
+    Ok(answers?.into_vec())
+}
+
+#[test]
+fn sessions_that_end(rt: HostRuntime) -> Result<(), Fail> {
+    let alloc = rt.alloc();
+    for row in &SESSION_ROWS {
+        let input = bytes_of(alloc, row.input)?;
+        for at in 0..=input.len() {
+            let answers = answers_at_the_end(alloc, &input[..at])?;
+            assert_eq!(rt; answers.len(), 4, "{}, cut at {at}", row.name);
+            let taken = matches!(answers[1], Answer::Taken(_));
+            assert!(rt; taken, "{}, cut at {at}", row.name);
+            let refused = matches!(answers[3], Answer::Refused(201));
+            assert!(rt; refused, "{}, cut at {at}", row.name);
+        }
+    }
     Ok(())
 }
 

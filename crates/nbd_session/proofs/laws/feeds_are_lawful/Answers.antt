@@ -1,4 +1,4 @@
-use Rattle.nbd_session.proofs.Endings.{feeds_take_all, histories_are_lawful}
+use Rattle.nbd_session.proofs.Endings.{feeds_take_all, histories_are_lawful, needy_go_on}
 use Rattle.nbd_session.proofs.Lawfulness.{feeds_lawfully}
 use Rattle.nbd_session.proofs.laws.feeds_are_lawful.Goals as goal
 
@@ -14,3 +14,6 @@ returns-clause-all c =
     let options = c.options_are_apart.ensures in
     let requests = c.requests_are_apart.ensures in
     feeds_take_all flags.spelled flags.short options.spelled options.short requests.spelled requests.short
+
+pub returns-clause-needy : goal.returns-clause-needy
+returns-clause-needy c = needy_go_on
