@@ -1,0 +1,10 @@
+mod Appending
+mod Batches
+mod Bodies
+mod ImageLists
+mod Lists
+mod Readings
+mod Runs
+mod Spellings
+mod Standing
+mod Walks

@@ -1,8 +1,14 @@
 -- The spelling of a batch, and what makes images a batch.
-use Rattle.std.specs.Prelude.{◌≡◌, ◌≢◌, ℕ, ◌+◌, ◌*◌, ◌<◌, List, [], ◌∷◌, ◌++◌, length, All, AllPairs}
+use Rattle.std.specs.Prelude.{◌≡◌, ◌≢◌, ◌⊎◌, ℕ, ◌+◌, ◌*◌, ◌^◌, ◌<◌, ◌≤◌, List, [], ◌∷◌, ◌++◌, length, All, AllPairs}
 use Rattle.std.specs.List.{flat_map}
 use Rattle.byteorder.specs.Endian.{big_bytes}
 use Rattle.gate_journal.specs.declared.batch.Image.{Image}
+use Rattle.gate_journal.specs.declared.batch.TheConstants.{MAX_FRONT}
+
+-- the front after a batch, and its images
+pub record Batch : Type 0 where
+  pub front : ℕ
+  pub images : List Image
 
 -- a block's number in four bytes, and the block
 abbrev pub image_spelling : Image → List ℕ
@@ -16,6 +22,10 @@ body_spelling front images = big_bytes 8 front ++ big_bytes 4 (length images) ++
 abbrev pub spelling_behind_gate : ℕ → List Image → List ℕ
 spelling_behind_gate front images = body_spelling front images ++ 0 ∷ []
 
+-- an open gate, and the body
+unfoldable pub batch_spelling : Batch → List ℕ
+batch_spelling batch = 1 ∷ body_spelling batch.front batch.images
+
 -- the bytes of a batch of that many images
 abbrev pub batch_size : ℕ → ℕ
 batch_size count = 13 + 4100 * count
@@ -25,3 +35,46 @@ pub record AreImages (blocks : ℕ) (images : List Image) : Type 0 where
   pub some : 0 < length images
   pub within : All (λ image. image.block < blocks) images
   pub once : AllPairs (λ a b. a.block ≢ b.block) images
+
+-- an image whose block's number has four bytes, and its block 4,096
+pub record IsWhole (image : Image) : Type 0 where
+  pub block : image.block < 2 ^ 32
+  pub size : length image.bytes ≡ 4096
+
+-- a batch of the volume that may stand behind a batch of the front before
+pub record IsBatch (blocks before : ℕ) (batch : Batch) : Type 0 where
+  pub rises : before < batch.front
+  pub limit : batch.front ≤ MAX_FRONT
+  pub images : AreImages blocks batch.images
+  pub count : length batch.images < 2 ^ 32
+  pub whole : All IsWhole batch.images
+
+-- batches of the volume, each front above the one before it
+abbrev pub AreBatches : ℕ → ℕ → List Batch → Type 0
+AreBatches blocks before [] = Unit {0}
+AreBatches blocks before (batch ∷ batches) = IsBatch blocks before batch × AreBatches blocks batch.front batches
+
+-- batches spelled one after another
+abbrev pub spellings : List Batch → List ℕ
+spellings batches = flat_map batch_spelling batches
+
+-- the front of the last batch, or the one before the first
+abbrev pub last_front : ℕ → List Batch → ℕ
+last_front before [] = before
+last_front before (batch ∷ batches) = last_front batch.front batches
+
+-- the area is the batches one after another, then a closed gate, then anything
+pub record HoldsBatches (blocks before : ℕ) (batches : List Batch) (area : List ℕ) : Type 0 where
+  pub are : AreBatches blocks before batches
+  pub gate : ℕ
+  pub closed : gate ≢ 1
+  pub rest : List ℕ
+  pub spelled : area ≡ spellings batches ++ gate ∷ rest
+
+-- the area holds no batches, not even none
+abbrev pub IsDamaged : ℕ → ℕ → List ℕ → Type 0
+IsDamaged blocks before area = (batches : List Batch) → HoldsBatches blocks before batches area → ⊥
+
+-- the area holds the old batches, or these and one more
+abbrev pub HoldsOldOrNew : ℕ → ℕ → List Batch → Batch → List ℕ → Type 0
+HoldsOldOrNew blocks before old batch area = HoldsBatches blocks before old area ⊎ HoldsBatches blocks before (old ++ batch ∷ []) area

@@ -1,26 +1,54 @@
--- What contracts see of a journal.
-use Rattle.std.specs.Prelude.{ℕ, ◌+◌, ◌<◌, ◌≤◌, Bool}
-use Rattle.gate_journal.specs.Batch.{batch_size}
+-- What contracts see of a journal, and what its disk then holds.
+use Rattle.std.specs.Prelude.{◌≡◌, ℕ, ◌+◌, ◌<◌, ◌≤◌, Bool, false, List, length}
+use Rattle.std.proofs.Common.{subst, sym}
+use Rattle.disk_model.specs.Disk.{Only}
+use Rattle.disk_model.specs.Frames.{settled_still}
+use Rattle.disk_model.specs.Part.{inside, KeepsPart, LeftInside}
+use Rattle.disk_model.specs.declared.part.Part.{Part}
+use Rattle.gate_journal.specs.Batch.{Batch, IsBatch, batch_size, spelling_behind_gate, spellings, last_front, HoldsBatches}
 
--- a journal in the len bytes of a disk from start on, for the blocks of one member: its slot, the front of the last
--- batch, the place of the closed gate behind it, and whether a device call failed
+-- a journal in a part of a disk, for the blocks of the member at a slot: the front before its first batch and that
+-- of the last one, the place of the closed gate behind it, and whether a device call failed
 pub record State : Type 0 where
-  pub start : ℕ
-  pub len : ℕ
+  pub part : Part
   pub slot : ℕ
   pub blocks : ℕ
+  pub before : ℕ
   pub front : ℕ
   pub end : ℕ
   pub broken : Bool
 
 -- a batch of that many images fits behind the last one, with a closed gate behind it
 abbrev pub Fits : State → ℕ → Type 0
-Fits journal count = journal.end + batch_size count + 1 ≤ journal.len
+Fits journal count = journal.end + batch_size count + 1 ≤ journal.part.len
 
 -- it doesn't
 abbrev pub IsTooMuch : State → ℕ → Type 0
-IsTooMuch journal count = journal.len < journal.end + batch_size count + 1
+IsTooMuch journal count = journal.part.len < journal.end + batch_size count + 1
 
 -- the journal with one batch more
 abbrev pub appended : State → ℕ → ℕ → State
 appended journal front count = record journal { front = front; end = journal.end + batch_size count }
+
+-- The part holds these batches, the journal knows where they end, and a stop now leaves the part as it is.
+pub record IsSettled (journal : State) (batches : List Batch) (gives : List ℕ) (may_leave : List ℕ → Type 0) : Type 0 where
+  pub holds : HoldsBatches journal.blocks journal.before batches (inside journal.part gives)
+  pub end : journal.end ≡ length (spellings batches)
+  pub front : journal.front ≡ last_front journal.before batches
+  pub runs : journal.broken ≡ false
+  pub durable : Only (inside journal.part gives) (LeftInside journal.part may_leave)
+
+-- a call that keeps its part keeps a journal settled: a lemma for the crates above
+pub still_settled : {journal : State} {batches : List Batch} {old new : List ℕ} {left_old left_new : List ℕ → Type 0} → KeepsPart journal.part old new left_old left_new → IsSettled journal batches old left_old → IsSettled journal batches new left_new
+still_settled {journal} {batches} keeps settled = record {
+  holds = subst (HoldsBatches journal.blocks journal.before batches) (sym keeps.gives) settled.holds;
+  end = settled.end;
+  front = settled.front;
+  runs = settled.runs;
+  durable = settled_still keeps settled.durable;
+}
+
+-- the bytes are the batch's behind its gate, and it may be the next
+pub record IsSpelled (journal : State) (batch : Batch) (bytes : List ℕ) : Type 0 where
+  pub next : IsBatch journal.blocks journal.front batch
+  pub is : bytes ≡ spelling_behind_gate batch.front batch.images

@@ -1,4 +1,6 @@
 pub mod Batch
 pub mod Journal
+pub mod Reading
 pub mod Receipt
 pub mod Refusal
+pub mod Runs

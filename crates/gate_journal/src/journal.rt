@@ -1,10 +1,19 @@
-ghost use Rattle.std.specs.Prelude.{◌≡◌, ◌+◌, ◌-◌, ◌*◌, ◌^◌, ◌<◌, ◌≤◌, ◌↔◌, ℕ, true, false, length, IfOk, OnOk, OnErr, IsErrOf};
-ghost use Rattle.gate_journal.specs.Batch.{AreImages};
+ghost use Rattle.std.specs.Prelude.{◌≡◌, ◌≢◌, ◌+◌, ◌-◌, ◌*◌, ◌^◌, ◌<◌, ◌≤◌, ◌↔◌, ℕ, List, [], ◌∷◌, ◌++◌, true, false, length, max, IfOk, IfErr, OnOk, OnErr, IsErrOf, IsTrue};
+ghost use Rattle.disk_model.specs.Disk.{LeavesOnly};
+ghost use Rattle.disk_model.specs.Part.{inside, TouchesOnly};
+ghost use Rattle.gate_journal.specs.Batch.{AreBatches, AreImages, Batch, HoldsBatches, HoldsOldOrNew, IsDamaged};
+ghost use Rattle.gate_journal.specs.Refusal.{HasCause, IsOfAppending, IsOfDevice, IsOfOpening, IsOfReading, IsOfWriting};
+ghost use Rattle.gate_journal.specs.Runs.{OnlyReads, WasTorn};
 
-use crate::batch::{BATCH_HEADER, CLOSED, IMAGE_RECORD, Image, OPEN, spelled_behind_gate};
+use crate::batch::{
+    BATCH_HEADER, Batch, CLOSED, IMAGE_RECORD, Image, MAX_FRONT, OPEN, are_images, room_behind,
+    spelled_behind_gate,
+};
+use crate::durable::write_durably;
 use crate::refusal::Refusal;
 use crate::slot::Slot;
 use crate::synced::Synced;
+use crate::walking::{find_end, read_batches};
 use disk_model::{Disk, DiskError, Part};
 use std::alloc::Global;
 use std::marker::Model;
@@ -16,6 +25,7 @@ pub struct Journal {
     part: Part,
     slot: Slot,
     blocks: u32,
+    before: u64,
     front: u64,
     end: u64,
     broken: bool,
@@ -27,16 +37,18 @@ impl Model for Journal {
 
     ghost Value = { State };
 
-    ghost view = { λ j. record { start = j.part.start; len = j.part.len; slot = j.slot; blocks = j.blocks; front = j.front; end = j.end; broken = j.broken } };
+    ghost view = { λ j. record { part = j.part; slot = j.slot; blocks = j.blocks; before = j.before; front = j.front; end = j.end; broken = j.broken } };
 
     ghost invariant = { λ j. (j.end + 1 ≤ j.part.len) × (j.part.len < 2 ^ 32) };
 }
 
 impl Journal {
-    ghost use Rattle.gate_journal.specs.Journal.{Fits, IsTooMuch, appended};
+    ghost use Rattle.gate_journal.specs.Journal.{Fits, IsSettled, IsSpelled, IsTooMuch, appended};
 
-    /// An empty journal in a part of a disk, for the blocks 0 to `blocks - 1` of the member at the slot; the first batch
-    /// will have a front above `front`. It writes a closed gate and syncs.
+    /// An empty journal in a part of a disk, of 1 byte to 2^32 - 1, for the blocks 0 to `blocks - 1` of the member at the
+    /// slot; the first batch will have a front above `front`. It writes a closed gate and syncs.
+    ///
+    /// It is refused by the device alone. Then, and until it is done, the part holds what it held but for its first byte.
     pub fn create<D: Disk>(
         disk: &mut D,
         part: Part,
@@ -47,19 +59,90 @@ impl Journal {
         requires room { 1 ≤ part.len }
         requires small { part.len < 2 ^ 32 }
         requires on_disk { part.start + part.len ≤ D.size disk.old }
-        ensures journal { IfOk result (λ j. j ≡ record { start = part.start; len = part.len; slot = slot; blocks = blocks; front = front; end = 0; broken = false }) }
+        ensures journal { IfOk result (λ j. j ≡ record { part = part; slot = slot; blocks = blocks; before = front; front = front; end = 0; broken = false }) }
+        ensures settled { D.keeps_model → IfOk result (λ j. IsSettled j [] (D.gives disk.new) (D.may_leave_now disk.new)) }
+        ensures any_moment { D.keeps_model → LeavesOnly D.moment D.may_have_left_since disk.old disk.new
+            (WasTorn part 0 1 (D.may_leave_now disk.old)) }
+        ensures frame { D.keeps_model → TouchesOnly D.gives D.may_leave_now D.moment D.may_have_left_since part disk.old disk.new }
         ensures size { D.size disk.new ≡ D.size disk.old }
+        ensures told { IfErr result IsOfWriting }
+        ensures cause { HasCause (D.failures disk.old) (D.failures disk.new) result }
     {
-        part.write_at(disk, 0, &[CLOSED])?;
-        part.sync(disk)?;
+        write_durably(part, disk, 0, &[CLOSED])?;
         Ok(Journal {
             part,
             slot,
             blocks,
+            before: front,
             front,
             end: 0,
             broken: false,
         })
+    }
+
+    /// The journal in a part of a disk, of at most 2^32 - 1 bytes, which may be any, for the blocks 0 to `blocks - 1` of
+    /// the member at the slot; `front` is the one before the first batch. It syncs, and then reads.
+    ///
+    /// 123 `Damaged` exactly where the part holds no batches: an open gate isn't followed by a batch of the volume, of a
+    /// front above the last one's, with a byte behind it. 100 `Memory`, and what the device refuses. All leave the part
+    /// as it was.
+    pub fn open<D: Disk>(
+        alloc: Global,
+        disk: &mut D,
+        part: Part,
+        slot: Slot,
+        blocks: u32,
+        front: u64,
+    ) -> Result<Journal, Refusal>
+        requires small { part.len < 2 ^ 32 }
+        requires on_disk { part.start + part.len ≤ D.size disk.old }
+
+        ensures journal { IfOk result (λ j. j ≡ record { part = part; slot = slot; blocks = blocks; before = front; front = j.front; end = j.end; broken = false }) }
+        ensures settled { D.keeps_model → IfOk result (λ j. (batches : List Batch) × IsSettled j batches (D.gives disk.new) (D.may_leave_now disk.new)) }
+        ensures fronts { IfOk result (λ j. (front ≤ j.front) × (j.front ≤ max front MAX_FRONT)) }
+        ensures damaged { D.keeps_model → IsErrOf result Refusal.Damaged → IsDamaged blocks front (inside part (D.gives disk.old)) }
+
+        ensures reads { D.keeps_model → OnlyReads D.gives D.may_leave_now D.moment D.may_have_left_since disk.old disk.new }
+        ensures frame { D.keeps_model → TouchesOnly D.gives D.may_leave_now D.moment D.may_have_left_since part disk.old disk.new }
+        ensures size { D.size disk.new ≡ D.size disk.old }
+        ensures told { IfErr result IsOfOpening }
+        ensures cause { HasCause (D.failures disk.old) (D.failures disk.new) result }
+    {
+        part.sync(disk)?;
+        if part.is_empty() {
+            return Err(Refusal::Damaged);
+        }
+        let place = find_end(alloc, part, blocks, disk, front)?;
+        Ok(Journal {
+            part,
+            slot,
+            blocks,
+            before: front,
+            front: place.front,
+            end: place.end,
+            broken: false,
+        })
+    }
+
+    /// The part of the disk that it stands in.
+    pub fn part(&self) -> Part
+        ensures { result ≡ self.now.part }
+    {
+        self.part
+    }
+
+    /// The front of the last batch, or the one before the first: the next is above it.
+    pub fn front(&self) -> u64
+        ensures { result ≡ self.now.front }
+    {
+        self.front
+    }
+
+    /// Whether these images are a batch's: at least one, each of a block of the volume, no block twice.
+    pub fn are_images(&self, images: &[Image]) -> bool
+        ensures { IsTrue result ↔ AreImages self.now.blocks images.now }
+    {
+        are_images(self.blocks, images)
     }
 
     /// How many images the next batch can have.
@@ -68,10 +151,10 @@ impl Journal {
         ensures too_much { (count : ℕ) → result < count → IsTooMuch self.now count }
         ensures small { result < 2 ^ 32 }
     {
-        (self.part.len() - self.end).saturating_sub(BATCH_HEADER + 1) / IMAGE_RECORD
+        room_behind(self.end, self.part.len())
     }
 
-    /// Whether a device call failed: then `append` is refused with 122.
+    /// Whether a device call failed: then `append` and `read_all` are refused with 122, until it is opened again.
     pub fn is_broken(&self) -> bool
         ensures { result ≡ self.now.broken }
     {
@@ -79,10 +162,12 @@ impl Journal {
     }
 
     /// Appends a batch by four device calls: the batch behind its closed gate, with the closed gate of the next one;
-    /// a sync; the opened gate; a sync. The receipt is of the batch's front.
+    /// a sync; the opened gate; a sync. The receipt is of the batch's front, which is above the last one and at most
+    /// 2^63 - 1; its images are at least one, each of a block of the volume, no block twice.
     ///
-    /// 122 `Broken` where a device call failed before, then 121 `Full` where the batch doesn't fit; like 100 `Memory`,
-    /// they change nothing. After a refusal of the device the journal is broken.
+    /// 122 `Broken` exactly where a device call failed before; else 121 `Full` exactly where the batch doesn't fit; else
+    /// 100 `Memory`: these change nothing. After a refusal of the device the journal is broken, and the part holds the
+    /// batches from before, with the new one or without.
     pub fn append<D: Disk>(
         &mut self,
         alloc: Global,
@@ -90,18 +175,32 @@ impl Journal {
         front: u64,
         images: &[Image],
     ) -> Result<Synced, Refusal>
-        requires on_disk { self.old.start + self.old.len ≤ D.size disk.old }
+        requires on_disk { self.old.part.start + self.old.part.len ≤ D.size disk.old }
         requires images { AreImages self.old.blocks images.now }
         requires rises { self.old.front < front }
+        requires limit { front ≤ MAX_FRONT }
+
         ensures receipt { IfOk result (λ receipt. receipt ≡ record { slot = self.old.slot; front = front }) }
         ensures ok { OnOk result (self.new ≡ appended self.old front (length images.now)) }
+        ensures settled { D.keeps_model → (batches : List Batch)
+            → IsSettled self.old batches (D.gives disk.old) (D.may_leave_now disk.old)
+            → OnOk result (IsSettled self.new (batches ++ record { front = front; images = images.now } ∷ []) (D.gives disk.new) (D.may_leave_now disk.new)) }
+
+        // A stop at any moment of the call leaves the batches from before it, with the new one or without.
+        ensures any_moment { D.keeps_model → (batches : List Batch)
+            → IsSettled self.old batches (D.gives disk.old) (D.may_leave_now disk.old)
+            → LeavesOnly D.moment D.may_have_left_since disk.old disk.new
+            (λ c. HoldsOldOrNew self.old.blocks self.old.before batches (record { front = front; images = images.now }) (inside self.old.part c)) }
+        ensures frame { D.keeps_model → TouchesOnly D.gives D.may_leave_now D.moment D.may_have_left_since self.old.part disk.old disk.new }
+        ensures size { D.size disk.new ≡ D.size disk.old }
+
         ensures broken { IsErrOf result Refusal.Broken ↔ (self.old.broken ≡ true) }
         ensures full { IsErrOf result Refusal.Full ↔ ((self.old.broken ≡ false) × IsTooMuch self.old (length images.now)) }
+        ensures told { IfErr result IsOfAppending }
         ensures err { OnErr result (self.new ≡ record self.old { broken = self.new.broken }) }
-        ensures memory { IsErrOf result Refusal.Memory → self.new.broken ≡ self.old.broken }
-        ensures unchanged { IsErrOf result Refusal.Full → self.new.broken ≡ self.old.broken }
-        ensures device { (e : DiskError) → IsErrOf result (Refusal.Device e) → self.new.broken ≡ true }
-        ensures size { D.size disk.new ≡ D.size disk.old }
+        ensures unchanged { IfErr result (λ r. ¬ IsOfDevice r → (self.new ≡ self.old) × (disk.new ≡ disk.old)) }
+        ensures device { IfErr result (λ r. IsOfDevice r → self.new ≡ record self.old { broken = true }) }
+        ensures cause { HasCause (D.failures disk.old) (D.failures disk.new) result }
     {
         if self.broken {
             return Err(Refusal::Broken);
@@ -119,15 +218,61 @@ impl Journal {
         Ok(Synced::new(self.slot, front))
     }
 
+    /// All batches that the part holds, in their order.
+    ///
+    /// 122 `Broken` exactly where a device call failed before: nothing is read. 123 `Damaged` exactly where the part holds
+    /// no batches. 100 `Memory`, and what the device refuses: after that the journal is broken. All leave the part as it
+    /// was, and but for the device's the journal too.
+    pub fn read_all<D: Disk>(&mut self, alloc: Global, disk: &mut D) -> Result<Vec<Batch>, Refusal>
+        requires { self.old.part.start + self.old.part.len ≤ D.size disk.old }
+
+        ensures are { IfOk result (λ found. AreBatches self.old.blocks self.old.before found.items) }
+        ensures batches { D.keeps_model → IfOk result (λ found. HoldsBatches self.old.blocks self.old.before found.items (inside self.old.part (D.gives disk.old))) }
+        ensures settled { D.keeps_model → (batches : List Batch)
+            → IsSettled self.old batches (D.gives disk.old) (D.may_leave_now disk.old) → IfOk result (λ found. found.items ≡ batches) }
+        ensures damaged { D.keeps_model → IsErrOf result Refusal.Damaged → IsDamaged self.old.blocks self.old.before (inside self.old.part (D.gives disk.old)) }
+        ensures broken { IsErrOf result Refusal.Broken ↔ (self.old.broken ≡ true) }
+
+        ensures ok { OnOk result (self.new ≡ self.old) }
+        ensures err { OnErr result (self.new ≡ record self.old { broken = self.new.broken }) }
+        ensures unchanged { IfErr result (λ r. ¬ IsOfDevice r → self.new ≡ self.old) }
+        ensures device { IfErr result (λ r. IsOfDevice r → self.new ≡ record self.old { broken = true }) }
+
+        ensures unread { IsErrOf result Refusal.Broken → disk.new ≡ disk.old }
+        ensures reads { D.keeps_model → OnlyReads D.gives D.may_leave_now D.moment D.may_have_left_since disk.old disk.new }
+        ensures frame { D.keeps_model → TouchesOnly D.gives D.may_leave_now D.moment D.may_have_left_since self.old.part disk.old disk.new }
+        ensures size { D.size disk.new ≡ D.size disk.old }
+        ensures told { IfErr result (λ r. r ≢ Refusal.Broken → IsOfReading r) }
+        ensures cause { HasCause (D.failures disk.old) (D.failures disk.new) result }
+    {
+        if self.is_broken() {
+            return Err(Refusal::Broken);
+        }
+        let found = read_batches(alloc, self.part, self.blocks, disk, self.before);
+        if let Err(refusal) = &found {
+            self.broken = refusal.is_of_device();
+        }
+        found
+    }
+
     /// The four device calls of `append`.
     fn write_batch<D: Disk>(&self, disk: &mut D, body: &[u8]) -> Result<(), DiskError>
-        requires fits { self.now.end + 1 + length body.now ≤ self.now.len }
-        requires on_disk { self.now.start + self.now.len ≤ D.size disk.old }
+        requires fits { self.now.end + 1 + length body.now ≤ self.now.part.len }
+        requires on_disk { self.now.part.start + self.now.part.len ≤ D.size disk.old }
+        ensures settled { D.keeps_model → (batches : List Batch) (batch : Batch)
+            → IsSettled self.now batches (D.gives disk.old) (D.may_leave_now disk.old) → IsSpelled self.now batch body.now
+            → OnOk result (IsSettled (appended self.now batch.front (length batch.images)) (batches ++ batch ∷ []) (D.gives disk.new) (D.may_leave_now disk.new)) }
+        ensures any_moment { D.keeps_model → (batches : List Batch) (batch : Batch)
+            → IsSettled self.now batches (D.gives disk.old) (D.may_leave_now disk.old) → IsSpelled self.now batch body.now
+            → LeavesOnly D.moment D.may_have_left_since disk.old disk.new
+            (λ c. HoldsOldOrNew self.now.blocks self.now.before batches batch (inside self.now.part c)) }
+        ensures frame { D.keeps_model → TouchesOnly D.gives D.may_leave_now D.moment D.may_have_left_since self.now.part disk.old disk.new }
         ensures size { D.size disk.new ≡ D.size disk.old }
+        ensures told { IfErr result (λ e. e ≢ DiskError.ReadFault) }
+        ensures later { D.failures disk.old ≤ D.failures disk.new }
+        ensures cause { IfErr result (λ e. e ≢ DiskError.Memory → D.failures disk.old < D.failures disk.new) }
     {
-        self.part.write_at(disk, self.end + 1, body)?;
-        self.part.sync(disk)?;
-        self.part.write_at(disk, self.end, &[OPEN])?;
-        self.part.sync(disk)
+        write_durably(self.part, disk, self.end + 1, body)?;
+        write_durably(self.part, disk, self.end, &[OPEN])
     }
 }

@@ -1,4 +1,4 @@
-ghost use Rattle.std.specs.Prelude.{◌≡◌};
+ghost use Rattle.std.specs.Prelude.{◌≡◌, ◌↔◌, IsTrue};
 ghost use Rattle.gate_journal.specs.declared.refusal.Refusal.TheVariants.{Memory, Device};
 
 use disk_model::DiskError;
@@ -8,22 +8,32 @@ use thiserror::Error;
 /// Why a call of the journal didn't do its work.
 #[derive(Clone, Copy, Debug, PartialEq, Eq, Error)]
 pub enum Refusal {
-    /// Memory ran out before the first device call: nothing changed.
+    /// Memory ran out: nothing was written.
     #[error("100 Memory")]
     Memory,
     /// The batch doesn't fit into what is left of the area: nothing changed.
     #[error("121 Full")]
     Full,
-    /// A device call failed before: the journal answers so until it is opened again.
+    /// A device call failed before: the journal answers so until it is opened again, and leaves the disk alone.
     #[error("122 Broken")]
     Broken,
+    /// The area holds no batches: an open gate isn't followed by a batch.
+    #[error("123 Damaged")]
+    Damaged,
     /// A device call failed in this call.
     #[error(transparent)]
     Device(DiskError),
 }
 
 impl Refusal {
-    ghost use Rattle.gate_journal.specs.Refusal.{number_of};
+    ghost use Rattle.gate_journal.specs.Refusal.{IsOfDevice, number_of};
+
+    /// Whether it is the device's.
+    pub fn is_of_device(self) -> bool
+        ensures { IsTrue result ↔ IsOfDevice self }
+    {
+        matches!(self, Refusal::Device(_))
+    }
 
     /// The refusal's number, but for a disk that has stopped, which has none.
     pub fn number(self) -> Option<u16>
@@ -33,6 +43,7 @@ impl Refusal {
             Refusal::Memory => Some(100),
             Refusal::Full => Some(121),
             Refusal::Broken => Some(122),
+            Refusal::Damaged => Some(123),
             Refusal::Device(error) => error.number(),
         }
     }

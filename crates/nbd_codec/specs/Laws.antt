@@ -26,6 +26,10 @@ NeedsSome find = find [] ≡ More
 abbrev pub IsAtMost : {A : Type 0} → ℕ → (A → List ℕ) → (A → Type 0) → Type 0
 IsAtMost {A = A} len spelling Fits = (x : A) → Fits x → length (spelling x) ≤ len
 
+-- no spelling has fewer bytes
+abbrev pub IsAtLeast : {A : Type 0} → ℕ → (A → List ℕ) → (A → Type 0) → Type 0
+IsAtLeast {A = A} len spelling Fits = (x : A) → Fits x → len ≤ length (spelling x)
+
 -- what is found is what is spelled at the front of the bytes: a value, a proper front of one, or what no value begins with
 pub record IsSpelled {A : Type 0} (spelling : A → List ℕ) (Fits : A → Type 0) (find : List ℕ → Reading A) : Type 0 where
   pub value : (bytes : List ℕ) (x : A) (taken : ℕ) → AreBytes bytes → find bytes ≡ Value x taken → Takes spelling Fits bytes x taken

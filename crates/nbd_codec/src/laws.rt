@@ -6,7 +6,7 @@ ghost use Rattle.nbd_codec.specs.ClientOption.{spelling as option_spelling, IsOp
 ghost use Rattle.nbd_codec.specs.OptionReply.{export_spelling};
 ghost use Rattle.nbd_codec.specs.Request.{spelling as request_spelling, IsRequest, request_in};
 ghost use Rattle.nbd_codec.specs.Reply.{spelling as reply_spelling};
-ghost use Rattle.nbd_codec.specs.Laws.{AreApart, IsAtMost, IsKept, IsReplyOf, IsSpelled, NeedsSome, NumberedFits, numbered_spelling};
+ghost use Rattle.nbd_codec.specs.Laws.{AreApart, IsAtLeast, IsAtMost, IsKept, IsReplyOf, IsSpelled, NeedsSome, NumberedFits, numbered_spelling};
 
 use crate::constants::*;
 
@@ -17,16 +17,19 @@ pub fn client_flags_are_apart()
     ensures kept { IsKept flags_in }
     ensures empty { NeedsSome flags_in }
     ensures spelled { IsSpelled flags_spelling AreFlags flags_in }
+    ensures long { IsAtLeast CLIENT_FLAGS_LEN flags_spelling AreFlags }
     ensures short { IsAtMost CLIENT_FLAGS_LEN flags_spelling AreFlags }
 {}
 
-/// No spelling of an option begins another, or has more bytes than a header and the most data; what is
-/// found at the front stays and is what is spelled there, and nothing is found where nothing came.
+/// No spelling of an option begins another, has fewer bytes than a header, or more than that and the
+/// most data; what is found at the front stays and is what is spelled there, and nothing is found where
+/// nothing came.
 pub fn options_are_apart()
     ensures apart { AreApart option_spelling IsOption }
     ensures kept { IsKept option_in }
     ensures empty { NeedsSome option_in }
     ensures spelled { IsSpelled option_spelling IsOption option_in }
+    ensures long { IsAtLeast OPTION_HEADER option_spelling IsOption }
     ensures short { IsAtMost (OPTION_HEADER + MAX_OPTION_DATA) option_spelling IsOption }
 {}
 
@@ -41,9 +44,9 @@ pub fn exports_are_apart()
         AreApart (λ size. export_spelling size no_zeroes) (λ size. size < 2 ^ 64) }
 {}
 
-/// No spelling of a request begins another, or has more bytes than a header and the longest payload;
-/// what is found at the front stays and is what is spelled there, and nothing is found where nothing
-/// came.
+/// No spelling of a request begins another, has fewer bytes than a header, or more than that and the
+/// longest payload; what is found at the front stays and is what is spelled there, and nothing is found
+/// where nothing came.
 pub fn requests_are_apart()
     ensures apart { (max_payload : ℕ) → max_payload < 2 ^ 32 →
         AreApart request_spelling (IsRequest max_payload) }
@@ -51,6 +54,8 @@ pub fn requests_are_apart()
     ensures empty { (max_payload : ℕ) → NeedsSome (request_in max_payload) }
     ensures spelled { (max_payload : ℕ) → max_payload < 2 ^ 32 →
         IsSpelled request_spelling (IsRequest max_payload) (request_in max_payload) }
+    ensures long { (max_payload : ℕ) →
+        IsAtLeast REQUEST_HEADER request_spelling (IsRequest max_payload) }
     ensures short { (max_payload : ℕ) →
         IsAtMost (REQUEST_HEADER + max_payload) request_spelling (IsRequest max_payload) }
 {}

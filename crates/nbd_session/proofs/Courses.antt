@@ -1,6 +1,6 @@
 -- How a session goes through its input, turn by turn.
-use Rattle.std.proofs.Common.{◌≡◌, ℕ, ◌+◌, ◌-◌, ◌<◌, ◌≤◌, true, false, suc, zero, is_some, nat_lt, Some, None, Option, List, [], ◌++◌, length, length-drop, take, drop, refl, sym, ◌∙◌, ap, arith, inl, inr}
-use Rattle.std.proofs.lemmas.Bool.{cond-true, cond-false, cases_Bool, cases_lt}
+use Rattle.std.proofs.Common.{◌≡◌, ℕ, ◌+◌, ◌-◌, ◌<◌, ◌≤◌, true, false, suc, zero, is_some, Some, None, Option, List, [], ◌++◌, length, length-drop, take, drop, refl, sym, ◌∙◌, ap, arith, inl, inr}
+use Rattle.std.proofs.lemmas.Bool.{cond-true, cond-false, cases_Bool, le-ltb, lt-ltb}
 use Rattle.std.proofs.lemmas.Bool.Decides.{nat_tests}
 use Rattle.std.proofs.lemmas.List.{drop-drop, drop_all, take_all}
 use Rattle.std.specs.Option.{option_to_list}
@@ -8,26 +8,18 @@ use Rattle.nbd_session.specs.declared.session.TheConstants.{LIMIT_IN_FLIGHT}
 use Rattle.nbd_session.specs.declared.phase.Phase.{Phase}
 use Rattle.nbd_session.specs.declared.phase.Phase.TheVariants.{Greeted, Negotiating, Skipping, Transmitting, Leaving, Over}
 use Rattle.nbd_session.specs.declared.demand.Wanted.{Wanted}
-use Rattle.nbd_session.specs.Session.{State, Course, IsDone, Settles, after_any, after_turn, more_in_flight, play, step, taken_from, left_to_take}
+use Rattle.nbd_session.specs.Session.{State, Course, IsDone, Settles, after_any, after_turn, is_free, limit_in_flight, more_in_flight, play, step, taken_from, left_to_take}
 use Rattle.nbd_session.specs.Turn.{Turned, asked_view, is_over, phase_after, turn_in}
 
--- one turn more
-pub play_more : (n : ℕ) (c : Course) {d e : Course} → play n c ≡ d → step d ≡ e → play (suc n) c ≡ e
-play_more zero c there one = ap step there ∙ one
-play_more (suc n) c there one = play_more n (step c) there one
+-- fewer requests are in flight than may be, or not
+pub free_below : (in_flight : ℕ) → in_flight < LIMIT_IN_FLIGHT → is_free limit_in_flight in_flight ≡ true
+free_below in_flight less = lt-ltb in_flight LIMIT_IN_FLIGHT less
 
--- at the limit no turn comes
-pub limited : (c : Course) → LIMIT_IN_FLIGHT ≤ c.session.in_flight → step c ≡ c
-unfolding step
-limited c full = grind (arith, nat_tests)
+pub full_from : (in_flight : ℕ) → LIMIT_IN_FLIGHT ≤ in_flight → is_free limit_in_flight in_flight ≡ false
+full_from in_flight full = le-ltb in_flight LIMIT_IN_FLIGHT full
 
--- the turn that comes
-pub turns : (c : Course) (turn : Option Turned) → c.session.in_flight < LIMIT_IN_FLIGHT → turn_in c.session.export c.session.phase c.session.kept ≡ turn → step c ≡ after_any c turn
-unfolding step
-turns c turn free is = cond-true (nat_lt c.session.in_flight LIMIT_IN_FLIGHT) (after_any c (turn_in c.session.export c.session.phase c.session.kept)) c (grind (arith, nat_tests)) ∙ ap (after_any c) is
-
--- once the session is over none comes
-over_turn : (c : Course) (phase : Phase) → is_over phase ≡ true → turn_in c.session.export phase c.session.kept ≡ None
+-- once the session is over no turn comes
+pub over_turn : (c : Course) (phase : Phase) → is_over phase ≡ true → turn_in c.session.export phase c.session.kept ≡ None
 unfolding turn_in
 over_turn c Greeted over = absurd cc
 over_turn c (Negotiating no_zeroes) over = absurd cc
@@ -36,12 +28,34 @@ over_turn c Transmitting over = absurd cc
 over_turn c Leaving over = refl
 over_turn c Over over = refl
 
-pub over_stays : (c : Course) → is_over c.session.phase ≡ true → step c ≡ c
-over_stays c over =
-    elim (cases_Bool (nat_lt c.session.in_flight LIMIT_IN_FLIGHT)) [
-      | inl free ↦ turns c None (grind (arith, nat_tests)) (over_turn c c.session.phase over)
-      | inr full ↦ limited c (grind (arith, nat_tests))
-    ]
+module _ (limit : Option ℕ) where
+  -- one turn more
+  pub play_more : (n : ℕ) (c : Course) {d e : Course} → play limit n c ≡ d → step limit d ≡ e → play limit (suc n) c ≡ e
+  play_more zero c there one = ap (step limit) there ∙ one
+  play_more (suc n) c there one = play_more n (step limit c) there one
+
+  -- at the limit no turn comes
+  pub limited : (c : Course) → is_free limit c.session.in_flight ≡ false → step limit c ≡ c
+  unfolding step
+  limited c full = cond-false (is_free limit c.session.in_flight) (after_any c (turn_in c.session.export c.session.phase c.session.kept)) c full
+
+  -- the turn that comes
+  pub turns : (c : Course) (turn : Option Turned) → is_free limit c.session.in_flight ≡ true → turn_in c.session.export c.session.phase c.session.kept ≡ turn → step limit c ≡ after_any c turn
+  unfolding step
+  turns c turn free is = cond-true (is_free limit c.session.in_flight) (after_any c (turn_in c.session.export c.session.phase c.session.kept)) c free ∙ ap (after_any c) is
+
+  -- a session that is over stays
+  pub over_stays : (c : Course) → is_over c.session.phase ≡ true → step limit c ≡ c
+  over_stays c over =
+      elim (cases_Bool (is_free limit c.session.in_flight)) [
+        | inl free ↦ turns c None free (over_turn c c.session.phase over)
+        | inr full ↦ limited c full
+      ]
+
+  -- where no turn comes, the course stays
+  pub done_stays : (c : Course) → IsDone limit c → step limit c ≡ c
+  done_stays c (inl full) = limited c full
+  done_stays c (inr none) = elim (cases_Bool (is_free limit c.session.in_flight)) [ inl free ↦ turns c None free none | inr full ↦ limited c full ]
 
 pub is_over-phase_after : (phase : Phase) (in_flight : ℕ) → is_over (phase_after phase in_flight) ≡ is_over phase
 is_over-phase_after Greeted in_flight = refl
@@ -60,15 +74,15 @@ abbrev pub turned : State → Turned → State
 turned s turn = record s { phase = phase_after turn.phase s.in_flight; output = s.output ++ turn.output }
 
 module _ (s : State) (taken : ℕ) (turn : Turned) (free : s.in_flight < LIMIT_IN_FLIGHT) (is : turn_in s.export s.phase (drop taken s.kept) ≡ Some turn) where
-  next : step (taken_from s taken None) ≡ after_turn (taken_from s taken None) turn
-  next = turns (taken_from s taken None) (Some turn) free is
+  next : step limit_in_flight (taken_from s taken None) ≡ after_turn (taken_from s taken None) turn
+  next = turns limit_in_flight (taken_from s taken None) (Some turn) (free_below s.in_flight free) is
 
   -- a turn that ends the session
-  pub ends : is_over turn.phase ≡ true → step (taken_from s taken None) ≡ taken_from (turned s turn) (length s.kept) None
+  pub ends : is_over turn.phase ≡ true → step limit_in_flight (taken_from s taken None) ≡ taken_from (turned s turn) (length s.kept) None
   ends over = next ∙ cond-true (is_over turn.phase) _ _ over ∙ ap (λ (k : List ℕ). record { session = record (turned s turn) { kept = k }; asked = [] }) (sym (drop_all (length s.kept) s.kept (omega arith)))
 
   -- a turn that doesn't
-  pub goes_on : is_over turn.phase ≡ false → step (taken_from s taken None) ≡ taken_from (turned s turn) (taken + turn.taken) turn.asked
+  pub goes_on : is_over turn.phase ≡ false → step limit_in_flight (taken_from s taken None) ≡ taken_from (turned s turn) (taken + turn.taken) turn.asked
   goes_on open_still = next ∙ cond-false (is_over turn.phase) _ _ open_still
       ∙ ap (λ (k : List ℕ). record { session = record (turned s turn) { in_flight = more_in_flight s.in_flight turn.asked; kept = k }; asked = option_to_list turn.asked }) (drop-drop turn.taken taken s.kept)
 
@@ -83,13 +97,8 @@ less_over old new taken over open_still = grind (arith, nat_tests)
 pub less_taken : (old new : State) (taken count : ℕ) → is_over new.phase ≡ is_over old.phase → length new.kept ≡ length old.kept → 0 < count → taken + count ≤ length old.kept → left_to_take new (taken + count) < left_to_take old taken
 less_taken old new taken count same kept some within = grind (arith, nat_tests)
 
--- where no turn comes, the course stays
-pub done_stays : (c : Course) → IsDone c → step c ≡ c
-done_stays c (inl full) = limited c full
-done_stays c (inr none) = elim (cases_lt c.session.in_flight LIMIT_IN_FLIGHT) [ inl free ↦ turns c None free none | inr full ↦ limited c full ]
-
 -- turns that end where the session needs more, or asks something of the volume
-pub settled : (n : ℕ) (c d : Course) → play n c ≡ d → IsDone d → Settles c d
+pub settled : (n : ℕ) (c d : Course) → play limit_in_flight n c ≡ d → IsDone limit_in_flight d → Settles limit_in_flight c d
 settled n c d there done = record { turns = n; there = there; done = done }
 
 -- something was asked, or nothing

@@ -1,5 +1,5 @@
 -- What a piece leaves, what a reply leaves, and what it comes to.
-use Rattle.std.proofs.Common.{◌≡◌, inl, inr, ℕ, ◌+◌, ◌-◌, ◌<◌, ◌^◌, suc, zero, true, false, Bool, cond, nat_lt, nat_eq, None, List, [], ◌∷◌, ◌++◌, length, length-append, append_assoc, refl, sym, ◌∙◌, ap, subst, arith}
+use Rattle.std.proofs.Common.{◌≡◌, inl, inr, ℕ, ◌+◌, ◌-◌, ◌<◌, ◌^◌, suc, zero, true, false, Bool, cond, nat_lt, nat_eq, Option, None, List, [], ◌∷◌, ◌++◌, length, length-append, append_assoc, refl, sym, ◌∙◌, ap, subst, arith}
 use Rattle.std.proofs.lemmas.Bool.{cases_Bool, cases_lt, cond-true, cond-false, le-ltb}
 use Rattle.std.proofs.lemmas.List.{append-nil}
 use Rattle.nbd_codec.specs.declared.constants.TheConstants.{CLIENT_FLAGS_LEN, MAX_OPTION_DATA, OPTION_HEADER, REQUEST_HEADER}
@@ -19,9 +19,10 @@ use Rattle.nbd_session.specs.Laws.{FeedsTakeAll, HistoriesAreLawful, NeedyGoOn}
 use Rattle.nbd_session.specs.Lawful.{Ended, GoesOnIn, History, IsLawful, IsQuiet, NeedsMore, Stands, StandsIn, Transmission, handed_out, most_kept, replied, sent_by}
 use Rattle.nbd_session.specs.Negotiation.{Haggled, IsOver, Negotiation}
 use Rattle.nbd_session.specs.Replies.{answered, is_owed}
-use Rattle.nbd_session.specs.Session.{Course, State, fed, play, step}
+use Rattle.nbd_session.specs.Session.{Course, State, fed, limit_in_flight, play, step}
 use Rattle.nbd_session.specs.Transcript.{Left}
 use Rattle.nbd_session.specs.Turn.{flags_turn, is_over, option_turn, phase_after, request_turn, skip_turn, turn_in}
+use Rattle.nbd_session.proofs.Courses.{free_below}
 use Rattle.nbd_session.proofs.Cuttings.{Keeps, skip_passed, skip_passing, step_keeps}
 use Rattle.nbd_session.proofs.Lawfulness.{talks_came}
 
@@ -133,11 +134,11 @@ stands_replied s h reply stands = replied_at s h reply s.phase stands
 
 -- ---- what a piece leaves
 
-play_keeps : (n : ℕ) (c d : Course) → AreBytes c.session.kept → play n c ≡ d → Keeps c.session d.session
-play_keeps zero c d bytes there = subst (λ x. Keeps c.session x.session) there (record { bytes = bytes; export = refl })
-play_keeps (suc n) c d bytes there =
-    let one = step_keeps c bytes in
-    let later = play_keeps n (step c) d one.bytes there in
+pub play_keeps : (limit : Option ℕ) (n : ℕ) (c d : Course) → AreBytes c.session.kept → play limit n c ≡ d → Keeps c.session d.session
+play_keeps limit zero c d bytes there = subst (λ x. Keeps c.session x.session) there (record { bytes = bytes; export = refl })
+play_keeps limit (suc n) c d bytes there =
+    let one = step_keeps limit c bytes in
+    let later = play_keeps limit n (step limit c) d one.bytes there in
     record { bytes = later.bytes; export = later.export ∙ one.export }
 
 shorter : {A : Type 0} (spelling : A → List ℕ) (Fits : A → Type 0) (most : ℕ) (bytes : List ℕ) → IsAtMost most spelling Fits → IsProperFront spelling Fits bytes → length bytes < most
@@ -188,10 +189,10 @@ module _ (flags_spelled : IsSpelled flags_spelling AreFlags flags_in) (flags_sho
 
   pub feeds_take_all : FeedsTakeAll
   feeds_take_all old new piece asked bytes small feeds open_still free =
-      let keeps = play_keeps feeds.turns (fed old piece) (record { session = new; asked = asked }) bytes feeds.there in
+      let keeps = play_keeps limit_in_flight feeds.turns (fed old piece) (record { session = new; asked = asked }) bytes feeds.there in
       let small_too : new.export.max_payload < 2 ^ 32 = subst (λ e. e.max_payload < 2 ^ 32) (sym keeps.export) small in
       let more : NeedsMore new.phase new.export.max_payload new.kept = elim feeds.done [
-        | inl full ↦ absurd (omega arith)
+        | inl full ↦ let wrong = sym (free_below new.in_flight free) ∙ full in absurd cc
         | inr none ↦ none_at new.export new.phase new.kept keeps.bytes small_too open_still none
       ] in
       (more, bounded new.phase new.export.max_payload new.kept open_still more)

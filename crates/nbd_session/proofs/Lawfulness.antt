@@ -1,5 +1,5 @@
 -- What a session puts out stays lawful, turn by turn.
-use Rattle.std.proofs.Common.{◌≡◌, inl, inr, ℕ, ◌+◌, ◌-◌, ◌<◌, ◌^◌, suc, zero, true, false, Bool, nat_lt, nat_eq, cond, None, List, [], ◌∷◌, ◌++◌, length, take, drop, length-append, length-take, take-append-drop, append_assoc, refl, sym, ◌∙◌, ap, subst, arith}
+use Rattle.std.proofs.Common.{◌≡◌, inl, inr, ℕ, ◌+◌, ◌-◌, ◌<◌, ◌^◌, suc, zero, true, false, Bool, nat_lt, nat_eq, cond, Option, None, List, [], ◌∷◌, ◌++◌, length, take, drop, length-append, length-take, take-append-drop, append_assoc, refl, sym, ◌∙◌, ap, subst, arith}
 use Rattle.std.specs.Prelude.{All}
 use Rattle.std.specs.List.{flat_map}
 use Rattle.std.specs.Option.{option_to_list}
@@ -23,16 +23,14 @@ use Rattle.nbd_codec.specs.Laws.{IsSpelled}
 use Rattle.nbd_codec.specs.OptionReply.{option_reply_spelling}
 use Rattle.nbd_codec.specs.Reply.{PlainReply, Done, Refused, spelling as reply_spelling}
 use Rattle.nbd_codec.specs.Request.{IsRequest, PlainRequest, Read, Write, Disc, Flush, Other, head_of, request_in, spelling as request_spelling}
-use Rattle.nbd_session.specs.declared.session.TheConstants.{LIMIT_IN_FLIGHT}
 use Rattle.nbd_session.specs.declared.negotiation.Export.{Export}
 use Rattle.nbd_session.specs.declared.phase.Phase.{Phase}
 use Rattle.nbd_session.specs.declared.phase.Phase.TheVariants.{Greeted, Negotiating, Skipping, Transmitting, Leaving, Over}
 use Rattle.nbd_session.specs.Answers.{answer_to}
 use Rattle.nbd_session.specs.Demand.{Asked}
-use Rattle.nbd_session.specs.Lawful.{Ended, History, IsQuiet, Stands, StandsIn, Transmission, sent_by}
-use Rattle.nbd_session.specs.Laws.{FeedsLawfully}
+use Rattle.nbd_session.specs.Lawful.{Ended, History, IsQuiet, Stands, StandsIn, Transmission, fed_and_asked, sent_by}
 use Rattle.nbd_session.specs.Negotiation.{Begins, Effect, Ends, Haggled, Haggles, HasLast, IsOver, IsPassing, IsTold, Negotiation, Told, effect_of, passed_len, told_answer, told_spelling}
-use Rattle.nbd_session.specs.Session.{Course, State, after_any, after_turn, fed, play, step}
+use Rattle.nbd_session.specs.Session.{Course, Settles, State, after_any, after_turn, fed, is_free, play, step}
 use Rattle.nbd_session.specs.Transcript.{Came, EndsSo, Event, IsDisc, Left, Reached, Reaches, Talks, asked_if, asked_in, own_reply, reached, replies_in, shown}
 use Rattle.nbd_session.proofs.Courses.{limited, turns}
 use Rattle.nbd_session.proofs.Cuttings.{passing, skip_none, skip_passed, skip_passing, step_keeps}
@@ -452,13 +450,13 @@ module _ (c : Course) (h : History) where
 -- ---- pieces
 
 module _ (flags_spelled : IsSpelled flags_spelling AreFlags flags_in) (options_spelled : IsSpelled option_spelling IsOption option_in)
-    (requests_spelled : (max_payload : ℕ) → max_payload < 2 ^ 32 → IsSpelled request_spelling (IsRequest max_payload) (request_in max_payload)) where
-  step_stood : (c : Course) (h : History) → AreBytes c.session.kept → c.session.export.max_payload < 2 ^ 32 → Stood c h → Stood (step c) h
+    (requests_spelled : (max_payload : ℕ) → max_payload < 2 ^ 32 → IsSpelled request_spelling (IsRequest max_payload) (request_in max_payload)) (limit : Option ℕ) where
+  step_stood : (c : Course) (h : History) → AreBytes c.session.kept → c.session.export.max_payload < 2 ^ 32 → Stood c h → Stood (step limit c) h
   unfolding turn_in
   step_stood c h bytes small stood =
-      elim (cases_lt c.session.in_flight LIMIT_IN_FLIGHT) [
-        | inl free ↦ subst (λ x. Stood x h) (sym (turns c _ free refl)) (by_phase c.session.phase refl stood)
-        | inr full ↦ subst (λ x. Stood x h) (sym (limited c full)) stood
+      elim (cases_Bool (is_free limit c.session.in_flight)) [
+        | inl free ↦ subst (λ x. Stood x h) (sym (turns limit c _ free refl)) (by_phase c.session.phase refl stood)
+        | inr full ↦ subst (λ x. Stood x h) (sym (limited limit c full)) stood
       ]
     where
       at : (phase : Phase) → StandsIn phase c.session (record h { asked = h.asked ++ c.asked }) → Stood (after_any c (turn_in c.session.export phase c.session.kept)) h
@@ -472,14 +470,16 @@ module _ (flags_spelled : IsSpelled flags_spelling AreFlags flags_in) (options_s
       by_phase : (phase : Phase) → c.session.phase ≡ phase → StandsIn phase c.session (record h { asked = h.asked ++ c.asked }) → Stood (after_any c (turn_in c.session.export c.session.phase c.session.kept)) h
       by_phase phase is stands = subst (λ p. Stood (after_any c (turn_in c.session.export p c.session.kept)) h) (sym is) (at phase stands)
 
-  play_stood : (n : ℕ) (c d : Course) (h : History) → AreBytes c.session.kept → c.session.export.max_payload < 2 ^ 32 → play n c ≡ d → Stood c h → Stood d h
+  play_stood : (n : ℕ) (c d : Course) (h : History) → AreBytes c.session.kept → c.session.export.max_payload < 2 ^ 32 → play limit n c ≡ d → Stood c h → Stood d h
   play_stood zero c d h bytes small there stood = subst (λ x. Stood x h) there stood
   play_stood (suc n) c d h bytes small there stood =
-      let keeps = step_keeps c bytes in
-      play_stood n (step c) d h keeps.bytes (subst (λ e. e.max_payload < 2 ^ 32) (sym keeps.export) small) there (step_stood c h bytes small stood)
+      let keeps = step_keeps limit c bytes in
+      play_stood n (step limit c) d h keeps.bytes (subst (λ e. e.max_payload < 2 ^ 32) (sym keeps.export) small) there (step_stood c h bytes small stood)
 
-  pub feeds_lawfully : FeedsLawfully
-  feeds_lawfully old new history piece asked bytes small open_still stands feeds =
+  -- so it does after any turns
+  pub settles_lawfully : (old new : State) (history : History) (piece : List ℕ) (asked : List Asked) → AreBytes (old.kept ++ piece) → old.export.max_payload < 2 ^ 32 → is_over old.phase ≡ false
+      → Stands old history → Settles limit (fed old piece) (record { session = new; asked = asked }) → Stands new (fed_and_asked history piece asked)
+  settles_lawfully old new history piece asked bytes small open_still stands feeds =
       let more : History = fed_more history piece in
       let first : Stood (fed old piece) more =
       subst (λ (a : List Asked). Stands (fed old piece).session (record more { asked = a })) (sym (append-nil history.asked)) (stands_more old.phase old history piece open_still stands) in

@@ -1,5 +1,5 @@
 -- What contracts see of a session, and how it goes through its input.
-use Rattle.std.specs.Prelude.{◌≡◌, ◌⊎◌, ℕ, ◌+◌, ◌-◌, ◌≤◌, suc, zero, Option, Some, None, List, [], ◌++◌, drop, length, nat_lt, if◌then◌else◌}
+use Rattle.std.specs.Prelude.{◌≡◌, ◌⊎◌, ℕ, ◌+◌, ◌-◌, suc, zero, Bool, true, false, Option, Some, None, List, [], ◌++◌, drop, length, nat_lt, if◌then◌else◌}
 use Rattle.std.specs.Option.{option_to_list}
 use Rattle.flush_barrier.specs.declared.session_id.SessionId.{SessionId}
 use Rattle.nbd_session.specs.declared.session.TheConstants.{LIMIT_IN_FLIGHT}
@@ -50,24 +50,33 @@ abbrev pub after_any : Course → Option Turned → Course
 after_any c (Some turn) = after_turn c turn
 after_any c None = c
 
+-- fewer requests are in flight than may be, if there is a limit
+abbrev pub is_free : Option ℕ → ℕ → Bool
+is_free None in_flight = true
+is_free (Some limit) in_flight = nat_lt in_flight limit
+
 -- one turn more, while fewer requests are in flight than may be
-unfoldable pub step : Course → Course
-step c = if nat_lt c.session.in_flight LIMIT_IN_FLIGHT then after_any c (turn_in c.session.export c.session.phase c.session.kept) else c
+unfoldable pub step : Option ℕ → Course → Course
+step limit c = if is_free limit c.session.in_flight then after_any c (turn_in c.session.export c.session.phase c.session.kept) else c
 
 -- so many turns
-abbrev pub play : ℕ → Course → Course
-play zero c = c
-play (suc n) c = play n (step c)
+abbrev pub play : Option ℕ → ℕ → Course → Course
+play limit zero c = c
+play limit (suc n) c = play limit n (step limit c)
 
 -- no turn comes: as many requests are in flight as may be, or the input has none
-abbrev pub IsDone : Course → Type 0
-IsDone c = (LIMIT_IN_FLIGHT ≤ c.session.in_flight) ⊎ (turn_in c.session.export c.session.phase c.session.kept ≡ None)
+abbrev pub IsDone : Option ℕ → Course → Type 0
+IsDone limit c = (is_free limit c.session.in_flight ≡ false) ⊎ (turn_in c.session.export c.session.phase c.session.kept ≡ None)
 
 -- after some turns no further one comes
-pub record Settles (from to : Course) : Type 0 where
+pub record Settles (limit : Option ℕ) (from to : Course) : Type 0 where
   pub turns : ℕ
-  pub there : play turns from ≡ to
-  pub done : IsDone to
+  pub there : play limit turns from ≡ to
+  pub done : IsDone limit to
+
+-- as many requests as may be in flight
+abbrev pub limit_in_flight : Option ℕ
+limit_in_flight = Some LIMIT_IN_FLIGHT
 
 -- the session with a further piece of input
 abbrev pub fed : State → List ℕ → Course
@@ -75,11 +84,15 @@ fed session piece = record { session = record session { kept = session.kept ++ p
 
 -- the piece leaves the session so, and asks this of the volume
 abbrev pub Feeds : State → List ℕ → State → List Asked → Type 0
-Feeds old piece new asked = Settles (fed old piece) (record { session = new; asked = asked })
+Feeds old piece new asked = Settles limit_in_flight (fed old piece) (record { session = new; asked = asked })
 
 -- the session before its first turn
 abbrev pub course_of : State → Course
 course_of session = record { session = session; asked = [] }
+
+-- the requests for the volume that stand whole in the input that a session has kept, in order
+abbrev pub Holds : State → List Asked → Type 0
+Holds session asked = (end : State) × Settles None (course_of session) (record { session = end; asked = asked })
 
 -- the session once so many bytes of its input are taken, and this is asked of the volume
 abbrev pub taken_from : State → ℕ → Option Asked → Course

@@ -16,6 +16,6 @@ mod transmission;
 mod turn;
 
 pub use demand::Demand;
-pub use laws::{cuttings_agree, feeds_are_lawful};
+pub use laws::{cuttings_agree, feeds_are_lawful, requests_are_held};
 pub use refusal::Refusal;
 pub use session::{LIMIT_IN_FLIGHT, Session};

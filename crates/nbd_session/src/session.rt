@@ -51,7 +51,7 @@ impl Model for Session {
 }
 
 impl Session {
-    ghost use Rattle.nbd_session.specs.Session.{Grows, State, course_of, left_to_take, step, taken_from};
+    ghost use Rattle.nbd_session.specs.Session.{Grows, State, course_of, left_to_take, limit_in_flight, step, taken_from};
 
     /// A session at an export of `size` bytes that takes payloads of up to `max_payload` bytes. The greeting waits to
     /// go out.
@@ -198,7 +198,7 @@ impl Session {
     fn turns(&mut self) -> Result<(usize, Option<Wanted>), AllocError>
         ensures grows { Grows self.old self.new }
         ensures taken { IfOk result (λ r. r.0 ≤ length self.old.kept) }
-        ensures settles { IfOk result (λ r. Settles (course_of self.old) (taken_from self.new r.0 (asked_view r.1))) }
+        ensures settles { IfOk result (λ r. Settles limit_in_flight (course_of self.old) (taken_from self.new r.0 (asked_view r.1))) }
         ensures inside { IfOk result (λ r. IfSome r.1 (λ w. IsAskedInside self.old.export.size (wanted_view w))) }
         ensures limit { IfOk result (λ r. IsSome r.1 → self.old.in_flight < LIMIT_IN_FLIGHT) }
     {
@@ -222,7 +222,7 @@ impl Session {
         requires free { self.old.in_flight < LIMIT_IN_FLIGHT }
         ensures grows { Grows self.old self.new }
         ensures plays { IfOk result (λ r. MatchOption r ((self.new ≡ self.old) × (turn_in self.old.export self.old.phase (drop taken self.old.kept) ≡ None))
-            (λ t. step (taken_from self.old taken None) ≡ taken_from self.new t.0 (asked_view t.1))) }
+            (λ t. step limit_in_flight (taken_from self.old taken None) ≡ taken_from self.new t.0 (asked_view t.1))) }
         ensures within { IfOk result (λ r. IfSome r (λ t. t.0 ≤ length self.old.kept)) }
         ensures advances { IfOk result (λ r. IfSome r (λ t. left_to_take self.new t.0 < left_to_take self.old taken)) }
         ensures inside { IfOk result (λ r. IfSome r (λ t. IfSome t.1 (λ w. IsAskedInside self.old.export.size (wanted_view w)))) }

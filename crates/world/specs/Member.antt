@@ -21,7 +21,7 @@ fronts_of m = record {
   known = m.known;
   applied = m.durable + vec_len m.writes;
   size = 4096 * vec_len m.blocks;
-  area_end = m.journal.start + m.journal.len;
+  area_end = m.journal.part.start + m.journal.part.len;
 }
 
 -- a front that it keeps is at most n

@@ -2,7 +2,7 @@ use Rattle.std.proofs.Common.{refl}
 use Rattle.nbd_codec.specs.Fields.{magic_at}
 use Rattle.nbd_codec.specs.ClientOption.{IsOption, option_at, option_view, spelling}
 use Rattle.nbd_codec.proofs.FindingLaws.{is_kept, is_one, is_spelled}
-use Rattle.nbd_codec.proofs.OptionLaws.{IsField-option, spelling_short}
+use Rattle.nbd_codec.proofs.OptionLaws.{IsField-option, spelling_len, spelling_short}
 use Rattle.nbd_codec.proofs.laws.options_are_apart.Goals as goal
 
 pub returns-clause-apart : goal.returns-clause-apart
@@ -20,3 +20,6 @@ returns-clause-spelled c = is_spelled option_at spelling IsOption IsField-option
 
 pub returns-clause-short : goal.returns-clause-short
 returns-clause-short c = spelling_short
+
+pub returns-clause-long : goal.returns-clause-long
+returns-clause-long c = λ option fits. spelling_len option

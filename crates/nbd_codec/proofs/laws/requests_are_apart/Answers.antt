@@ -2,7 +2,7 @@ use Rattle.std.proofs.Common.{refl}
 use Rattle.nbd_codec.specs.Fields.{magic_at}
 use Rattle.nbd_codec.specs.Request.{IsRequest, head_at, request_at, request_view, spelling}
 use Rattle.nbd_codec.proofs.FindingLaws.{is_kept, is_one, is_spelled}
-use Rattle.nbd_codec.proofs.RequestLaws.{IsField-request, spelling_short}
+use Rattle.nbd_codec.proofs.RequestLaws.{IsField-request, spelling_len, spelling_short}
 use Rattle.nbd_codec.proofs.laws.requests_are_apart.Goals as goal
 
 pub returns-clause-apart : goal.returns-clause-apart
@@ -20,3 +20,6 @@ returns-clause-spelled c = λ max small. is_spelled (request_at max) spelling (I
 
 pub returns-clause-short : goal.returns-clause-short
 returns-clause-short c = spelling_short
+
+pub returns-clause-long : goal.returns-clause-long
+returns-clause-long c = λ max request fits. spelling_len request

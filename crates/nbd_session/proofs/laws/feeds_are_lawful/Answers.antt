@@ -1,12 +1,13 @@
+use Rattle.nbd_session.specs.Session.{limit_in_flight}
 use Rattle.nbd_session.proofs.Endings.{feeds_take_all, histories_are_lawful, needy_go_on}
-use Rattle.nbd_session.proofs.Lawfulness.{feeds_lawfully}
+use Rattle.nbd_session.proofs.Lawfulness.{settles_lawfully}
 use Rattle.nbd_session.proofs.laws.feeds_are_lawful.Goals as goal
 
 pub returns-clause-lawful : goal.returns-clause-lawful
 returns-clause-lawful c = histories_are_lawful
 
 pub returns-clause-feeds : goal.returns-clause-feeds
-returns-clause-feeds c = feeds_lawfully c.client_flags_are_apart.ensures.spelled c.options_are_apart.ensures.spelled c.requests_are_apart.ensures.spelled
+returns-clause-feeds c = settles_lawfully c.client_flags_are_apart.ensures.spelled c.options_are_apart.ensures.spelled c.requests_are_apart.ensures.spelled limit_in_flight
 
 pub returns-clause-all : goal.returns-clause-all
 returns-clause-all c =

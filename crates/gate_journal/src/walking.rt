@@ -1,0 +1,95 @@
+// From batch to batch through a part of a disk.
+ghost use Rattle.std.specs.Prelude.{◌≡◌, ◌+◌, ◌^◌, ◌<◌, ◌≤◌, List, length, max, IfOk, IfErr, IsErrOf};
+ghost use Rattle.disk_model.specs.Part.{inside};
+ghost use Rattle.gate_journal.specs.Batch.{AreBatches, Batch, HoldsBatches, IsDamaged, batch_size};
+ghost use Rattle.gate_journal.specs.Reading.{Begins};
+ghost use Rattle.gate_journal.specs.Refusal.{HasCause, IsOfReading};
+ghost use Rattle.gate_journal.specs.Runs.{OnlyReads};
+
+use crate::batch::{BATCH_HEADER, Batch, IMAGE_RECORD, MAX_FRONT};
+use crate::reading::read_batch;
+use crate::refusal::Refusal;
+use disk_model::{Disk, Part};
+use std::alloc::Global;
+
+/// A place behind batches, and the last one's front.
+#[derive(Clone, Copy)]
+pub(crate) struct Place {
+    pub(crate) end: u64,
+    pub(crate) front: u64,
+}
+
+impl Place {
+    /// The place behind a batch that stands here.
+    fn behind(self, batch: &Batch) -> Place
+        requires { self.end + batch_size (length batch.now.images) < 2 ^ 64 }
+        ensures end { result.end ≡ self.end + batch_size (length batch.now.images) }
+        ensures front { result.front ≡ batch.now.front }
+    {
+        Place {
+            end: self.end + BATCH_HEADER + IMAGE_RECORD * batch.images().len() as u64,
+            front: batch.front(),
+        }
+    }
+}
+
+/// Finds the place behind the last batch. It keeps no batch.
+pub(crate) fn find_end<D: Disk>(
+    alloc: Global,
+    part: Part,
+    blocks: u32,
+    disk: &mut D,
+    before: u64,
+) -> Result<Place, Refusal>
+    requires on_disk { part.start + part.len ≤ D.size disk.old }
+    requires room { 1 ≤ part.len }
+    ensures held { D.keeps_model → IfOk result (λ place. (batches : List Batch)
+        × Begins blocks before batches (inside part (D.gives disk.old)) place.end place.front
+        × HoldsBatches blocks before batches (inside part (D.gives disk.old))) }
+    ensures within { IfOk result (λ place. place.end + 1 ≤ part.len) }
+    ensures fronts { IfOk result (λ place. (before ≤ place.front) × (place.front ≤ max before MAX_FRONT)) }
+    ensures damaged { D.keeps_model → IsErrOf result Refusal.Damaged → IsDamaged blocks before (inside part (D.gives disk.old)) }
+    ensures reads { D.keeps_model → OnlyReads D.gives D.may_leave_now D.moment D.may_have_left_since disk.old disk.new }
+    ensures size { D.size disk.new ≡ D.size disk.old }
+    ensures told { IfErr result IsOfReading }
+    ensures cause { HasCause (D.failures disk.old) (D.failures disk.new) result }
+{
+    let mut place = Place {
+        end: 0,
+        front: before,
+    };
+    while let Some(batch) = read_batch(alloc, part, blocks, disk, place.end, place.front)? {
+        place = place.behind(&batch);
+    }
+    Ok(place)
+}
+
+/// Reads all batches.
+pub(crate) fn read_batches<D: Disk>(
+    alloc: Global,
+    part: Part,
+    blocks: u32,
+    disk: &mut D,
+    before: u64,
+) -> Result<Vec<Batch>, Refusal>
+    requires on_disk { part.start + part.len ≤ D.size disk.old }
+    requires room { 1 ≤ part.len }
+    ensures are { IfOk result (λ batches. AreBatches blocks before batches.items) }
+    ensures held { D.keeps_model → IfOk result (λ batches. HoldsBatches blocks before batches.items (inside part (D.gives disk.old))) }
+    ensures damaged { D.keeps_model → IsErrOf result Refusal.Damaged → IsDamaged blocks before (inside part (D.gives disk.old)) }
+    ensures reads { D.keeps_model → OnlyReads D.gives D.may_leave_now D.moment D.may_have_left_since disk.old disk.new }
+    ensures size { D.size disk.new ≡ D.size disk.old }
+    ensures told { IfErr result IsOfReading }
+    ensures cause { HasCause (D.failures disk.old) (D.failures disk.new) result }
+{
+    let mut batches = Vec::new(alloc);
+    let mut place = Place {
+        end: 0,
+        front: before,
+    };
+    while let Some(batch) = read_batch(alloc, part, blocks, disk, place.end, place.front)? {
+        place = place.behind(&batch);
+        batches.push(batch)?;
+    }
+    Ok(batches)
+}
