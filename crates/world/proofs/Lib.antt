@@ -1,3 +1,5 @@
+mod FirstLemmas
+mod BlockLemmas
 mod Lists
 mod MusterSteps
-mod PieceSums
+mod ImageLemmas

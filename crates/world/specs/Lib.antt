@@ -1,3 +1,5 @@
+pub mod Blocks
+pub mod Commit
 pub mod Member
 pub mod Muster
 pub mod Refusal

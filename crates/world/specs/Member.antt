@@ -1,8 +1,13 @@
 -- What the world sees of a member.
-use Rattle.std.specs.Prelude.{◌≡◌, ℕ, ◌+◌, ◌*◌, ◌<◌, ◌≤◌, IsSome, None, vec_len}
+use Rattle.std.specs.Prelude.{◌≡◌, ℕ, ◌+◌, ◌-◌, ◌*◌, ◌<◌, ◌≤◌, List, [], ◌∷◌, ◌++◌, map, take, drop, fold, IsSome, None, vec_len}
 use Rattle.std.specs.VecDeque.{deque_len}
 use Rattle.std.specs.Option.{ForSome}
+use Rattle.volume.specs.Writes.{Placed, patched}
+use Rattle.world.specs.Blocks.{flat}
+use Rattle.world.specs.Waiting.{first_learned}
 use Rattle.world.specs.declared.member.Member.{Member}
+use Rattle.world.specs.declared.member.Submit.{Submit}
+use Rattle.world.specs.declared.waiting.Waiting.{Waiting}
 
 -- its slot, its durable front, its known commit, its last applied write, the bytes of its volume, and where its journal ends on
 -- its disk
@@ -24,9 +29,48 @@ fronts_of m = record {
   area_end = m.journal.part.start + m.journal.part.len;
 }
 
+-- the volume at its durable front, its writes above that front in order, its submit link, and the ticket that comes next
+pub record Contents : Type 0 where
+  pub volume : List ℕ
+  pub writes : List Placed
+  pub submits : List Submit
+  pub ticket : ℕ
+
+abbrev pub contents_of : Member → Contents
+contents_of m = record {
+  volume = flat m.blocks.items;
+  writes = m.writes.items;
+  submits = m.submits.items;
+  ticket = m.next_ticket;
+}
+
+-- its volume at a front from the durable one to the last applied write
+abbrev pub volume_at : Member → ℕ → List ℕ
+volume_at m front = fold patched (contents_of m).volume (take (front - m.durable) (contents_of m).writes)
+
+-- a write goes to the end of the submit link, under the next ticket
+abbrev pub submitted : Placed → Contents → Contents
+submitted w c = record c { submits = c.submits ++ record { ticket = c.ticket; write = w } ∷ []; ticket = c.ticket + 1 }
+
+-- the write at the front of the submit link becomes the last applied one
+abbrev pub numbered : Contents → Contents
+numbered c = record c { writes = c.writes ++ map (λ submit. submit.write) (take 1 c.submits); submits = drop 1 c.submits }
+
+-- the first write above the durable front is done in the volume there
+abbrev pub committed : Contents → Contents
+committed c = record c { volume = fold patched c.volume (take 1 c.writes); writes = drop 1 c.writes }
+
 -- a front that it keeps is at most n
 abbrev pub KeepsWithin : ℕ → Member → Type 0
 KeepsWithin n m = ForSome m.kept (λ kept. kept.front ≤ n)
+
+-- the tokens that wait, the one that has waited longest first
+abbrev pub waiting_of : Member → List Waiting
+waiting_of m = m.waiting.items
+
+-- the first token under the ticket of each of these submitted writes learns the number
+abbrev pub all_learned : List Submit → ℕ → List Waiting → List Waiting
+all_learned submits n ws = fold (λ left submit. first_learned submit.ticket n left) ws submits
 
 -- how many tokens wait
 abbrev pub waiting_count : Member → ℕ

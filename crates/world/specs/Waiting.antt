@@ -1,6 +1,9 @@
 -- When a waiting token may be answered.
-use Rattle.std.specs.Prelude.{ℕ, Bool, true, false, Option, Some, None, nat_le}
-use Rattle.flush_barrier.specs.Owed.{Owed, OwedAt}
+use Rattle.std.specs.Prelude.{ℕ, Bool, false, Option, Some, None, nat_le, if◌then◌else◌, ◌==◌, List, [], ◌∷◌}
+use Rattle.flush_barrier.specs.Reply.{Answers}
+use Rattle.flush_barrier.specs.declared.error_code.ErrorCode.{ErrorCode}
+use Rattle.flush_barrier.specs.declared.reply.Reply.{Reply}
+use Rattle.flush_barrier.specs.declared.session_id.SessionId.{SessionId}
 use Rattle.world.specs.declared.waiting.Token.{Token}
 use Rattle.world.specs.declared.waiting.Token.TheVariants.{Write, Fua}
 use Rattle.world.specs.declared.waiting.Waiting.{Waiting}
@@ -25,3 +28,41 @@ paid_token floor (Fua token) = is_up_to floor token.number
 
 abbrev pub is_paid : ℕ → Waiting → Bool
 is_paid floor w = paid_token floor w.token
+
+-- these tokens without the first that passes the test
+abbrev pub without_first : (Waiting → Bool) → List Waiting → List Waiting
+without_first passes [] = []
+without_first passes (w ∷ ws) = if passes w then ws else w ∷ without_first passes ws
+
+-- the session that is owed a reply
+abbrev pub session_of : Token → SessionId
+session_of (Write token) = token.session
+session_of (Fua token) = token.session
+
+-- the cookie under which it is owed
+abbrev pub cookie_of : Token → ℕ
+cookie_of (Write token) = token.cookie
+cookie_of (Fua token) = token.cookie
+
+-- the reply is the token's, with this error or none, and no bytes
+abbrev pub IsReplyTo : Token → Option ErrorCode → Reply → Type 0
+IsReplyTo token error reply = Answers (session_of token) (cookie_of token) error [] reply
+
+-- a number that was learned stays
+abbrev pub number_or : ℕ → Option ℕ → ℕ
+number_or n None = n
+number_or n (Some m) = m
+
+-- a token of a write with FUA learns its first number
+abbrev pub numbered_token : ℕ → Token → Token
+numbered_token n (Write token) = Write token
+numbered_token n (Fua token) = Fua (record token { number = Some (number_or n token.number) })
+
+-- a waiting token learns the number of its write
+abbrev pub learned : ℕ → Waiting → Waiting
+learned n w = record w { number = Some n; token = numbered_token n w.token }
+
+-- the first of these tokens under the ticket learns the number
+abbrev pub first_learned : ℕ → ℕ → List Waiting → List Waiting
+first_learned ticket n [] = []
+first_learned ticket n (w ∷ ws) = if w.ticket == ticket then learned n w ∷ ws else w ∷ first_learned ticket n ws

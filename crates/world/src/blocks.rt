@@ -1,6 +1,9 @@
 //! The blocks of a volume, with writes over them.
-ghost use Rattle.std.specs.Prelude.{◌≡◌, ◌+◌, ◌*◌, ◌<◌, ◌≤◌, length, All, IfOk};
+ghost use Rattle.std.specs.Prelude.{◌≡◌, ◌≢◌, ℕ, ◌+◌, ◌*◌, ◌<◌, ◌≤◌, length, take, drop, All, IfOk};
+ghost use Rattle.std.specs.List.{slice_get};
 ghost use Rattle.gate_journal.specs.Batch.{AreImages};
+ghost use Rattle.volume.specs.Writes.{Placed, block_of, patched};
+ghost use Rattle.world.specs.Blocks.{flat, volume_after, AreImagesAfter};
 ghost use Rattle.world.specs.Writes.{IsInside};
 
 use gate_journal::Image;
@@ -14,6 +17,7 @@ pub(crate) type Block = [u8; BLOCK_SIZE as usize];
 pub(crate) fn block_after(blocks: &[Block], writes: &[Write], block: u32) -> Block
     requires block { block < length blocks.now }
     requires writes { All (IsInside (4096 * length blocks.now)) writes.now }
+    ensures { result ≡ block_of (volume_after blocks.now writes.now) block }
 {
     let mut bytes = blocks[block as usize];
     for write in writes {
@@ -33,7 +37,9 @@ pub(crate) fn read(
     requires few { length blocks.now ≤ 65536 }
     requires inside { offset + len ≤ 4096 * length blocks.now }
     requires writes { All (IsInside (4096 * length blocks.now)) writes.now }
-    ensures { IfOk result (λ bytes. length bytes.items ≡ len) }
+    ensures bytes { IfOk result (λ bytes. bytes.items
+        ≡ take len (drop offset (volume_after blocks.now writes.now))) }
+    ensures len { IfOk result (λ bytes. length bytes.items ≡ len) }
 {
     let mut bytes = Vec::with_capacity(alloc, len as usize)?;
     for piece in pieces(offset, len) {
@@ -51,7 +57,8 @@ pub(crate) fn images(
 ) -> Result<Vec<Image>, AllocError>
     requires few { length blocks.now ≤ 65536 }
     requires inside { IsInside (4096 * length blocks.now) write.now }
-    ensures { IfOk result (λ images. AreImages (length blocks.now) images.items) }
+    ensures images { IfOk result (λ images. AreImages (length blocks.now) images.items) }
+    ensures after { IfOk result (λ images. AreImagesAfter (flat blocks.now) write.now images.items) }
 {
     let mut images = Vec::new(alloc);
     for piece in pieces(write.offset(), write.payload().len() as u32) {
@@ -67,7 +74,13 @@ pub(crate) fn images(
 
 /// Keeps images as the blocks that are there.
 pub(crate) fn keep(blocks: &mut [Block], images: &[Image])
-    requires { All (λ image. image.block < length blocks.old) images.now }
+    requires { AreImages (length blocks.old) images.now }
+    ensures imaged { All (λ image. slice_get blocks.new image.block ≡ Some image.bytes) images.now }
+    ensures others { (b : ℕ) → All (λ image. image.block ≢ b) images.now
+        → slice_get blocks.new b ≡ slice_get blocks.old b }
+    ensures written { (w : Placed) → IsInside (4096 * length blocks.old) w
+        → AreImagesAfter (flat blocks.old) w images.now
+        → flat blocks.new ≡ patched (flat blocks.old) w }
 {
     for image in images {
         blocks[image.block as usize] = image.bytes;

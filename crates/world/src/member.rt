@@ -1,6 +1,8 @@
 ghost use Rattle.std.specs.Prelude.{◌≡◌, ◌+◌, ◌*◌, ◌<◌, ◌≤◌, vec_len, All};
 ghost use Rattle.std.specs.Option.{ForSome};
 ghost use Rattle.gate_journal.specs.Batch.{AreImages};
+ghost use Rattle.world.specs.Blocks.{flat};
+ghost use Rattle.world.specs.Commit.{IsOfFirst};
 ghost use Rattle.world.specs.Writes.{IsInside};
 
 use crate::blocks::{self, Block};
@@ -75,12 +77,15 @@ pub(crate) struct Member {
     ghost writes_inside: { All (IsInside (4096 * vec_len blocks)) writes.items },
     ghost submits_inside: { All (λ submit. IsInside (4096 * vec_len blocks) submit.write) submits.items },
     ghost committing: { ForSome commit (λ c. (durable < known) × AreImages journal.blocks c.images.items) },
+    ghost of_first: { IsOfFirst (flat blocks.items) writes.items commit },
     ghost kept_front: { ForSome kept (λ k. (known ≤ k.front) × (k.front ≤ durable + vec_len writes)) },
 }
 
 impl Member {
-    ghost use Rattle.std.specs.Prelude.{◌↔◌, None, IsTrue, IfOk, OnOk, OnErr, OnSome, length, vec_capacity};
-    ghost use Rattle.world.specs.Member.{fronts_of, waiting_count, CanBegin, HasSubmit, IsCommitting};
+    ghost use Rattle.std.specs.Prelude.{◌↔◌, ◌==◌, ℕ, [], ◌∷◌, ◌++◌, Some, None, IsTrue, MatchOption, IsSomeAnd, find, position, IfOk, IfErr, OnOk, OnErr, OnSome, length, take, drop, replicate, vec_capacity};
+    ghost use Rattle.std.specs.List.{slice_get};
+    ghost use Rattle.world.specs.Waiting.{is_committed, is_paid, without_first, first_learned, IsReplyTo};
+    ghost use Rattle.world.specs.Member.{fronts_of, contents_of, volume_at, submitted, numbered, committed, waiting_of, all_learned, waiting_count, CanBegin, HasSubmit, IsCommitting};
 
     /// A member at the slot with a volume of zeros, and an empty journal from the beginning of its disk. It is lent the
     /// disk here and wherever it writes.
@@ -92,6 +97,9 @@ impl Member {
     ) -> Result<Member, Refusal>
         requires { geometry.area ≤ D.size disk.old }
         ensures fronts { IfOk result (λ m. fronts_of m ≡ record { slot = slot; durable = 0; known = 0; applied = 0; size = 4096 * geometry.blocks; area_end = geometry.area }) }
+        ensures contents { IfOk result (λ m. contents_of m
+            ≡ record { volume = replicate (4096 * geometry.blocks) 0; writes = []; submits = []; ticket = 1 }) }
+        ensures waiting { IfOk result (λ m. waiting_of m ≡ []) }
         ensures size { D.size disk.new ≡ D.size disk.old }
         ensures idle { IfOk result (λ m. m.kept ≡ None) }
     {
@@ -129,7 +137,9 @@ impl Member {
         requires inside { offset + len ≤ (fronts_of self.now).size }
         requires above { (fronts_of self.now).durable ≤ front }
         requires applied { front ≤ (fronts_of self.now).applied }
-        ensures { IfOk result (λ bytes. length bytes.items ≡ len) }
+        ensures bytes { IfOk result (λ bytes. bytes.items
+            ≡ take len (drop offset (volume_at self.now front))) }
+        ensures len { IfOk result (λ bytes. length bytes.items ≡ len) }
     {
         let above = (front - self.durable) as usize;
         blocks::read(self.alloc, &self.blocks, &self.writes[..above], offset, len)
@@ -138,6 +148,14 @@ impl Member {
     /// Sends a write to the head under the next ticket, and keeps its token.
     pub(crate) fn submit(&mut self, token: Token, write: Write) -> Result<(), (Token, Unsubmitted)>
         requires { IsInside (fronts_of self.old).size write }
+        ensures ok { OnOk result (contents_of self.new ≡ submitted write (contents_of self.old)) }
+        ensures err { OnErr result (contents_of self.new ≡ contents_of self.old) }
+        ensures waits { OnOk result (waiting_of self.new ≡ waiting_of self.old
+            ++ record { ticket = (contents_of self.old).ticket; number = None; token = token } ∷ []) }
+        ensures waiting { OnErr result (waiting_of self.new ≡ waiting_of self.old) }
+        ensures token { IfErr result (λ e. e.0 ≡ token) }
+        ensures last_ticket { IfErr result (λ e. (e.1 ≡ Unsubmitted.LastTicket)
+            ↔ (9223372036854775807 < (contents_of self.old).ticket)) }
         ensures fronts { fronts_of self.new ≡ fronts_of self.old }
         ensures kept { self.new.kept ≡ None }
     {
@@ -181,6 +199,11 @@ impl Member {
         requires submit { HasSubmit self.old }
         ensures ok { OnOk result (fronts_of self.new ≡ record (fronts_of self.old) { applied = (fronts_of self.old).applied + 1 }) }
         ensures err { OnErr result (fronts_of self.new ≡ fronts_of self.old) }
+        ensures numbered { OnOk result (contents_of self.new ≡ numbered (contents_of self.old)) }
+        ensures contents { OnErr result (contents_of self.new ≡ contents_of self.old) }
+        ensures learned { OnOk result (waiting_of self.new ≡ all_learned
+            (take 1 (contents_of self.old).submits) (fronts_of self.new).applied (waiting_of self.old)) }
+        ensures waiting { OnErr result (waiting_of self.new ≡ waiting_of self.old) }
         ensures frame { record (fronts_of self.new) { applied = (fronts_of self.old).applied } ≡ fronts_of self.old }
         ensures grows { (fronts_of self.old).applied ≤ (fronts_of self.new).applied }
         ensures kept { self.new.kept ≡ None }
@@ -200,15 +223,26 @@ impl Member {
         requires inside { IsInside (fronts_of self.old).size submit.write }
         requires numbers { (fronts_of self.old).applied < 9223372036854775807 }
         ensures fronts { fronts_of self.new ≡ record (fronts_of self.old) { applied = (fronts_of self.old).applied + 1 } }
+        ensures waiting { waiting_of self.new
+            ≡ first_learned submit.ticket (fronts_of self.new).applied (waiting_of self.old) }
+        ensures contents { contents_of self.new
+            ≡ record (contents_of self.old) { writes = (contents_of self.old).writes ++ submit.write ∷ [] } }
         ensures kept { self.new.kept ≡ None }
     {
         let Submit { ticket, write } = submit;
         self.kept = None;
         self.writes.push_reserved(write);
         let number = self.applied();
-        if let Some(at) = self.waiting.iter().position(|w| w.ticket == ticket) {
+        if let Some(at) = self.under_ticket(ticket) {
             self.waiting[at].learn(number);
         }
+    }
+
+    /// Where the first token under the ticket waits.
+    fn under_ticket(&self, ticket: u64) -> Option<usize>
+        ensures { result ≡ position (λ w. w.ticket == ticket) (waiting_of self.now) }
+    {
+        self.waiting.iter().position(|w| w.ticket == ticket)
     }
 
     /// Whether a known write isn't durable yet, and no commit is under way.
@@ -222,6 +256,8 @@ impl Member {
     pub(crate) fn begin_commit(&mut self) -> Result<(), Refusal>
         requires { CanBegin self.old }
         ensures fronts { fronts_of self.new ≡ fronts_of self.old }
+        ensures contents { contents_of self.new ≡ contents_of self.old }
+        ensures waiting { waiting_of self.new ≡ waiting_of self.old }
         ensures kept { self.new.kept ≡ None }
         ensures ok { OnOk result (IsCommitting self.new) }
     {
@@ -249,6 +285,11 @@ impl Member {
         ensures size { D.size disk.new ≡ D.size disk.old }
         ensures ok { OnOk result (fronts_of self.new ≡ record (fronts_of self.old) { durable = (fronts_of self.old).durable + 1 }) }
         ensures err { OnErr result (fronts_of self.new ≡ fronts_of self.old) }
+        ensures committed { OnOk result (contents_of self.new ≡ committed (contents_of self.old)) }
+        ensures contents { OnErr result (contents_of self.new ≡ contents_of self.old) }
+        ensures waiting { waiting_of self.new ≡ waiting_of self.old }
+        ensures volumes { (front : ℕ) → (fronts_of self.new).durable ≤ front
+            → volume_at self.new front ≡ volume_at self.old front }
         ensures frame { record (fronts_of self.new) { durable = (fronts_of self.old).durable } ≡ fronts_of self.old }
         ensures kept { self.new.kept ≡ None }
     {
@@ -272,36 +313,64 @@ impl Member {
         requires known { (fronts_of self.old).known ≤ front }
         requires applied { front ≤ (fronts_of self.old).applied }
         ensures fronts { fronts_of self.new ≡ record (fronts_of self.old) { known = front } }
+        ensures contents { contents_of self.new ≡ contents_of self.old }
+        ensures waiting { waiting_of self.new ≡ waiting_of self.old }
         ensures kept { self.new.kept ≡ None }
     {
         self.kept = None;
         self.known = front.number();
     }
 
+    /// Where the first plain write with a number up to the known commit waits.
+    fn first_committed(&self) -> Option<usize>
+        ensures { result ≡ position (is_committed (fronts_of self.now).known) (waiting_of self.now) }
+    {
+        let known = self.known;
+        self.waiting.iter().position(|w| w.is_committed(known))
+    }
+
     /// The reply of the first plain write that waits with a number up to the known commit.
     pub(crate) fn settle_write(&mut self) -> Option<Reply>
         ensures fronts { fronts_of self.new ≡ fronts_of self.old }
+        ensures contents { contents_of self.new ≡ contents_of self.old }
+        ensures waiting { waiting_of self.new
+            ≡ without_first (is_committed (fronts_of self.old).known) (waiting_of self.old) }
+        ensures reply { MatchOption (find (is_committed (fronts_of self.old).known) (waiting_of self.old))
+            (result ≡ None) (λ w. IsSomeAnd result (IsReplyTo w.token None)) }
         ensures kept { self.new.kept ≡ self.old.kept }
         ensures fewer { OnSome result (waiting_count self.new + 1 ≡ waiting_count self.old) }
     {
         let known = self.known;
-        let at = self.waiting.iter().position(|w| w.is_committed(known))?;
+        let at = self.first_committed()?;
         Some(self.waiting.remove(at).settle(self.alloc, known))
+    }
+
+    /// Where the first write with FUA waits whose number the floor reaches.
+    fn first_paid(&self, floor: &Floor) -> Option<usize>
+        ensures { result ≡ position (is_paid floor.now) (waiting_of self.now) }
+    {
+        self.waiting.iter().position(|w| w.is_paid_by(floor))
     }
 
     /// The reply of the first write with FUA that waits with a number that the floor reaches.
     pub(crate) fn settle_fua(&mut self, floor: &Floor) -> Option<Reply>
         ensures fronts { fronts_of self.new ≡ fronts_of self.old }
+        ensures contents { contents_of self.new ≡ contents_of self.old }
+        ensures waiting { waiting_of self.new ≡ without_first (is_paid floor.now) (waiting_of self.old) }
+        ensures reply { MatchOption (find (is_paid floor.now) (waiting_of self.old))
+            (result ≡ None) (λ w. IsSomeAnd result (IsReplyTo w.token None)) }
         ensures kept { self.new.kept ≡ self.old.kept }
         ensures fewer { OnSome result (waiting_count self.new + 1 ≡ waiting_count self.old) }
     {
-        let at = self.waiting.iter().position(|w| w.is_paid_by(floor))?;
+        let at = self.first_paid(floor)?;
         Some(self.waiting.remove(at).settle_fua(self.alloc, floor))
     }
 
     /// Stops: no commit goes on, and nothing that was found on the board is used.
     pub(crate) fn stop(&mut self)
         ensures fronts { fronts_of self.new ≡ fronts_of self.old }
+        ensures contents { contents_of self.new ≡ contents_of self.old }
+        ensures waiting { waiting_of self.new ≡ waiting_of self.old }
         ensures kept { self.new.kept ≡ None }
     {
         self.stopped = true;
@@ -312,6 +381,10 @@ impl Member {
     /// The reply that refuses the token that has waited longest.
     pub(crate) fn refuse_next(&mut self, code: ErrorCode) -> Option<Reply>
         ensures fronts { fronts_of self.new ≡ fronts_of self.old }
+        ensures contents { contents_of self.new ≡ contents_of self.old }
+        ensures waiting { waiting_of self.new ≡ drop 1 (waiting_of self.old) }
+        ensures reply { MatchOption (slice_get (waiting_of self.old) 0)
+            (result ≡ None) (λ w. IsSomeAnd result (IsReplyTo w.token (Some code))) }
         ensures kept { self.new.kept ≡ self.old.kept }
         ensures fewer { OnSome result (waiting_count self.new + 1 ≡ waiting_count self.old) }
     {

@@ -1,4 +1,4 @@
-ghost use Rattle.std.specs.Prelude.{◌≡◌, true};
+ghost use Rattle.std.specs.Prelude.{◌≡◌, true, Some, None};
 
 use flush_barrier::{ErrorCode, Floor, OwedFua, OwedWrite, Reply};
 use std::alloc::Global;
@@ -14,8 +14,12 @@ pub(crate) enum Token {
 }
 
 impl Token {
+    ghost use Rattle.world.specs.Waiting.{IsReplyTo};
+
     /// The reply that refuses the write.
-    pub(crate) fn refuse(self, alloc: Global, code: ErrorCode) -> Reply {
+    pub(crate) fn refuse(self, alloc: Global, code: ErrorCode) -> Reply
+        ensures { IsReplyTo self (Some code) result }
+    {
         match self {
             Token::Write(token) => token.refuse(alloc, code),
             Token::Fua(token) => token.refuse(alloc, code),
@@ -44,10 +48,12 @@ pub(crate) struct Waiting {
 }
 
 impl Waiting {
-    ghost use Rattle.world.specs.Waiting.{is_committed, is_paid};
+    ghost use Rattle.world.specs.Waiting.{is_committed, is_paid, learned, IsReplyTo};
 
     /// Tells the token the number of its write, which it learns once.
-    pub(crate) fn learn(&mut self, n: u64) {
+    pub(crate) fn learn(&mut self, n: u64)
+        ensures { self.new ≡ learned n self.old }
+    {
         self.number = Some(n);
         if let Token::Fua(token) = &mut self.token
             && token.numbered().is_none()
@@ -91,6 +97,7 @@ impl Waiting {
     /// The reply that a plain write is committed.
     pub(crate) fn settle(self, alloc: Global, known: u64) -> Reply
         requires { is_committed known self ≡ true }
+        ensures { IsReplyTo self.token None result }
     {
         match self.into_token() {
             Token::Write(token) => token.settle(alloc),
@@ -104,6 +111,7 @@ impl Waiting {
     /// The reply that a write with FUA is on every counted disk.
     pub(crate) fn settle_fua(self, alloc: Global, floor: &Floor) -> Reply
         requires { is_paid floor.now self ≡ true }
+        ensures { IsReplyTo self.token None result }
     {
         match self.into_token() {
             Token::Write(token) => {

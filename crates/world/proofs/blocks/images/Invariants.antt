@@ -1,5 +1,8 @@
 use Rattle.std.proofs.Common.{◌≡◌, ◌++◌, length, map}
+use Rattle.std.specs.Prelude.{All}
 use Rattle.volume.specs.Pieces.{pieces_of}
+use Rattle.volume.specs.Writes.{patched}
+use Rattle.world.specs.Blocks.{flat, IsImageOf}
 use Rattle.world.proofs.blocks.images.Given as goal
 
 -- an image of the block of each piece so far
@@ -7,4 +10,5 @@ abbrev pub invariant-loop-piece : goal.invariant-loop-piece
 invariant-loop-piece l = record {
   whole : l.yielded ++ l.piece-iterator ≡ pieces_of l.write.offset (length l.write.bytes);
   blocks : map (λ image. image.block) l.images.items ≡ map (λ piece. piece.block) l.yielded;
+  bytes : All (IsImageOf (patched (flat l.blocks) l.write)) l.images.items;
 }

@@ -1,11 +1,13 @@
-use Rattle.std.proofs.Common.{◌≡◌, ◌++◌, vec_len}
-use Rattle.std.specs.Prelude.{sum_by}
+use Rattle.std.proofs.Common.{◌≡◌, ◌++◌}
+use Rattle.std.specs.List.{flat_map}
 use Rattle.volume.specs.Pieces.{pieces_of}
+use Rattle.world.specs.Blocks.{volume_after}
+use Rattle.world.proofs.BlockLemmas.{piece_read}
 use Rattle.world.proofs.blocks.read.Given as goal
 
 -- the bytes of the pieces so far
 abbrev pub invariant-loop-piece : goal.invariant-loop-piece
 invariant-loop-piece l = record {
   whole : l.yielded ++ l.piece-iterator ≡ pieces_of l.offset l.len;
-  bytes : vec_len l.bytes ≡ sum_by (λ piece. piece.len) l.yielded;
+  bytes : l.bytes.items ≡ flat_map (piece_read (volume_after l.blocks l.writes)) l.yielded;
 }
