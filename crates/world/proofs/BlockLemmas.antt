@@ -94,6 +94,10 @@ unfolding flat
 flat_zeros size zero = rw mul-zero refl
 flat_zeros size (suc n) = ap (λ (l : List ℕ). replicate size 0 ++ l) (flat_zeros size n) ∙ replicate-append-replicate size (size * n) 0 ∙ ap (λ (m : ℕ). replicate m 0) (omega (arith, mul-suc size n))
 
--- blocks that are clones of zeros are a volume of zeros
-pub flat-clones : (size n : ℕ) (blocks : List (List ℕ)) → (((y : List ℕ) → AllZipBelow (λ (a b : ℕ). b ≡ a) (replicate size 0) y size → y ≡ replicate size 0) → blocks ≡ replicate n (replicate size 0)) → flat blocks ≡ replicate (size * n) 0
-flat-clones size n blocks is = ap flat (is (λ y clone. same_from_all_zip (λ (a b : ℕ). b ≡ a) (replicate size 0) y clone.whole (λ a b same. same))) ∙ flat_zeros size n
+-- blocks that are clones of zeros are zeros
+pub clones : (size n : ℕ) (blocks : List (List ℕ)) → (((y : List ℕ) → AllZipBelow (λ (a b : ℕ). b ≡ a) (replicate size 0) y size → y ≡ replicate size 0) → blocks ≡ replicate n (replicate size 0)) → blocks ≡ replicate n (replicate size 0)
+clones size n blocks is = is (λ y clone. same_from_all_zip (λ (a b : ℕ). b ≡ a) (replicate size 0) y clone.whole (λ a b same. same))
+
+-- and a volume of zeros
+pub flat-clones : (size n : ℕ) (blocks : List (List ℕ)) → blocks ≡ replicate n (replicate size 0) → flat blocks ≡ replicate (size * n) 0
+flat-clones size n blocks is = ap flat is ∙ flat_zeros size n

@@ -1,22 +1,30 @@
 -- The images of the blocks that a write touches.
-use Rattle.std.proofs.Common.{◌≡◌, ◌≢◌, ℕ, ◌+◌, ◌-◌, ◌*◌, ◌/◌, ◌<◌, ◌≤◌, List, [], ◌∷◌, ◌++◌, length, map, take, set, get_or, Some, inl, inr, refl, sym, ap, subst, ◌∙◌, arith}
+use Rattle.std.proofs.Common.{◌≡◌, ◌≢◌, ℕ, zero, suc, ◌+◌, ◌-◌, ◌*◌, ◌/◌, ◌<◌, ◌≤◌, List, [], ◌∷◌, ◌++◌, length, map, take, set, get_or, inl, inr, refl, sym, ap, subst, ◌∙◌, arith}
 use Rattle.std.specs.Prelude.{All}
-use Rattle.std.proofs.lemmas.List.{length-map, get_or-map, length-append, length-take, length_push, get_or_at, get_or_push, get_or_default, get_or-take, get_or_append_left, get_or-set_same, get_or-set_other, take_more}
-use Rattle.std.specs.List.{slice_get}
-use Rattle.std.proofs.lemmas.Bool.{cases_lt, cases_Bool, both_ways}
-use Rattle.std.proofs.lemmas.Option.{slice_get-get_or, slice_get_past}
+use Rattle.std.proofs.lemmas.List.{length-map, get_or-map, length-append, length-take, length_push, get_or_at, get_or_push, get_or_default, get_or-take, get_or_append_left, get_or-set_same, get_or-set_other, take_more, take_all, length-set}
+use Rattle.std.proofs.lemmas.Bool.{cases_Bool, both_ways}
 use Rattle.std.proofs.lemmas.List.FromFn.{length-range_with_len, get_or-range_with_len}
-use Rattle.std.proofs.lemmas.List.Elements.{All-push}
+use Rattle.std.proofs.lemmas.List.Elements.{All-push, All-nil}
+use Rattle.std.proofs.lemmas.List.Sums.{fold_more}
 use Rattle.volume.specs.declared.piece.Piece.{Piece}
 use Rattle.volume.specs.Writes.{Placed, Fits, IsTouched, touches, patched, block_of}
 use Rattle.volume.specs.Pieces.{IsPieceOf, touched, touched_count}
 use Rattle.volume.specs.PieceLemmas.{touched_ends, touched_all}
 use Rattle.volume.specs.Volumes.{length-patched, length-block_of, patched_from_blocks, touches_agrees}
-use Rattle.world.specs.Blocks.{flat, AreImagesAfter}
+use Rattle.world.specs.Blocks.{flat, with_image, with_images}
 use Rattle.world.specs.Writes.{IsInside}
 use Rattle.world.proofs.BlockLemmas.{AreOf, length-flat, block_of-flat}
 use Rattle.gate_journal.specs.declared.batch.Image.{Image}
 use Rattle.gate_journal.specs.Batch.{AreImages}
+
+-- the image holds its block of the volume
+abbrev pub IsImageOf : List ℕ → Image → Type 0
+IsImageOf volume image = image.bytes ≡ block_of volume image.block
+
+-- the images are of the touched blocks, each as the write leaves it
+pub record AreAfter (volume : List ℕ) (w : Placed) (images : List Image) : Type 0 where
+  pub blocks : map (λ image. image.block) images ≡ touched w.offset (length w.bytes)
+  pub bytes : All (IsImageOf (patched volume w)) images
 
 -- as many images as touched blocks
 count_of_touched : (offset len : ℕ) (images : List Image) → map (λ (image : Image). image.block) images ≡ touched offset len → length images ≡ touched_count offset len
@@ -83,7 +91,7 @@ module _ (old blocks : List (List ℕ)) (images : List Image) (n i : ℕ) (e : I
 
 -- where the images of a write are kept and the other blocks stay, the volume is patched by the write
 module _ (old new : List (List ℕ)) (images : List Image) (w : Placed) (whole : AreOf 4096 old) (long : length new ≡ length old) (kept : AreKept new images) (others : OthersStay old new images) (inside : IsInside (4096 * length old) w)
-    (are : AreImagesAfter (flat old) w images) where
+    (are : AreAfter (flat old) w images) where
   count : length images ≡ touched_count w.offset (length w.bytes)
   count = count_of_touched w.offset (length w.bytes) images are.blocks
 
@@ -120,10 +128,37 @@ module _ (old new : List (List ℕ)) (images : List Image) (w : Placed) (whole :
       (λ b lt touched. block_of-flat new whole_new b [] (omega arith) ∙ touched_block b touched)
       (λ b lt apart. block_of-flat new whole_new b [] (omega arith) ∙ other_block b apart ∙ sym (block_of-flat old whole b [] lt))
 
--- blocks by number, where they are read by default
-pub slice_get-from_get_or : (old new : List (List ℕ)) (b : ℕ) → length new ≡ length old → get_or new b [] ≡ get_or old b [] → slice_get new b ≡ slice_get old b
-slice_get-from_get_or old new b long same =
-    elim (cases_lt b (length old)) [
-      | inl lt ↦ slice_get-get_or new b [] (omega arith) ∙ ap (λ (block : List ℕ). Some block) same ∙ sym (slice_get-get_or old b [] lt)
-      | inr le ↦ slice_get_past new b (omega arith) ∙ sym (slice_get_past old b le)
-    ]
+-- these blocks are the old ones with the images over them
+record AreKeptOver (old : List (List ℕ)) (images : List Image) (new : List (List ℕ)) : Type 0 where
+  pub long : length new ≡ length old
+  pub kept : AreKept new images
+  pub others : OthersStay old new images
+
+kept_over : (old : List (List ℕ)) (images : List Image) → AreImages (length old) images → (i : ℕ) → i ≤ length images → AreKeptOver old (take i images) (with_images old (take i images))
+kept_over old images are zero le = record { long = refl; kept = All-nil (λ (image : Image). get_or old image.block [] ≡ image.bytes); others = λ b all. refl }
+kept_over old images are (suc i) le =
+    let none : Image = record { block = 0; bytes = [] } in
+    let below : i < length images = omega arith in
+    let before = kept_over old images are i (omega arith) in
+    let blocks = with_images old (take i images) in
+    let image = get_or images i none in
+    let step : AreKeptOver old (take (i + 1) images) (set blocks image.block image.bytes) = record {
+      long = length-set blocks image.block image.bytes ∙ before.long;
+      kept = AreKept-more old blocks images (length old) i none are before.long below before.kept;
+      others = OthersStay-more old blocks images (length old) i none are before.long below before.others;
+    } in
+    let next : i + 1 ≡ suc i = omega arith in
+    subst (λ (n : ℕ). AreKeptOver old (take n images) (with_images old (take n images))) next
+    (subst (AreKeptOver old (take (i + 1) images)) (sym (fold_more with_image old images i none below)) step)
+
+-- the images of a write over a volume's blocks are the volume patched by the write
+pub flat-with_images : (old : List (List ℕ)) (images : List Image) (w : Placed) → AreOf 4096 old → AreImages (length old) images → IsInside (4096 * length old) w → AreAfter (flat old) w images
+    → flat (with_images old images) ≡ patched (flat old) w
+flat-with_images old images w whole are inside after =
+    let all = kept_over old images are (length images) (omega arith) in
+    let whole_list = take_all (length images) images (omega arith) in
+    flat-kept old (with_images old images) images w whole
+    (ap (λ (is : List Image). length (with_images old is)) (sym whole_list) ∙ all.long)
+    (subst (λ (is : List Image). AreKept (with_images old is) is) whole_list all.kept)
+    (subst (λ (is : List Image). OthersStay old (with_images old is) is) whole_list all.others)
+    inside after

@@ -3,3 +3,4 @@ mod BlockLemmas
 mod Lists
 mod MusterSteps
 mod ImageLemmas
+mod DurableLemmas

@@ -1,7 +1,7 @@
 -- A volume kept in blocks, with writes over it.
-use Rattle.std.specs.Prelude.{◌≡◌, ℕ, List, length, map, fold, All}
+use Rattle.std.specs.Prelude.{◌≡◌, ℕ, List, length, map, set, fold}
 use Rattle.std.specs.List.{flat_map}
-use Rattle.volume.specs.Writes.{Placed, patched, block_of}
+use Rattle.volume.specs.Writes.{Placed, patched}
 use Rattle.volume.specs.Pieces.{touched}
 use Rattle.gate_journal.specs.declared.batch.Image.{Image}
 
@@ -13,11 +13,15 @@ flat blocks = flat_map (λ block. block) blocks
 abbrev pub volume_after : List (List ℕ) → List Placed → List ℕ
 volume_after blocks writes = fold patched (flat blocks) writes
 
--- the image holds its block of the volume
-abbrev pub IsImageOf : List ℕ → Image → Type 0
-IsImageOf volume image = image.bytes ≡ block_of volume image.block
+-- an image replaces its whole block
+abbrev pub with_image : List (List ℕ) → Image → List (List ℕ)
+with_image blocks image = set blocks image.block image.bytes
 
--- the images are of the blocks that the write touches, ascending, each as the write leaves it
-pub record AreImagesAfter (volume : List ℕ) (w : Placed) (images : List Image) : Type 0 where
-  pub blocks : map (λ image. image.block) images ≡ touched w.offset (length w.bytes)
-  pub bytes : All (IsImageOf (patched volume w)) images
+-- these blocks with images over them, in order
+abbrev pub with_images : List (List ℕ) → List Image → List (List ℕ)
+with_images blocks images = fold with_image blocks images
+
+-- the images are of the blocks that the write touches, ascending, and over the volume's blocks they do the write
+pub record AreImagesAfter (blocks : List (List ℕ)) (w : Placed) (images : List Image) : Type 0 where
+  pub touched : map (λ image. image.block) images ≡ touched w.offset (length w.bytes)
+  pub patched : flat (with_images blocks images) ≡ patched (flat blocks) w

@@ -6,6 +6,6 @@ use Rattle.volume.specs.Writes.{Placed}
 use Rattle.world.specs.Blocks.{AreImagesAfter}
 use Rattle.world.specs.declared.commit.Commit.{Commit}
 
--- a commit under way holds the images of the first of these writes over the volume
-pub record IsOfFirst (volume : List ℕ) (writes : List Placed) (commit : Option Commit) : Type 0 where
-  pub images : ForSome commit (λ c. HoldsAt (λ write. AreImagesAfter volume write c.images.items) writes 0)
+-- a commit under way holds the images of the first of these writes over these blocks
+pub record IsOfFirst (blocks : List (List ℕ)) (writes : List Placed) (commit : Option Commit) : Type 0 where
+  pub images : ForSome commit (λ c. HoldsAt (λ write. AreImagesAfter blocks write c.images.items) writes 0)

@@ -1,5 +1,6 @@
 pub mod Blocks
 pub mod Commit
+pub mod DiskMeaning
 pub mod Member
 pub mod Muster
 pub mod Refusal

@@ -1,5 +1,5 @@
 -- When a waiting token may be answered.
-use Rattle.std.specs.Prelude.{ℕ, Bool, false, Option, Some, None, nat_le, if◌then◌else◌, ◌==◌, List, [], ◌∷◌}
+use Rattle.std.specs.Prelude.{ℕ, Bool, false, Option, Some, None, true, nat_le, is_some, if◌then◌else◌, ◌==◌, ◌&&◌, List, [], ◌∷◌}
 use Rattle.flush_barrier.specs.Reply.{Answers}
 use Rattle.flush_barrier.specs.declared.error_code.ErrorCode.{ErrorCode}
 use Rattle.flush_barrier.specs.declared.reply.Reply.{Reply}
@@ -28,6 +28,15 @@ paid_token floor (Fua token) = is_up_to floor token.number
 
 abbrev pub is_paid : ℕ → Waiting → Bool
 is_paid floor w = paid_token floor w.token
+
+-- the token is of a write with FUA
+abbrev pub is_fua : Token → Bool
+is_fua (Write token) = false
+is_fua (Fua token) = true
+
+-- a write with FUA has its number
+abbrev pub awaits_floor : Waiting → Bool
+awaits_floor w = is_fua w.token && is_some w.number
 
 -- these tokens without the first that passes the test
 abbrev pub without_first : (Waiting → Bool) → List Waiting → List Waiting

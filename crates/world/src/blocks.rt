@@ -1,9 +1,8 @@
 //! The blocks of a volume, with writes over them.
-ghost use Rattle.std.specs.Prelude.{◌≡◌, ◌≢◌, ℕ, ◌+◌, ◌*◌, ◌<◌, ◌≤◌, length, take, drop, All, IfOk};
-ghost use Rattle.std.specs.List.{slice_get};
+ghost use Rattle.std.specs.Prelude.{◌≡◌, ◌+◌, ◌*◌, ◌<◌, ◌≤◌, length, take, drop, All, IfOk};
 ghost use Rattle.gate_journal.specs.Batch.{AreImages};
-ghost use Rattle.volume.specs.Writes.{Placed, block_of, patched};
-ghost use Rattle.world.specs.Blocks.{flat, volume_after, AreImagesAfter};
+ghost use Rattle.volume.specs.Writes.{block_of};
+ghost use Rattle.world.specs.Blocks.{volume_after, with_images, AreImagesAfter};
 ghost use Rattle.world.specs.Writes.{IsInside};
 
 use gate_journal::Image;
@@ -58,7 +57,7 @@ pub(crate) fn images(
     requires few { length blocks.now ≤ 65536 }
     requires inside { IsInside (4096 * length blocks.now) write.now }
     ensures images { IfOk result (λ images. AreImages (length blocks.now) images.items) }
-    ensures after { IfOk result (λ images. AreImagesAfter (flat blocks.now) write.now images.items) }
+    ensures after { IfOk result (λ images. AreImagesAfter blocks.now write.now images.items) }
 {
     let mut images = Vec::new(alloc);
     for piece in pieces(write.offset(), write.payload().len() as u32) {
@@ -75,12 +74,7 @@ pub(crate) fn images(
 /// Keeps images as the blocks that are there.
 pub(crate) fn keep(blocks: &mut [Block], images: &[Image])
     requires { AreImages (length blocks.old) images.now }
-    ensures imaged { All (λ image. slice_get blocks.new image.block ≡ Some image.bytes) images.now }
-    ensures others { (b : ℕ) → All (λ image. image.block ≢ b) images.now
-        → slice_get blocks.new b ≡ slice_get blocks.old b }
-    ensures written { (w : Placed) → IsInside (4096 * length blocks.old) w
-        → AreImagesAfter (flat blocks.old) w images.now
-        → flat blocks.new ≡ patched (flat blocks.old) w }
+    ensures { blocks.new ≡ with_images blocks.old images.now }
 {
     for image in images {
         blocks[image.block as usize] = image.bytes;

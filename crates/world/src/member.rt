@@ -1,7 +1,6 @@
 ghost use Rattle.std.specs.Prelude.{◌≡◌, ◌+◌, ◌*◌, ◌<◌, ◌≤◌, vec_len, All};
 ghost use Rattle.std.specs.Option.{ForSome};
 ghost use Rattle.gate_journal.specs.Batch.{AreImages};
-ghost use Rattle.world.specs.Blocks.{flat};
 ghost use Rattle.world.specs.Commit.{IsOfFirst};
 ghost use Rattle.world.specs.Writes.{IsInside};
 
@@ -72,20 +71,22 @@ pub(crate) struct Member {
     pub stopped: bool,
     ghost ordered: { (durable ≤ known) × (known ≤ durable + vec_len writes) },
     ghost numbers: { durable + vec_len writes ≤ 9223372036854775807 },
-    ghost journaled: { journal.front ≡ durable },
+    ghost journaled: { (journal.before ≡ 0) × (journal.front ≡ durable) },
     ghost few_blocks: { (vec_len blocks ≡ journal.blocks) × (vec_len blocks ≤ 65536) },
     ghost writes_inside: { All (IsInside (4096 * vec_len blocks)) writes.items },
     ghost submits_inside: { All (λ submit. IsInside (4096 * vec_len blocks) submit.write) submits.items },
     ghost committing: { ForSome commit (λ c. (durable < known) × AreImages journal.blocks c.images.items) },
-    ghost of_first: { IsOfFirst (flat blocks.items) writes.items commit },
+    ghost of_first: { IsOfFirst blocks.items writes.items commit },
     ghost kept_front: { ForSome kept (λ k. (known ≤ k.front) × (k.front ≤ durable + vec_len writes)) },
 }
 
 impl Member {
-    ghost use Rattle.std.specs.Prelude.{◌↔◌, ◌==◌, ℕ, [], ◌∷◌, ◌++◌, Some, None, IsTrue, MatchOption, IsSomeAnd, find, position, IfOk, IfErr, OnOk, OnErr, OnSome, length, take, drop, replicate, vec_capacity};
-    ghost use Rattle.std.specs.List.{slice_get};
-    ghost use Rattle.world.specs.Waiting.{is_committed, is_paid, without_first, first_learned, IsReplyTo};
-    ghost use Rattle.world.specs.Member.{fronts_of, contents_of, volume_at, submitted, numbered, committed, waiting_of, all_learned, waiting_count, CanBegin, HasSubmit, IsCommitting};
+    ghost use Rattle.std.specs.Prelude.{◌↔◌, ◌⊎◌, ◌==◌, ℕ, [], ◌∷◌, ◌++◌, Some, None, IsTrue, MatchOption, IsSomeAnd, find, position, IfOk, IfErr, OnOk, OnErr, OnSome, length, take, drop, replicate, vec_capacity};
+    ghost use Rattle.std.specs.List.{list_any, slice_get};
+    ghost use Rattle.world.specs.Waiting.{is_committed, is_paid, awaits_floor, without_first, first_learned, IsReplyTo};
+    ghost use Rattle.disk_model.specs.Disk.{LeavesOnly};
+    ghost use Rattle.world.specs.DiskMeaning.{IsDurable, MeansOldOrNew};
+    ghost use Rattle.world.specs.Member.{fronts_of, contents_of, volume_at, submitted, numbered, committed, waiting_of, all_learned, waiting_count, NextFits, NextIsTooMuch, CanBegin, HasSubmit, IsCommitting};
 
     /// A member at the slot with a volume of zeros, and an empty journal from the beginning of its disk. It is lent the
     /// disk here and wherever it writes.
@@ -100,6 +101,7 @@ impl Member {
         ensures contents { IfOk result (λ m. contents_of m
             ≡ record { volume = replicate (4096 * geometry.blocks) 0; writes = []; submits = []; ticket = 1 }) }
         ensures waiting { IfOk result (λ m. waiting_of m ≡ []) }
+        ensures durable { D.keeps_model → IfOk result (λ m. IsDurable m (D.gives disk.new) (D.may_leave_now disk.new)) }
         ensures size { D.size disk.new ≡ D.size disk.old }
         ensures idle { IfOk result (λ m. m.kept ≡ None) }
     {
@@ -260,6 +262,9 @@ impl Member {
         ensures waiting { waiting_of self.new ≡ waiting_of self.old }
         ensures kept { self.new.kept ≡ None }
         ensures ok { OnOk result (IsCommitting self.new) }
+        ensures fits { OnOk result (NextFits self.old) }
+        ensures full { IfErr result (λ e. (e ≡ Refusal.Memory)
+            ⊎ ((e ≡ Refusal.Full) × NextIsTooMuch self.old)) }
     {
         self.kept = None;
         let images = blocks::images(self.alloc, &self.blocks, &self.writes[0])?;
@@ -292,6 +297,10 @@ impl Member {
             → volume_at self.new front ≡ volume_at self.old front }
         ensures frame { record (fronts_of self.new) { durable = (fronts_of self.old).durable } ≡ fronts_of self.old }
         ensures kept { self.new.kept ≡ None }
+        ensures durable { D.keeps_model → IsDurable self.old (D.gives disk.old) (D.may_leave_now disk.old)
+            → OnOk result (IsDurable self.new (D.gives disk.new) (D.may_leave_now disk.new)) }
+        ensures any_moment { D.keeps_model → IsDurable self.old (D.gives disk.old) (D.may_leave_now disk.old)
+            → LeavesOnly D.moment D.may_have_left_since disk.old disk.new (MeansOldOrNew self.old) }
     {
         self.kept = None;
         let Commit { images } = self.commit.take().unwrap();
@@ -396,10 +405,10 @@ impl Member {
     }
 
     /// Whether a FUA write waits for a floor.
-    pub(crate) fn awaits_floor(&self) -> bool {
-        self.waiting
-            .iter()
-            .any(|w| matches!(w.token, Token::Fua(_)) && w.number.is_some())
+    pub(crate) fn awaits_floor(&self) -> bool
+        ensures { result ≡ list_any awaits_floor (waiting_of self.now) }
+    {
+        self.waiting.iter().any(|w| w.awaits_floor())
     }
 
     /// Gives the member up. The tokens that wait are abandoned.

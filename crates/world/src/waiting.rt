@@ -48,7 +48,7 @@ pub(crate) struct Waiting {
 }
 
 impl Waiting {
-    ghost use Rattle.world.specs.Waiting.{is_committed, is_paid, learned, IsReplyTo};
+    ghost use Rattle.world.specs.Waiting.{is_committed, is_paid, awaits_floor, learned, IsReplyTo};
 
     /// Tells the token the number of its write, which it learns once.
     pub(crate) fn learn(&mut self, n: u64)
@@ -80,6 +80,13 @@ impl Waiting {
             Token::Write(_) => false,
             Token::Fua(token) => token.is_paid_by(floor),
         }
+    }
+
+    /// Whether it is a write with FUA that has its number.
+    pub(crate) fn awaits_floor(&self) -> bool
+        ensures { result ≡ awaits_floor self.now }
+    {
+        matches!(self.token, Token::Fua(_)) && self.number.is_some()
     }
 
     /// The token alone.

@@ -6,9 +6,9 @@ use Rattle.volume.specs.declared.piece.Piece.{Piece}
 use Rattle.volume.specs.Pieces.{pieces_of}
 use Rattle.volume.specs.PieceLemmas.{map-block-pieces_of, IsPieceOf-pieces_of}
 use Rattle.volume.specs.Writes.{patched}
-use Rattle.world.specs.Blocks.{flat, IsImageOf}
+use Rattle.world.specs.Blocks.{flat}
 use Rattle.world.proofs.BlockLemmas.{all_yielded, one_yielded, length-flat, block_of-flat}
-use Rattle.world.proofs.ImageLemmas.{AreImages-touched, block_there}
+use Rattle.world.proofs.ImageLemmas.{IsImageOf, AreAfter, AreImages-touched, block_there, flat-with_images}
 use Rattle.world.proofs.blocks.images.Goals as goal
 
 pub loop-piece-preserved : goal.loop-piece-preserved
@@ -32,14 +32,18 @@ loop-piece-preserved c =
 
 pub returns-clause-after : goal.returns-clause-after
 returns-clause-after c =
+    let blocks = c.args.blocks.now in
     let write = c.args.write.now in
     let all = all_yielded c.loop-piece.yielded c.loop-piece.piece-iterator (pieces_of write.offset (length write.bytes)) c.loop-piece.invariant.whole c.in-None.ensures.steps.0 in
+    let touched = c.loop-piece.invariant.blocks ∙ ap (map (λ (p : Piece). p.block)) all ∙ map-block-pieces_of write.offset (length write.bytes) in
+    let are = AreImages-touched (length blocks) write.offset (length write.bytes) c.loop-piece.images.items c.requires.inside.0 c.requires.inside.1 touched in
+    let is : AreAfter (flat blocks) write c.loop-piece.images.items = record { blocks = touched; bytes = c.loop-piece.invariant.bytes } in
     record {
-      blocks = c.loop-piece.invariant.blocks ∙ ap (map (λ (p : Piece). p.block)) all ∙ map-block-pieces_of write.offset (length write.bytes);
-      bytes = c.loop-piece.invariant.bytes;
+      touched = touched;
+      patched = flat-with_images blocks c.loop-piece.images.items write c.told-blocks are c.requires.inside is;
     }
 
 pub returns-clause-images : goal.returns-clause-images
 returns-clause-images c =
     let write = c.args.write.now in
-    AreImages-touched (length c.args.blocks.now) write.offset (length write.bytes) c.loop-piece.images.items c.requires.inside.0 c.requires.inside.1 (returns-clause-after c).blocks
+    AreImages-touched (length c.args.blocks.now) write.offset (length write.bytes) c.loop-piece.images.items c.requires.inside.0 c.requires.inside.1 (returns-clause-after c).touched

@@ -2,7 +2,8 @@ use Rattle.std.proofs.Common.{◌≡◌, ◌++◌, length, map}
 use Rattle.std.specs.Prelude.{All}
 use Rattle.volume.specs.Pieces.{pieces_of}
 use Rattle.volume.specs.Writes.{patched}
-use Rattle.world.specs.Blocks.{flat, IsImageOf}
+use Rattle.world.specs.Blocks.{flat}
+use Rattle.world.proofs.ImageLemmas.{IsImageOf}
 use Rattle.world.proofs.blocks.images.Given as goal
 
 -- an image of the block of each piece so far

@@ -1,10 +1,7 @@
-use Rattle.std.proofs.Common.{take}
-use Rattle.world.proofs.ImageLemmas.{AreKept, OthersStay}
+use Rattle.std.proofs.Common.{◌≡◌, take}
+use Rattle.world.specs.Blocks.{with_images}
 use Rattle.world.proofs.blocks.keep.Given as goal
 
--- the images so far are kept, and the other blocks stay
+-- the images so far are kept
 abbrev pub invariant-loop-image : goal.invariant-loop-image
-invariant-loop-image l = record {
-  kept : AreKept l.blocks (take l.image-index l.images);
-  others : OthersStay l.fn.blocks l.blocks (take l.image-index l.images);
-}
+invariant-loop-image l = (l.blocks ≡ with_images l.fn.blocks (take l.image-index l.images))

@@ -1,7 +1,7 @@
 use Rattle.std.proofs.Common.{◌≡◌, ℕ, ◌+◌, ◌<◌, ◌*◌, ◌∙◌, ap, sym, set, length, vec_len, arith, rules}
 use Rattle.std.proofs.lemmas.List.Elements.{All-push}
 use Rattle.volume.specs.Writes.{Placed}
-use Rattle.world.specs.Blocks.{flat, AreImagesAfter}
+use Rattle.world.specs.Blocks.{AreImagesAfter}
 use Rattle.world.specs.Writes.{IsInside}
 use Rattle.world.specs.declared.waiting.Waiting.{Waiting}
 use Rattle.world.specs.Waiting.{learned}
@@ -19,7 +19,7 @@ invariant_of-self-clause-of_first c = record {
       let ws = c.args.self.now.writes in
       let long : length ws.items ≡ vec_len ws = search rules in
       let some : 0 < length ws.items = omega (arith, long, (c.args.self.now.committing commit is).0, c.args.self.now.ordered) in
-      rw c.push_reserved.ensures.items (HoldsAt-push (λ (w : Placed). AreImagesAfter (flat c.args.self.now.blocks.items) w commit.images.items) ws.items c.args.submit.write some (c.args.self.now.of_first.images commit is));
+      rw c.push_reserved.ensures.items (HoldsAt-push (λ (w : Placed). AreImagesAfter c.args.self.now.blocks.items w commit.images.items) ws.items c.args.submit.write some (c.args.self.now.of_first.images commit is));
 }
 
 pub returns-in-Some-clause-waiting : goal.returns-in-Some-clause-waiting

@@ -1,0 +1,34 @@
+-- What the disk of a member means.
+use Rattle.std.specs.Prelude.{◌≡◌, ◌⊎◌, ℕ, ◌+◌, List, replicate, fold, vec_len}
+use Rattle.disk_model.specs.Part.{inside}
+use Rattle.gate_journal.specs.Batch.{Batch, HoldsBatches, last_front}
+use Rattle.gate_journal.specs.Journal.{IsSettled}
+use Rattle.world.specs.Blocks.{flat, with_images}
+use Rattle.world.specs.Member.{volume_at}
+use Rattle.world.specs.declared.member.Member.{Member}
+
+-- so many blocks of zeros with the images of these batches over them, in order
+abbrev pub with_batches : ℕ → List Batch → List (List ℕ)
+with_batches count batches = fold (λ bs batch. with_images bs batch.images) (replicate count (replicate 4096 0)) batches
+
+-- The area means a front and a volume of so many blocks: it holds batches, the front is the last one's, or 0 without batches,
+-- and the volume is zeros with their images over them.
+pub record Means (count n : ℕ) (bytes area : List ℕ) : Type 0 where
+  pub batches : List Batch
+  pub holds : HoldsBatches count 0 batches area
+  pub front : last_front 0 batches ≡ n
+  pub volume : flat (with_batches count batches) ≡ bytes
+
+-- the bytes of a disk mean the member's volume at a front
+abbrev pub MeansAt : Member → ℕ → List ℕ → Type 0
+MeansAt m n disk = Means (vec_len m.blocks) n (volume_at m n) (inside m.journal.part disk)
+
+-- they mean its volume at its durable front, or at the next
+abbrev pub MeansOldOrNew : Member → List ℕ → Type 0
+MeansOldOrNew m disk = MeansAt m m.durable disk ⊎ MeansAt m (m.durable + 1) disk
+
+-- the member's disk holds batches that leave the member's blocks, and a stop now leaves these batches
+pub record IsDurable (m : Member) (gives : List ℕ) (may_leave : List ℕ → Type 0) : Type 0 where
+  pub batches : List Batch
+  pub settled : IsSettled m.journal batches gives may_leave
+  pub blocks : with_batches (vec_len m.blocks) batches ≡ m.blocks.items

@@ -1,0 +1,5 @@
+use Rattle.world_model.specs.Runs.{owed_stays}
+use Rattle.world_model.proofs.laws.owed_stays.Goals as goal
+
+pub returns : goal.returns
+returns c = owed_stays

@@ -1,0 +1,25 @@
+//! What clients of the one volume may see, apart from all code that keeps it: a machine of eight steps, and what each
+//! of them shows.
+//!
+//! Its contract for the layers above: what clients see is lawful where some run of the machine shows it, and in each
+//! run a READ finds every write that was taken when it was sent, what is owed is never lost, and a FLUSH or a FUA
+//! write that was answered owes what came before it.
+//! `Machine` runs it, slowly and plainly: its contract is the definition.
+//!
+//! Left to others: which steps are taken, and when; that a session's requests and replies are its bytes; and that any
+//! step is taken at all.
+#![tactic(auto)]
+
+mod asked;
+mod contents;
+mod laws;
+mod lists;
+mod machine;
+mod request;
+mod taken;
+#[cfg(test)]
+mod tests;
+
+pub use laws::{flushes_owe, owed_stays, reads_are_fresh, runs_go_on, runs_keep_sound};
+pub use machine::Machine;
+pub use request::Request;
