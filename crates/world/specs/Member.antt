@@ -4,8 +4,8 @@ use Rattle.std.specs.List.{HoldsAt}
 use Rattle.std.specs.VecDeque.{deque_len}
 use Rattle.std.specs.Option.{ForSome}
 use Rattle.volume.specs.Writes.{Placed, patched}
-use Rattle.volume.specs.Pieces.{touched}
-use Rattle.gate_journal.specs.Journal.{Fits, IsTooMuch}
+use Rattle.volume.specs.Pieces.{touched_count}
+use Rattle.gate_journal.specs.Journal.{IsTooMuch}
 use Rattle.world.specs.Blocks.{flat}
 use Rattle.world.specs.Waiting.{first_learned}
 use Rattle.world.specs.declared.member.Member.{Member}
@@ -87,13 +87,9 @@ HasSubmit m = 0 < deque_len m.submits
 abbrev pub IsCommitting : Member → Type 0
 IsCommitting m = IsSome m.commit
 
--- the images of its first write above the durable front fit in its journal
-abbrev pub NextFits : Member → Type 0
-NextFits m = HoldsAt (λ w. Fits m.journal (length (touched w.offset (length w.bytes)))) (contents_of m).writes 0
-
--- they don't
+-- the blocks of its first write above the durable front are too many for its journal
 abbrev pub NextIsTooMuch : Member → Type 0
-NextIsTooMuch m = HoldsAt (λ w. IsTooMuch m.journal (length (touched w.offset (length w.bytes)))) (contents_of m).writes 0
+NextIsTooMuch m = HoldsAt (λ w. IsTooMuch m.journal (touched_count w.offset (length w.bytes))) (contents_of m).writes 0
 
 -- no commit is under way, and a known write isn't durable yet
 abbrev pub CanBegin : Member → Type 0

@@ -1,6 +1,7 @@
 //! The blocks of a volume, with writes over them.
 ghost use Rattle.std.specs.Prelude.{◌≡◌, ◌+◌, ◌*◌, ◌<◌, ◌≤◌, length, take, drop, All, IfOk};
 ghost use Rattle.gate_journal.specs.Batch.{AreImages};
+ghost use Rattle.volume.specs.Pieces.{touched_count};
 ghost use Rattle.volume.specs.Writes.{block_of};
 ghost use Rattle.world.specs.Blocks.{volume_after, with_images, AreImagesAfter};
 ghost use Rattle.world.specs.Writes.{IsInside};
@@ -46,6 +47,15 @@ pub(crate) fn read(
         bytes.extend_from_slice(&block[piece.start..piece.start + piece.len])?;
     }
     Ok(bytes)
+}
+
+/// How many blocks a write touches.
+pub(crate) fn touched_count(write: &Write) -> u64
+    requires { IsInside 268435456 write.now }
+    ensures { result ≡ touched_count write.now.offset (length write.now.bytes) }
+{
+    let len = write.payload().len() as u64;
+    (write.offset() + len - 1) / BLOCK_SIZE + 1 - write.offset() / BLOCK_SIZE
 }
 
 /// The whole blocks that a write leaves, ascending.

@@ -81,12 +81,12 @@ pub(crate) struct Member {
 }
 
 impl Member {
-    ghost use Rattle.std.specs.Prelude.{◌↔◌, ◌⊎◌, ◌==◌, ℕ, [], ◌∷◌, ◌++◌, Some, None, IsTrue, MatchOption, IsSomeAnd, find, position, IfOk, IfErr, OnOk, OnErr, OnSome, length, take, drop, replicate, vec_capacity};
+    ghost use Rattle.std.specs.Prelude.{◌↔◌, ◌⊎◌, ◌==◌, ℕ, [], ◌∷◌, ◌++◌, Some, None, IsTrue, MatchOption, IsSomeAnd, find, position, IfOk, IfErr, IsErrOf, OnOk, OnErr, OnSome, length, take, drop, replicate, vec_capacity};
     ghost use Rattle.std.specs.List.{list_any, slice_get};
     ghost use Rattle.world.specs.Waiting.{is_committed, is_paid, awaits_floor, without_first, first_learned, IsReplyTo};
     ghost use Rattle.disk_model.specs.Disk.{LeavesOnly};
     ghost use Rattle.world.specs.DiskMeaning.{IsDurable, MeansOldOrNew};
-    ghost use Rattle.world.specs.Member.{fronts_of, contents_of, volume_at, submitted, numbered, committed, waiting_of, all_learned, waiting_count, NextFits, NextIsTooMuch, CanBegin, HasSubmit, IsCommitting};
+    ghost use Rattle.world.specs.Member.{fronts_of, contents_of, volume_at, submitted, numbered, committed, waiting_of, all_learned, waiting_count, NextIsTooMuch, CanBegin, HasSubmit, IsCommitting};
 
     /// A member at the slot with a volume of zeros, and an empty journal from the beginning of its disk. It is lent the
     /// disk here and wherever it writes.
@@ -254,7 +254,7 @@ impl Member {
         self.commit.is_none() && self.durable < self.known
     }
 
-    /// Builds the images of the next write to be journaled. 121 where they don't fit.
+    /// Builds the images of the next write to be journaled. 121 exactly where they don't fit, and else 100.
     pub(crate) fn begin_commit(&mut self) -> Result<(), Refusal>
         requires { CanBegin self.old }
         ensures fronts { fronts_of self.new ≡ fronts_of self.old }
@@ -262,15 +262,15 @@ impl Member {
         ensures waiting { waiting_of self.new ≡ waiting_of self.old }
         ensures kept { self.new.kept ≡ None }
         ensures ok { OnOk result (IsCommitting self.new) }
-        ensures fits { OnOk result (NextFits self.old) }
-        ensures full { IfErr result (λ e. (e ≡ Refusal.Memory)
-            ⊎ ((e ≡ Refusal.Full) × NextIsTooMuch self.old)) }
+        ensures full { IsErrOf result Refusal.Full ↔ NextIsTooMuch self.old }
+        ensures told { IfErr result (λ e. (e ≡ Refusal.Full) ⊎ (e ≡ Refusal.Memory)) }
     {
         self.kept = None;
-        let images = blocks::images(self.alloc, &self.blocks, &self.writes[0])?;
-        if self.journal.room() < images.len() as u64 {
+        let write = &self.writes[0];
+        if self.journal.room() < blocks::touched_count(write) {
             return Err(Refusal::Full);
         }
+        let images = blocks::images(self.alloc, &self.blocks, write)?;
         self.commit = Some(Commit { images });
         Ok(())
     }
