@@ -72,6 +72,7 @@ pub(crate) struct Member {
     ghost ordered: { (durable ≤ known) × (known ≤ durable + vec_len writes) },
     ghost numbers: { durable + vec_len writes ≤ 9223372036854775807 },
     ghost journaled: { (journal.before ≡ 0) × (journal.front ≡ durable) },
+    ghost own_journal: { journal.slot ≡ slot },
     ghost few_blocks: { (vec_len blocks ≡ journal.blocks) × (vec_len blocks ≤ 65536) },
     ghost writes_inside: { All (IsInside (4096 * vec_len blocks)) writes.items },
     ghost submits_inside: { All (λ submit. IsInside (4096 * vec_len blocks) submit.write) submits.items },
@@ -81,10 +82,11 @@ pub(crate) struct Member {
 }
 
 impl Member {
-    ghost use Rattle.std.specs.Prelude.{◌↔◌, ◌⊎◌, ◌==◌, ℕ, [], ◌∷◌, ◌++◌, Some, None, IsTrue, MatchOption, IsSomeAnd, find, position, IfOk, IfErr, IsErrOf, OnOk, OnErr, OnSome, length, take, drop, replicate, vec_capacity};
+    ghost use Rattle.std.specs.Prelude.{◌↔◌, ◌⊎◌, ◌==◌, ℕ, [], ◌∷◌, ◌++◌, true, Some, None, IsTrue, MatchOption, IsSomeAnd, find, position, IfOk, IfErr, IsErrOf, OnOk, OnErr, OnSome, length, take, drop, replicate, vec_capacity};
     ghost use Rattle.std.specs.List.{list_any, slice_get};
     ghost use Rattle.world.specs.Waiting.{is_committed, is_paid, awaits_floor, without_first, first_learned, IsReplyTo};
     ghost use Rattle.disk_model.specs.Disk.{LeavesOnly};
+    ghost use Rattle.gate_journal.specs.Refusal.{HasCause, IsOfAppending};
     ghost use Rattle.world.specs.DiskMeaning.{IsDurable, MeansOldOrNew};
     ghost use Rattle.world.specs.Member.{fronts_of, contents_of, volume_at, submitted, numbered, committed, waiting_of, all_learned, waiting_count, NextIsTooMuch, CanBegin, HasSubmit, IsCommitting};
 
@@ -262,6 +264,7 @@ impl Member {
         ensures waiting { waiting_of self.new ≡ waiting_of self.old }
         ensures kept { self.new.kept ≡ None }
         ensures ok { OnOk result (IsCommitting self.new) }
+        ensures err { OnErr result (CanBegin self.new) }
         ensures full { IsErrOf result Refusal.Full ↔ NextIsTooMuch self.old }
         ensures told { IfErr result (λ e. (e ≡ Refusal.Full) ⊎ (e ≡ Refusal.Memory)) }
     {
@@ -299,6 +302,11 @@ impl Member {
         ensures kept { self.new.kept ≡ None }
         ensures durable { D.keeps_model → IsDurable self.old (D.gives disk.old) (D.may_leave_now disk.old)
             → OnOk result (IsDurable self.new (D.gives disk.new) (D.may_leave_now disk.new)) }
+        ensures receipt { OnOk result (self.new.receipt ≡ Some (record { slot = (fronts_of self.old).slot; front = (fronts_of self.new).durable })) }
+        ensures unposted { OnErr result (self.new.receipt ≡ self.old.receipt) }
+        ensures idle { self.new.commit ≡ None }
+        ensures told { IfErr result IsOfAppending }
+        ensures cause { HasCause (D.failures disk.old) (D.failures disk.new) result }
         ensures any_moment { D.keeps_model → IsDurable self.old (D.gives disk.old) (D.may_leave_now disk.old)
             → LeavesOnly D.moment D.may_have_left_since disk.old disk.new (MeansOldOrNew self.old) }
     {
@@ -377,6 +385,8 @@ impl Member {
 
     /// Stops: no commit goes on, and nothing that was found on the board is used.
     pub(crate) fn stop(&mut self)
+        ensures stopped { self.new.stopped ≡ true }
+        ensures idle { self.new.commit ≡ None }
         ensures fronts { fronts_of self.new ≡ fronts_of self.old }
         ensures contents { contents_of self.new ≡ contents_of self.old }
         ensures waiting { waiting_of self.new ≡ waiting_of self.old }
