@@ -1,5 +1,5 @@
 -- What a demand asks of the volume, and whose reply it owes.
-use Rattle.std.specs.Prelude.{ℕ, ◌+◌, ◌<◌, ◌≤◌, List, length}
+use Rattle.std.specs.Prelude.{◌≡◌, ℕ, ◌+◌, ◌<◌, ◌≤◌, None, List, length, ⊤}
 use Rattle.flush_barrier.specs.declared.session_id.SessionId.{SessionId}
 use Rattle.nbd_session.specs.declared.demand.Demand.{Demand}
 use Rattle.nbd_session.specs.declared.demand.Demand.TheVariants as demands
@@ -66,3 +66,9 @@ session_of (demands.Fua token offset payload) = token.session
 -- the range has at least one byte, and lies inside a volume of this size
 abbrev pub IsInside : ℕ → Demand → Type 0
 IsInside size demand = (0 < len_of demand) × (offset_of demand + len_of demand ≤ size)
+
+-- its token has no number yet
+abbrev pub IsUnnumbered : Demand → Type 0
+IsUnnumbered (demands.Read token offset len) = ⊤
+IsUnnumbered (demands.Write token offset payload) = ⊤
+IsUnnumbered (demands.Fua token offset payload) = token.number ≡ None

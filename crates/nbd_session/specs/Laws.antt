@@ -3,7 +3,7 @@ use Rattle.std.specs.Prelude.{◌≡◌, ◌<◌, ◌^◌, false, List, [], ◌+
 use Rattle.nbd_codec.specs.Findings.{AreBytes}
 use Rattle.nbd_session.specs.declared.session.TheConstants.{LIMIT_IN_FLIGHT}
 use Rattle.nbd_session.specs.Demand.{Asked}
-use Rattle.nbd_session.specs.Lawful.{GoesOnIn, History, IsLawful, NeedsMore, Stands, fed_and_asked, most_kept, sent_by}
+use Rattle.nbd_session.specs.Lawful.{GoesOnIn, History, IsLawful, NeedsMore, Stands, fed_and_asked, handed_out, most_kept, replied, sent_by}
 use Rattle.nbd_codec.specs.Reply.{PlainReply}
 use Rattle.nbd_session.specs.Replies.{answered}
 use Rattle.nbd_session.specs.Session.{Feeds, Holds, State}
@@ -29,6 +29,16 @@ abbrev pub FeedsLawfully : Type 0
 FeedsLawfully = (old new : State) (history : History) (piece : List ℕ) (asked : List Asked)
     → AreBytes (old.kept ++ piece) → old.export.max_payload < 2 ^ 32 → is_over old.phase ≡ false
     → Stands old history → Feeds old piece new asked → Stands new (fed_and_asked history piece asked)
+
+-- a reply to a demand leaves the session with its history, and this reply where one is owed
+abbrev pub RepliesAreLawful : Type 0
+RepliesAreLawful = (session : State) (history : History) (reply : PlainReply)
+    → Stands session history → Stands (answered session reply) (replied session history reply)
+
+-- output that is handed out leaves the session with its history, and this output
+abbrev pub OutputIsLawful : Type 0
+OutputIsLawful = (session : State) (history : History)
+    → Stands session history → Stands (record session { output = [] }) (handed_out session history)
 
 -- whoever has this history put out what is lawful
 abbrev pub HistoriesAreLawful : Type 0

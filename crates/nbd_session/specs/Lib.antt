@@ -1,4 +1,5 @@
 pub mod Answers
+pub mod Begun
 pub mod Demand
 pub mod Lawful
 pub mod Laws

@@ -16,6 +16,10 @@ abbrev pub error_of : ErrorCode → NbdError
 error_of Io = errors.Io
 error_of NoMemory = errors.NoMemory
 
+-- a reply on the wire, for the layers above, which don't know the wire itself
+abbrev pub WireReply : Type 0
+WireReply = PlainReply
+
 -- bytes, or an error
 abbrev pub seen_with : ℕ → List ℕ → Option ErrorCode → PlainReply
 seen_with cookie bytes None = Done cookie bytes

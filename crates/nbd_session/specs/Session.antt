@@ -94,6 +94,17 @@ course_of session = record { session = session; asked = [] }
 abbrev pub Holds : State → List Asked → Type 0
 Holds session asked = (end : State) × Settles None (course_of session) (record { session = end; asked = asked })
 
+-- With the piece more stands whole in the input than the session had kept: it made demands of the first of them all, and
+-- keeps the rest.
+pub record Reaches (old : State) (piece : List ℕ) (new : State) (made : List Asked) : Type 0 where
+  pub held : List Asked
+  pub more : List Asked
+  pub rest : List Asked
+  pub holds : Holds old held
+  pub longer : Holds (record old { kept = old.kept ++ piece }) (held ++ more)
+  pub keeps : Holds new rest
+  pub whole : held ++ more ≡ made ++ rest
+
 -- the session once so many bytes of its input are taken, and this is asked of the volume
 abbrev pub taken_from : State → ℕ → Option Asked → Course
 taken_from session taken asked = record {

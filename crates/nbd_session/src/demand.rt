@@ -46,12 +46,13 @@ pub(crate) enum WantedKind {
 }
 
 impl Wanted {
-    ghost use Rattle.nbd_session.specs.Demand.{asked_by, session_of, wanted_view};
+    ghost use Rattle.nbd_session.specs.Demand.{IsUnnumbered, asked_by, session_of, wanted_view};
 
     /// The demand, with a token of the board.
     pub(crate) fn into_demand(self, board: &Board, session: SessionId) -> Demand
         ensures asked { asked_by result ≡ wanted_view self }
         ensures session { session_of result ≡ session }
+        ensures unnumbered { IsUnnumbered result }
     {
         let Wanted {
             cookie,

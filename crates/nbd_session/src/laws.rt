@@ -1,6 +1,6 @@
 //! Laws of sessions, for callers that argue about whole texts. The functions do nothing.
 
-ghost use Rattle.nbd_session.specs.Laws.{CuttingsAgree, FeedsInOneWay, FeedsLawfully, FeedsTakeAll, FeedsTakeFirst, HistoriesAreLawful, HoldsInOneWay, HoldsSome, NeedyGoOn, OutputKeeps, PiecesAdd, RepliesKeep};
+ghost use Rattle.nbd_session.specs.Laws.{CuttingsAgree, FeedsInOneWay, FeedsLawfully, FeedsTakeAll, FeedsTakeFirst, HistoriesAreLawful, HoldsInOneWay, HoldsSome, NeedyGoOn, OutputIsLawful, OutputKeeps, PiecesAdd, RepliesAreLawful, RepliesKeep};
 
 use nbd_codec::{client_flags_are_apart, options_are_apart, requests_are_apart};
 
@@ -18,6 +18,8 @@ pub fn cuttings_agree()
 pub fn feeds_are_lawful()
     ensures lawful { HistoriesAreLawful }
     ensures feeds { FeedsLawfully }
+    ensures replies { RepliesAreLawful }
+    ensures output { OutputIsLawful }
     ensures all { FeedsTakeAll }
     ensures needy { NeedyGoOn }
 {

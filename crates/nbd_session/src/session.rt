@@ -2,7 +2,7 @@ ghost use Rattle.std.specs.Prelude.{◌≡◌, ◌+◌, ◌<◌, ◌≤◌, ◌�
 ghost use Rattle.std.specs.Option.{option_to_list};
 ghost use Rattle.nbd_codec.specs.Handshake.{greeting_spelling};
 ghost use Rattle.nbd_codec.specs.Reply.{spelling, reply_view};
-ghost use Rattle.nbd_session.specs.Demand.{IsAskedInside, IsInside, asked_by, session_of, wanted_view};
+ghost use Rattle.nbd_session.specs.Demand.{IsUnnumbered, IsAskedInside, IsInside, asked_by, session_of, wanted_view};
 ghost use Rattle.nbd_session.specs.Lawful.{History, NeedsMore, Stands, fed_and_asked, handed_out, most_kept, nothing, replied};
 ghost use Rattle.nbd_session.specs.Replies.{answered, error_of, reply_seen};
 ghost use Rattle.nbd_session.specs.Session.{Feeds, Settles};
@@ -10,7 +10,7 @@ ghost use Rattle.nbd_session.specs.Turn.{IsTurn, asked_view, is_over, phase_afte
 ghost use Rattle.nbd_session.specs.declared.phase.Phase.TheVariants.{Greeted, Over};
 
 use crate::demand::{Demand, Wanted};
-use crate::laws::feeds_are_lawful;
+use crate::laws::{feeds_are_lawful, requests_are_held};
 use crate::negotiation::{Export, flags_turn, option_turn, skip_turn};
 use crate::phase::Phase;
 use crate::refusal::Refusal;
@@ -51,7 +51,7 @@ impl Model for Session {
 }
 
 impl Session {
-    ghost use Rattle.nbd_session.specs.Session.{Grows, State, course_of, left_to_take, limit_in_flight, step, taken_from};
+    ghost use Rattle.nbd_session.specs.Session.{Grows, Reaches, State, course_of, left_to_take, limit_in_flight, step, taken_from};
 
     /// A session at an export of `size` bytes that takes payloads of up to `max_payload` bytes. The greeting waits to
     /// go out.
@@ -90,10 +90,12 @@ impl Session {
             NeedsMore self.new.phase self.new.export.max_payload self.new.kept) }
         ensures keeps_little { OnOk result (is_over self.new.phase ≡ false → self.new.in_flight < LIMIT_IN_FLIGHT →
             length self.new.kept < most_kept self.new.phase self.new.export.max_payload) }
+        ensures reaches { IfOk result (λ demands. Reaches self.old piece.now self.new (map asked_by demands.items)) }
         ensures export { self.new.export ≡ self.old.export }
         ensures id { self.new.id ≡ self.old.id }
         ensures inside { IfOk result (λ demands. All (IsInside self.old.export.size) demands.items) }
         ensures whose { IfOk result (λ demands. All (λ demand. session_of demand ≡ self.old.id) demands.items) }
+        ensures unnumbered { IfOk result (λ demands. All IsUnnumbered demands.items) }
         ensures in_flight { IfOk result (λ demands. self.new.in_flight ≡ self.old.in_flight + length demands.items) }
         ensures limit { self.new.in_flight ≤ LIMIT_IN_FLIGHT }
     {
@@ -101,6 +103,7 @@ impl Session {
             return Err(Refusal::SessionOver);
         }
         feeds_are_lawful();
+        requests_are_held();
         let mut demands = Vec::with_capacity(self.alloc, LIMIT_IN_FLIGHT)?;
         match self.take(piece) {
             Ok(Some(wanted)) => demands.push_reserved(wanted.into_demand(board, self.id)),

@@ -1,5 +1,5 @@
 use Rattle.nbd_session.specs.Session.{limit_in_flight}
-use Rattle.nbd_session.proofs.Endings.{feeds_take_all, histories_are_lawful, needy_go_on}
+use Rattle.nbd_session.proofs.Endings.{feeds_take_all, histories_are_lawful, needy_go_on, stands_handed, stands_replied}
 use Rattle.nbd_session.proofs.Lawfulness.{settles_lawfully}
 use Rattle.nbd_session.proofs.laws.feeds_are_lawful.Goals as goal
 
@@ -18,3 +18,9 @@ returns-clause-all c =
 
 pub returns-clause-needy : goal.returns-clause-needy
 returns-clause-needy c = needy_go_on
+
+pub returns-clause-replies : goal.returns-clause-replies
+returns-clause-replies c = stands_replied
+
+pub returns-clause-output : goal.returns-clause-output
+returns-clause-output c = stands_handed
