@@ -1,7 +1,11 @@
+pub mod Counting
 pub mod Event
 pub mod Laws
 pub mod Machine
 pub mod Runs
 pub mod Sound
+pub mod Standing
+pub mod StandsFor
 pub mod Steps
+pub mod View
 pub mod Views

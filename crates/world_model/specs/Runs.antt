@@ -3,7 +3,7 @@ use Rattle.std.proofs.Common.{◌≡◌, ◌≢◌, ◌⊎◌, inl, inr, ℕ, ze
 use Rattle.std.specs.Prelude.{All, AllPairs, Contains, find, slice_get}
 use Rattle.std.proofs.lemmas.Bool.{cases_Bool, cond-true, cond-false, eq-eqb, ne_eqb}
 use Rattle.std.proofs.lemmas.List.{append-nil, append_assoc, get_or-map, get_or-take, length-take, length-map, length_push, map_push, take-append-le, take-map, take-take, take_all}
-use Rattle.std.proofs.lemmas.List.Elements.{All-contains, All-filter, All-map, All-push, All-weaker, Contains-append_left, Contains-push, Contains-push_cases}
+use Rattle.std.proofs.lemmas.List.Elements.{All-contains, All-filter, All-map, All-push, All-take, All-weaker, Contains-append_left, Contains-push, Contains-push_cases}
 use Rattle.std.proofs.lemmas.List.Quantifiers.{all_pairs_push}
 use Rattle.std.proofs.lemmas.Option.{slice_get_within, same_Some}
 use Rattle.flush_barrier.specs.declared.session_id.SessionId.{SessionId}
@@ -62,7 +62,7 @@ length-answered_at place (t ∷ ts) = ap suc (length-answered_at (place - 1) ts)
 pub writes-answered_at : (place : ℕ) (taken : List Taken) → writes_of (answered_at place taken) ≡ writes_of taken
 writes-answered_at place taken = answered_same (λ t. (t.name, t.write)) (λ t. refl) place taken
 
-length-writes_of : (taken : List Taken) → length (writes_of taken) ≡ length taken
+pub length-writes_of : (taken : List Taken) → length (writes_of taken) ≡ length taken
 length-writes_of taken = length-map {B = ℕ × Placed} taken (λ t. (t.name, t.write))
 
 -- ---- the last answered write
@@ -115,6 +115,7 @@ pub sound_start : StartIsSound
 sound_start = record {
   sent_apart = λ i j d lt within. absurd (omega arith);
   sent_before = λ k d within. absurd (omega arith);
+  taken_before = λ k d within. absurd (omega arith);
   taken_apart = λ i j d lt within. absurd (omega arith);
   owed_taken = omega arith;
   marks_taken = λ k d within. absurd (omega arith);
@@ -136,6 +137,7 @@ told_sound : (s : State) (asked : Asked) → IsSound s → IsSound (told s asked
 told_sound s asked sound = record {
   sent_apart = sound.sent_apart;
   sent_before = All-weaker (λ name. name < s.events) (λ name. name < s.events + 1) (λ name lt. omega arith) (names_sent s) sound.sent_before;
+  taken_before = All-weaker (λ name. name < s.events) (λ name. name < s.events + 1) (λ name lt. omega arith) (names_taken s) sound.taken_before;
   taken_apart = sound.taken_apart;
   owed_taken = sound.owed_taken;
   marks_taken = sound.marks_taken;
@@ -152,6 +154,7 @@ send_sound s session cookie request sound =
           (apart_push (names_sent s) s.events sound.sent_apart (All-weaker (λ name. name < s.events) (λ name. name ≢ s.events) (λ name lt is. omega arith) (names_sent s) sound.sent_before));
       sent_before = subst (λ (l : List ℕ). All (λ name. name < s.events + 1) l) (sym names)
           (All-push (λ name. name < s.events + 1) (names_sent s) s.events (All-weaker (λ name. name < s.events) (λ name. name < s.events + 1) (λ name lt. omega arith) (names_sent s) sound.sent_before) (omega arith));
+      taken_before = All-weaker (λ name. name < s.events) (λ name. name < s.events + 1) (λ name lt. omega arith) (names_taken s) sound.taken_before;
       taken_apart = sound.taken_apart;
       owed_taken = sound.owed_taken;
       marks_taken = All-push (λ (a : Asked). a.mark ≤ length s.taken) s.sent asked sound.marks_taken (omega arith);
@@ -162,13 +165,15 @@ send_sound s session cookie request sound =
           (Contains-push (names_sent s) s.events));
     }
 
-take_sound : (s : State) (asked : Asked) (write : Placed) → IsSound s → All (λ t. t.name ≢ asked.name) s.taken → IsSound (after s (Take asked write))
-take_sound s asked write sound others =
+take_sound : (s : State) (asked : Asked) (write : Placed) → IsSound s → Contains s.sent asked → All (λ t. t.name ≢ asked.name) s.taken → IsSound (after s (Take asked write))
+take_sound s asked write sound among others =
+    let before : asked.name < s.events = All-contains (λ (a : Asked). a.name < s.events) s.sent asked (λ k d within. subst (λ n. n < s.events) (get_or-map (λ (a : Asked). a.name) s.sent k d d.name within) (sound.sent_before k d.name (omega (arith, length-map s.sent (λ (a : Asked). a.name))))) among in
     let t : Taken = record { name = asked.name; write = write; answered = false } in
     let long : length (s.taken ++ t ∷ []) ≡ length s.taken + 1 = length_push s.taken t in
     record {
       sent_apart = sound.sent_apart;
       sent_before = sound.sent_before;
+      taken_before = subst (λ (l : List ℕ). All (λ name. name < s.events) l) (sym (map_push (λ (u : Taken). u.name) s.taken t)) (All-push (λ name. name < s.events) (names_taken s) asked.name sound.taken_before before);
       taken_apart = subst (λ (l : List ℕ). AllPairs (λ m n. m ≢ n) l) (sym (map_push (λ (u : Taken). u.name) s.taken t))
           (apart_push (names_taken s) asked.name sound.taken_apart (All-map (λ n. n ≢ asked.name) (λ (u : Taken). u.name) s.taken others));
       owed_taken = omega (arith, sound.owed_taken);
@@ -184,6 +189,7 @@ answered_sound s place owed sound le =
     record {
       sent_apart = sound.sent_apart;
       sent_before = sound.sent_before;
+      taken_before = subst (λ (l : List ℕ). All (λ name. name < s.events) l) (sym (answered_same (λ t. t.name) (λ t. refl) place s.taken)) sound.taken_before;
       taken_apart = subst (λ (l : List ℕ). AllPairs (λ m n. m ≢ n) l) (sym (answered_same (λ t. t.name) (λ t. refl) place s.taken)) sound.taken_apart;
       owed_taken = omega arith;
       marks_taken = All-weaker (λ (a : Asked). a.mark ≤ length s.taken) (λ (a : Asked). a.mark ≤ length (answered_at place s.taken)) (λ a le. omega arith) s.sent sound.marks_taken;
@@ -195,6 +201,7 @@ owing_sound : (s : State) (owed : ℕ) → IsSound s → owed ≤ length s.taken
 owing_sound s owed sound le = record {
   sent_apart = sound.sent_apart;
   sent_before = sound.sent_before;
+  taken_before = sound.taken_before;
   taken_apart = sound.taken_apart;
   owed_taken = le;
   marks_taken = sound.marks_taken;
@@ -206,6 +213,7 @@ restart_sound : (s : State) (front : ℕ) → IsSound s → s.owed ≤ front →
 restart_sound s front sound owed within = record {
   sent_apart = sound_start.sent_apart;
   sent_before = λ k d none. absurd (omega arith);
+  taken_before = subst (λ (l : List ℕ). All (λ name. name < s.events) l) (take-map (λ (t : Taken). t.name) front s.taken) (All-take (λ name. name < s.events) front (names_taken s) sound.taken_before);
   taken_apart = subst (λ (l : List ℕ). AllPairs (λ m n. m ≢ n) l) (take-map (λ (t : Taken). t.name) front s.taken) (apart_take front (names_taken s) sound.taken_apart);
   owed_taken = omega (arith, length-take front s.taken);
   marks_taken = λ k d none. absurd (omega arith);
@@ -219,7 +227,7 @@ place_within s asked place (some, at) = omega (arith, slice_get_within (names_ta
 
 pub sound_step : StepsKeepSound
 sound_step s (Send session cookie request) sound may = send_sound s session cookie request sound
-sound_step s (Take asked write) sound may = take_sound s asked write sound may.2
+sound_step s (Take asked write) sound may = take_sound s asked write sound may.0 may.2
 sound_step s (AnswerWrite asked place) sound may = answered_sound (told s asked) place s.owed (told_sound s asked sound) sound.owed_taken
 sound_step s (AnswerFua asked place) sound may =
     answered_sound (told s asked) place (max s.owed place) (told_sound s asked sound) (omega (arith, sound.owed_taken, place_within s asked place may.2))

@@ -17,6 +17,7 @@ names_taken s = map (λ t. t.name) s.taken
 pub record IsSound (s : State) : Type 0 where
   pub sent_apart : AllPairs (λ m n. m ≢ n) (names_sent s)
   pub sent_before : All (λ name. name < s.events) (names_sent s)
+  pub taken_before : All (λ name. name < s.events) (names_taken s)
   pub taken_apart : AllPairs (λ m n. m ≢ n) (names_taken s)
   pub owed_taken : s.owed ≤ length s.taken
   pub marks_taken : All (λ a. a.mark ≤ length s.taken) s.sent
