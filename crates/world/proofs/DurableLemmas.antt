@@ -8,8 +8,8 @@ use Rattle.volume.specs.Writes.{Placed, patched}
 use Rattle.gate_journal.specs.declared.batch.Image.{Image}
 use Rattle.gate_journal.specs.Batch.{Batch, HoldsBatches, HoldsOldOrNew, last_front}
 use Rattle.gate_journal.specs.Journal.{IsSettled}
-use Rattle.world.specs.Blocks.{flat, with_images, AreImagesAfter}
-use Rattle.world.specs.DiskMeaning.{with_batches, MeansOldOrNew}
+use Rattle.world.specs.Blocks.{flat, with_batches, with_images, AreImagesAfter}
+use Rattle.world.specs.DiskMeaning.{MeansOldOrNew}
 use Rattle.world.specs.declared.member.Member.{Member}
 
 -- the images of the first write leave the volume after it

@@ -1,8 +1,9 @@
 -- A volume kept in blocks, with writes over it.
-use Rattle.std.specs.Prelude.{◌≡◌, ℕ, List, length, map, set, fold}
+use Rattle.std.specs.Prelude.{◌≡◌, ℕ, List, length, map, replicate, set, fold}
 use Rattle.std.specs.List.{flat_map}
 use Rattle.volume.specs.Writes.{Placed, patched}
 use Rattle.volume.specs.Pieces.{touched}
+use Rattle.gate_journal.specs.Batch.{Batch}
 use Rattle.gate_journal.specs.declared.batch.Image.{Image}
 
 -- the bytes of blocks one after another: a volume
@@ -25,3 +26,7 @@ with_images blocks images = fold with_image blocks images
 pub record AreImagesAfter (blocks : List (List ℕ)) (w : Placed) (images : List Image) : Type 0 where
   pub touched : map (λ image. image.block) images ≡ touched w.offset (length w.bytes)
   pub patched : flat (with_images blocks images) ≡ patched (flat blocks) w
+
+-- so many blocks of zeros with the images of these batches over them, in order
+abbrev pub with_batches : ℕ → List Batch → List (List ℕ)
+with_batches count batches = fold (λ bs batch. with_images bs batch.images) (replicate count (replicate 4096 0)) batches

@@ -1,15 +1,11 @@
 -- What the disk of a member means.
-use Rattle.std.specs.Prelude.{◌≡◌, ◌⊎◌, ℕ, ◌+◌, List, replicate, fold, vec_len}
+use Rattle.std.specs.Prelude.{◌≡◌, ◌⊎◌, ℕ, ◌+◌, List, vec_len}
 use Rattle.disk_model.specs.Part.{inside}
 use Rattle.gate_journal.specs.Batch.{Batch, HoldsBatches, last_front}
 use Rattle.gate_journal.specs.Journal.{IsSettled}
-use Rattle.world.specs.Blocks.{flat, with_images}
+use Rattle.world.specs.Blocks.{flat, with_batches}
 use Rattle.world.specs.Member.{volume_at}
 use Rattle.world.specs.declared.member.Member.{Member}
-
--- so many blocks of zeros with the images of these batches over them, in order
-abbrev pub with_batches : ℕ → List Batch → List (List ℕ)
-with_batches count batches = fold (λ bs batch. with_images bs batch.images) (replicate count (replicate 4096 0)) batches
 
 -- The area means a front and a volume of so many blocks: it holds batches, the front is the last one's, or 0 without batches,
 -- and the volume is zeros with their images over them.

@@ -1,8 +1,17 @@
 pub mod Blocks
 pub mod Commit
 pub mod DiskMeaning
+pub mod Lawful
 pub mod Member
 pub mod Muster
+pub mod OneVolume
+pub mod Played
+pub mod Recovery
 pub mod Refusal
+pub mod Refusals
+pub mod Restart
+pub mod Seen
+pub mod Steps
+pub mod Told
 pub mod Waiting
 pub mod Writes

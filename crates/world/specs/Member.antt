@@ -1,11 +1,12 @@
 -- What the world sees of a member.
-use Rattle.std.specs.Prelude.{◌≡◌, ℕ, ◌+◌, ◌-◌, ◌*◌, ◌<◌, ◌≤◌, List, [], ◌∷◌, ◌++◌, length, map, take, drop, fold, IsSome, None, vec_len}
+use Rattle.std.specs.Prelude.{◌≡◌, ℕ, Bool, Option, is_some, ◌+◌, ◌-◌, ◌*◌, ◌<◌, ◌≤◌, List, [], ◌∷◌, ◌++◌, length, map, take, drop, fold, IsSome, None, vec_len}
 use Rattle.std.specs.List.{HoldsAt}
 use Rattle.std.specs.VecDeque.{deque_len}
 use Rattle.std.specs.Option.{ForSome}
 use Rattle.volume.specs.Writes.{Placed, patched}
 use Rattle.volume.specs.Pieces.{touched_count}
 use Rattle.gate_journal.specs.Journal.{IsTooMuch}
+use Rattle.gate_journal.specs.Receipt.{Receipt}
 use Rattle.world.specs.Blocks.{flat}
 use Rattle.world.specs.Waiting.{first_learned}
 use Rattle.world.specs.declared.member.Member.{Member}
@@ -46,6 +47,15 @@ contents_of m = record {
   submits = m.submits.items;
   ticket = m.next_ticket;
 }
+
+-- whether a commit is under way, the receipt that isn't posted, and whether it has stopped
+pub record Rest : Type 0 where
+  pub committing : Bool
+  pub receipt : Option Receipt
+  pub stopped : Bool
+
+abbrev pub rest_of : Member → Rest
+rest_of m = record { committing = is_some m.commit; receipt = m.receipt; stopped = m.stopped }
 
 -- its volume at a front from the durable one to the last applied write
 abbrev pub volume_at : Member → ℕ → List ℕ

@@ -1,12 +1,12 @@
 //! The blocks of a volume, with writes over them.
-ghost use Rattle.std.specs.Prelude.{◌≡◌, ◌+◌, ◌*◌, ◌<◌, ◌≤◌, length, take, drop, All, IfOk};
-ghost use Rattle.gate_journal.specs.Batch.{AreImages};
+ghost use Rattle.std.specs.Prelude.{◌≡◌, ◌+◌, ◌*◌, ◌<◌, ◌≤◌, length, vec_len, take, drop, All, IfOk};
+ghost use Rattle.gate_journal.specs.Batch.{AreBatches, AreImages};
 ghost use Rattle.volume.specs.Pieces.{touched_count};
 ghost use Rattle.volume.specs.Writes.{block_of};
-ghost use Rattle.world.specs.Blocks.{volume_after, with_images, AreImagesAfter};
+ghost use Rattle.world.specs.Blocks.{volume_after, with_batches, with_images, AreImagesAfter};
 ghost use Rattle.world.specs.Writes.{IsInside};
 
-use gate_journal::Image;
+use gate_journal::{Batch, Image};
 use std::alloc::{AllocError, Global};
 use volume::{BLOCK_SIZE, Write, patch, pieces};
 
@@ -89,4 +89,17 @@ pub(crate) fn keep(blocks: &mut [Block], images: &[Image])
     for image in images {
         blocks[image.block as usize] = image.bytes;
     }
+}
+
+/// The blocks that these batches leave of zeros.
+pub(crate) fn replay(alloc: Global, count: u32, batches: &[Batch]) -> Result<Vec<Block>, AllocError>
+    requires { AreBatches count 0 batches.now }
+    ensures blocks { IfOk result (λ blocks. blocks.items ≡ with_batches count batches.now) }
+    ensures many { IfOk result (λ blocks. vec_len blocks ≡ count) }
+{
+    let mut blocks = vec![in alloc; [0; BLOCK_SIZE as usize]; count as usize]?;
+    for batch in batches {
+        keep(&mut blocks, batch.images());
+    }
+    Ok(blocks)
 }

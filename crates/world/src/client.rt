@@ -16,9 +16,14 @@ pub(crate) struct Client {
 }
 
 impl Client {
+    ghost use Rattle.std.specs.Prelude.{List, option_to_list, map};
+    ghost use Rattle.world_model.specs.Event.{ClientEvent};
+    ghost use Rattle.world.specs.Played.{handed_to, put_of, waiting_for};
+    ghost use Rattle.world.specs.Told.{told_by, TakesReply};
+
     /// Takes the reply to one of its requests. A session without memory for it ends.
     pub(crate) fn take_reply(&mut self, reply: Reply)
-        ensures { self.new.session.export.size ≡ self.old.session.export.size }
+        ensures { (events : List ClientEvent) × TakesReply (told_by reply) self.old self.new events }
     {
         if self.session.done(reply).is_err() {
             self.session.end();
@@ -27,7 +32,8 @@ impl Client {
 
     /// What waits to go out, and the session's end if it wasn't told yet.
     pub(crate) fn put_out(&mut self) -> Option<Output>
-        ensures { self.new.session.export.size ≡ self.old.session.export.size }
+        ensures client { self.new ≡ handed_to self.old }
+        ensures output { map put_of (option_to_list result) ≡ waiting_for self.old }
     {
         let bytes = self.session.output();
         let closed = self.session.closed() && !self.told;

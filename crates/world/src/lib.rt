@@ -9,6 +9,7 @@ mod answer;
 mod blocks;
 mod client;
 mod commit;
+mod laws;
 mod member;
 mod muster;
 mod refusal;
@@ -17,6 +18,9 @@ mod waiting;
 mod world;
 
 pub use answer::{Answer, Answers, Output};
+pub use laws::{
+    plays_are_of_one_volume, refusals_have_a_cause, restarts_stand, sessions_are_lawful,
+};
 pub use refusal::Refusal;
 pub use step::Step;
 pub use world::{MemberState, World};

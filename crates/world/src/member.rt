@@ -1,6 +1,9 @@
 ghost use Rattle.std.specs.Prelude.{◌≡◌, ◌+◌, ◌*◌, ◌<◌, ◌≤◌, vec_len, All};
 ghost use Rattle.std.specs.Option.{ForSome};
-ghost use Rattle.gate_journal.specs.Batch.{AreImages};
+ghost use Rattle.std.specs.Prelude.{IfOk, IfErr, IsErrOf};
+ghost use Rattle.gate_journal.specs.Batch.{AreBatches, AreImages, HoldsBatches, IsDamaged};
+ghost use Rattle.gate_journal.specs.Journal.{IsSettled};
+ghost use Rattle.world.specs.Recovery.{IsJournalOf, IsOfRecovering, area_of};
 ghost use Rattle.world.specs.Commit.{IsOfFirst};
 ghost use Rattle.world.specs.Writes.{IsInside};
 
@@ -9,7 +12,7 @@ use crate::commit::Commit;
 use crate::waiting::{Token, Waiting};
 use disk_model::{Disk, Part};
 use flush_barrier::{ErrorCode, Floor, Front, Reply};
-use gate_journal::{Journal, Refusal, Slot, Synced};
+use gate_journal::{Batch, Journal, Refusal, Slot, Synced};
 use std::alloc::{AllocError, Global};
 use std::collections::VecDeque;
 use volume::{BLOCK_SIZE, Geometry, Write};
@@ -82,13 +85,14 @@ pub(crate) struct Member {
 }
 
 impl Member {
-    ghost use Rattle.std.specs.Prelude.{◌↔◌, ◌⊎◌, ◌==◌, ℕ, [], ◌∷◌, ◌++◌, true, Some, None, IsTrue, MatchOption, IsSomeAnd, find, position, IfOk, IfErr, IsErrOf, OnOk, OnErr, OnSome, length, take, drop, replicate, vec_capacity};
+    ghost use Rattle.std.specs.Prelude.{false, is_ok, ◌↔◌, ◌⊎◌, ◌==◌, ℕ, [], ◌∷◌, ◌++◌, true, Some, None, IsTrue, MatchOption, IsSomeAnd, find, position, OnOk, OnErr, OnSome, length, take, drop, replicate, vec_capacity};
     ghost use Rattle.std.specs.List.{list_any, slice_get};
     ghost use Rattle.world.specs.Waiting.{is_committed, is_paid, awaits_floor, without_first, first_learned, IsReplyTo};
     ghost use Rattle.disk_model.specs.Disk.{LeavesOnly};
     ghost use Rattle.gate_journal.specs.Refusal.{HasCause, IsOfAppending};
-    ghost use Rattle.world.specs.DiskMeaning.{IsDurable, MeansOldOrNew};
-    ghost use Rattle.world.specs.Member.{fronts_of, contents_of, volume_at, submitted, numbered, committed, waiting_of, all_learned, waiting_count, NextIsTooMuch, CanBegin, HasSubmit, IsCommitting};
+    ghost use Rattle.world.specs.Blocks.{flat};
+    ghost use Rattle.world.specs.DiskMeaning.{IsDurable, Means, MeansOldOrNew};
+    ghost use Rattle.world.specs.Member.{fronts_of, contents_of, rest_of, volume_at, submitted, numbered, committed, waiting_of, all_learned, waiting_count, NextIsTooMuch, CanBegin, HasSubmit, IsCommitting};
 
     /// A member at the slot with a volume of zeros, and an empty journal from the beginning of its disk. It is lent the
     /// disk here and wherever it writes.
@@ -106,6 +110,7 @@ impl Member {
         ensures durable { D.keeps_model → IfOk result (λ m. IsDurable m (D.gives disk.new) (D.may_leave_now disk.new)) }
         ensures size { D.size disk.new ≡ D.size disk.old }
         ensures idle { IfOk result (λ m. m.kept ≡ None) }
+        ensures rest { IfOk result (λ m. rest_of m ≡ record { committing = false; receipt = None; stopped = false }) }
     {
         let blocks = vec![in alloc; [0; BLOCK_SIZE as usize]; geometry.blocks as usize]?;
         let area = Part::new(0, u64::from(geometry.area));
@@ -118,6 +123,53 @@ impl Member {
             writes: Vec::new(alloc),
             durable: 0,
             known: 0,
+            next_ticket: 1,
+            submits: VecDeque::new(alloc),
+            waiting: Vec::new(alloc),
+            kept: None,
+            commit: None,
+            receipt: None,
+            stopped: false,
+        })
+    }
+
+    /// The member at the slot whose disk holds a journal from its beginning: its volume is what the journal's batches
+    /// leave of zeros, its front the last one's. It is lent the disk here and wherever it writes.
+    ///
+    /// 123 `Damaged` only where the area holds no batches; else 100 `Memory`, or what the device refuses.
+    pub(crate) fn recover<D: Disk>(
+        alloc: Global,
+        slot: Slot,
+        disk: &mut D,
+        geometry: Geometry,
+    ) -> Result<Member, Refusal>
+        requires { geometry.area ≤ D.size disk.old }
+        ensures fronts { IfOk result (λ m. fronts_of m ≡ record { slot = slot; durable = m.durable; known = m.durable; applied = m.durable; size = 4096 * geometry.blocks; area_end = geometry.area }) }
+        ensures contents { IfOk result (λ m. contents_of m
+            ≡ record { volume = flat m.blocks.items; writes = []; submits = []; ticket = 1 }) }
+        ensures waiting { IfOk result (λ m. waiting_of m ≡ []) }
+        ensures idle { IfOk result (λ m. m.kept ≡ None) }
+        ensures rest { IfOk result (λ m. rest_of m ≡ record { committing = false; receipt = None; stopped = false }) }
+        ensures greatest { IfOk result (λ m. m.durable ≤ 9223372036854775807) }
+        ensures means { D.keeps_model → IfOk result (λ m. Means geometry.blocks m.durable (flat m.blocks.items)
+            (area_of geometry.area (D.gives disk.old))) }
+        ensures durable { D.keeps_model → IfOk result (λ m. IsDurable m (D.gives disk.new) (D.may_leave_now disk.new)) }
+        ensures damaged { D.keeps_model → IfErr result (λ e. e ≡ Refusal.Damaged
+            → IsDamaged geometry.blocks 0 (area_of geometry.area (D.gives disk.old))) }
+        ensures told { IfErr result IsOfRecovering }
+        ensures size { D.size disk.new ≡ D.size disk.old }
+    {
+        let (journal, batches) = read_journal(alloc, slot, disk, geometry)?;
+        let blocks = blocks::replay(alloc, geometry.blocks, &batches)?;
+        let durable = journal.front();
+        Ok(Member {
+            alloc,
+            slot,
+            journal,
+            blocks,
+            writes: Vec::new(alloc),
+            durable,
+            known: durable,
             next_ticket: 1,
             submits: VecDeque::new(alloc),
             waiting: Vec::new(alloc),
@@ -160,8 +212,10 @@ impl Member {
         ensures token { IfErr result (λ e. e.0 ≡ token) }
         ensures last_ticket { IfErr result (λ e. (e.1 ≡ Unsubmitted.LastTicket)
             ↔ (9223372036854775807 < (contents_of self.old).ticket)) }
+        ensures ticket { OnOk result ((contents_of self.old).ticket ≤ 9223372036854775807) }
         ensures fronts { fronts_of self.new ≡ fronts_of self.old }
         ensures kept { self.new.kept ≡ None }
+        ensures rest { rest_of self.new ≡ rest_of self.old }
     {
         self.kept = None;
         if self.next_ticket > GREATEST {
@@ -211,6 +265,7 @@ impl Member {
         ensures frame { record (fronts_of self.new) { applied = (fronts_of self.old).applied } ≡ fronts_of self.old }
         ensures grows { (fronts_of self.old).applied ≤ (fronts_of self.new).applied }
         ensures kept { self.new.kept ≡ None }
+        ensures rest { rest_of self.new ≡ rest_of self.old }
     {
         self.kept = None;
         self.writes.reserve(1)?;
@@ -232,6 +287,7 @@ impl Member {
         ensures contents { contents_of self.new
             ≡ record (contents_of self.old) { writes = (contents_of self.old).writes ++ submit.write ∷ [] } }
         ensures kept { self.new.kept ≡ None }
+        ensures rest { rest_of self.new ≡ rest_of self.old }
     {
         let Submit { ticket, write } = submit;
         self.kept = None;
@@ -267,6 +323,7 @@ impl Member {
         ensures err { OnErr result (CanBegin self.new) }
         ensures full { IsErrOf result Refusal.Full ↔ NextIsTooMuch self.old }
         ensures told { IfErr result (λ e. (e ≡ Refusal.Full) ⊎ (e ≡ Refusal.Memory)) }
+        ensures rest { rest_of self.new ≡ record (rest_of self.old) { committing = is_ok result } }
     {
         self.kept = None;
         let write = &self.writes[0];
@@ -309,6 +366,7 @@ impl Member {
         ensures cause { HasCause (D.failures disk.old) (D.failures disk.new) result }
         ensures any_moment { D.keeps_model → IsDurable self.old (D.gives disk.old) (D.may_leave_now disk.old)
             → LeavesOnly D.moment D.may_have_left_since disk.old disk.new (MeansOldOrNew self.old) }
+        ensures stopped { self.new.stopped ≡ self.old.stopped }
     {
         self.kept = None;
         let Commit { images } = self.commit.take().unwrap();
@@ -333,6 +391,7 @@ impl Member {
         ensures contents { contents_of self.new ≡ contents_of self.old }
         ensures waiting { waiting_of self.new ≡ waiting_of self.old }
         ensures kept { self.new.kept ≡ None }
+        ensures rest { rest_of self.new ≡ rest_of self.old }
     {
         self.kept = None;
         self.known = front.number();
@@ -356,6 +415,7 @@ impl Member {
             (result ≡ None) (λ w. IsSomeAnd result (IsReplyTo w.token None)) }
         ensures kept { self.new.kept ≡ self.old.kept }
         ensures fewer { OnSome result (waiting_count self.new + 1 ≡ waiting_count self.old) }
+        ensures rest { rest_of self.new ≡ rest_of self.old }
     {
         let known = self.known;
         let at = self.first_committed()?;
@@ -378,6 +438,7 @@ impl Member {
             (result ≡ None) (λ w. IsSomeAnd result (IsReplyTo w.token None)) }
         ensures kept { self.new.kept ≡ self.old.kept }
         ensures fewer { OnSome result (waiting_count self.new + 1 ≡ waiting_count self.old) }
+        ensures rest { rest_of self.new ≡ rest_of self.old }
     {
         let at = self.first_paid(floor)?;
         Some(self.waiting.remove(at).settle_fua(self.alloc, floor))
@@ -391,6 +452,7 @@ impl Member {
         ensures contents { contents_of self.new ≡ contents_of self.old }
         ensures waiting { waiting_of self.new ≡ waiting_of self.old }
         ensures kept { self.new.kept ≡ None }
+        ensures receipt { self.new.receipt ≡ self.old.receipt }
     {
         self.stopped = true;
         self.kept = None;
@@ -406,6 +468,7 @@ impl Member {
             (result ≡ None) (λ w. IsSomeAnd result (IsReplyTo w.token (Some code))) }
         ensures kept { self.new.kept ≡ self.old.kept }
         ensures fewer { OnSome result (waiting_count self.new + 1 ≡ waiting_count self.old) }
+        ensures rest { rest_of self.new ≡ rest_of self.old }
     {
         if self.waiting.is_empty() {
             return None;
@@ -444,4 +507,28 @@ impl Member {
         }
         waiting.destroy_empty();
     }
+}
+
+/// The journal that a member's disk begins with, and its batches.
+fn read_journal<D: Disk>(
+    alloc: Global,
+    slot: Slot,
+    disk: &mut D,
+    geometry: Geometry,
+) -> Result<(Journal, Vec<Batch>), Refusal>
+    requires { geometry.area ≤ D.size disk.old }
+    ensures journal { IfOk result (λ r. IsJournalOf slot geometry.blocks geometry.area r.0) }
+    ensures batches { IfOk result (λ r. AreBatches geometry.blocks 0 r.1.items) }
+    ensures holds { D.keeps_model → IfOk result (λ r.
+        HoldsBatches geometry.blocks 0 r.1.items (area_of geometry.area (D.gives disk.old))) }
+    ensures settled { D.keeps_model → IfOk result (λ r. IsSettled r.0 r.1.items (D.gives disk.new) (D.may_leave_now disk.new)) }
+    ensures damaged { D.keeps_model → IfErr result (λ e. e ≡ Refusal.Damaged
+        → IsDamaged geometry.blocks 0 (area_of geometry.area (D.gives disk.old))) }
+    ensures told { IfErr result IsOfRecovering }
+    ensures size { D.size disk.new ≡ D.size disk.old }
+{
+    let area = Part::new(0, u64::from(geometry.area));
+    let mut journal = Journal::open(alloc, disk, area, slot, geometry.blocks, 0)?;
+    let batches = journal.read_all(alloc, disk)?;
+    Ok((journal, batches))
 }

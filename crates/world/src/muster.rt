@@ -16,11 +16,19 @@ pub(crate) struct Muster {
 }
 
 impl Muster {
+    ghost use Rattle.std.specs.Prelude.{◌+◌, ◌++◌, ◌∷◌, []};
+    ghost use Rattle.flush_barrier.specs.Board.{gauge_in};
+    ghost use Rattle.flush_barrier.specs.Floor.{least_of};
     ghost use Rattle.world.specs.Muster.{next_of};
+    ghost use Rattle.world.specs.Steps.{IsNextCounted};
 
     /// A crew of which no gauge is looked up yet.
     #[tactic(auto, using(crate::proofs::MusterSteps::muster_steps))]
-    pub(crate) fn new(crew: Crew) -> Muster {
+    pub(crate) fn new(crew: Crew) -> Muster
+        ensures crew { result.crew ≡ crew }
+        ensures gauges { result.gauges ≡ [] }
+        ensures next { IsNextCounted crew.mask 0 result.next }
+    {
         let next = next_counted(&crew, 0);
         Muster {
             crew,
@@ -39,7 +47,11 @@ impl Muster {
     /// Looks up the gauge of the next counted slot, where there is one.
     #[tactic(auto, using(crate::proofs::MusterSteps::muster_steps))]
     pub(crate) fn look_up(&mut self, board: &mut Board)
-        ensures { board.new ≡ board.old }
+        requires { next_of self.old < 8 }
+        ensures board { board.new ≡ board.old }
+        ensures crew { self.new.crew ≡ self.old.crew }
+        ensures gauges { self.new.gauges ≡ self.old.gauges ++ gauge_in board.old self.old.next ∷ [] }
+        ensures next { IsNextCounted self.old.crew.mask (self.old.next + 1) self.new.next }
     {
         if let Some(slot) = Slot::new(self.next) {
             self.gauges.push(board.gauge(&self.crew, slot));
@@ -50,6 +62,7 @@ impl Muster {
     /// The floor of the crew.
     pub(crate) fn into_floor(self) -> Floor
         requires { next_of self ≡ 8 }
+        ensures { result ≡ least_of self.crew.front self.gauges }
     {
         let Muster {
             crew,

@@ -6,14 +6,15 @@ ghost use Rattle.world.specs.Writes.{IsInside as IsWriteInside};
 
 use crate::answer::{Answer, Answers, Output};
 use crate::client::Client;
+use crate::laws::{plays_are_of_one_volume, restarts_stand};
 use crate::member::{Found, Kept, Member, Unsubmitted};
 use crate::muster::Muster;
 use crate::refusal::Refusal;
 use crate::step::Step;
 use crate::waiting::Token;
-use disk_model::Disk;
+use disk_model::{Cut, Disk, Event, MemDisk};
 use flush_barrier::{Board, ErrorCode, Front, OwedRead, Reply, SessionId};
-use gate_journal::Slot;
+use gate_journal::{Refusal as JournalRefusal, Slot};
 use nbd_session::{Demand, LIMIT_IN_FLIGHT, Session};
 use std::alloc::Global;
 use std::collections::VecDeque;
@@ -70,15 +71,32 @@ pub struct World<D: Disk> {
     ghost kept: { KeepsWithin board.front member },
     ghost volume: { (fronts_of member).size ≡ 4096 * geometry.blocks },
     ghost sessions: { All (λ client. client.session.export.size ≡ 4096 * geometry.blocks) clients.items },
+    ghost own_ids: { All (λ client. client.session.id ≡ client.id) clients.items },
     ghost demands_inside: { All (IsInside (4096 * geometry.blocks)) demands.items },
 }
 
 impl<D: Disk + Drop> World<D> {
+    ghost use Rattle.std.specs.Prelude.{◌≢◌, IfErr, ◌++◌, [], List, map, flat_map, take_while, nat_lt, false, MatchBool, OnErr};
+    ghost use Rattle.world.specs.OneVolume.{OneVolume, StandsFor};
+    ghost use Rattle.world.specs.Played.{Becomes, Came, IsOrdered, IsOwnStep, IsRefusedBytes, Stepped, handed_to, put_of, waiting_for};
+    ghost use Rattle.world.specs.Recovery.{IsOfRecovering};
+    ghost use Rattle.world.specs.Restart.{IsDurableFor, Restarts};
+    ghost use Rattle.world.specs.Seen.{seen, seen_first};
+    ghost use Rattle.world.specs.Steps.{AnswersEach, GetsBytes, Stops, TakesRead, TakesWrite, Tells, unsubmitted};
+    ghost use Rattle.world.specs.Told.{place_of, told_by};
+    ghost use Rattle.std.specs.List.{list_any};
+    ghost use Rattle.world.specs.Waiting.{awaits_floor, is_committed};
+    ghost use Rattle.world_model.specs.Event.{ClientEvent, Done, Failed};
+    ghost use Rattle.world_model.specs.Machine.{State, start};
+
     /// A world with a member on the disk, whose volume is zeros; its journal area begins the disk. The disk has at least
     /// the bytes of an area.
     pub fn new(alloc: Global, geometry: Geometry, disk: D) -> Result<World<D>, Refusal>
         requires { geometry.area ≤ D.size disk }
+        ensures seen { IfOk result (λ world. seen world ≡ seen_first geometry.blocks geometry.area geometry.max_payload) }
+        ensures stands { IfOk result (λ world. StandsFor (4096 * geometry.blocks) (seen world) start) }
     {
+        plays_are_of_one_volume();
         let slot = Slot::new(0).unwrap();
         let mut disk = disk;
         let member = Member::new(alloc, slot, &mut disk, geometry)?;
@@ -95,15 +113,61 @@ impl<D: Disk + Drop> World<D> {
         })
     }
 
+    /// The world of a member that is recovered from its disk: its volume is what the disk's journal means, at the front
+    /// of the journal's last batch, where the board opens. There are no sessions.
+    ///
+    /// 123 `Damaged` only where the disk is shorter than an area, or its area holds no batches; else 100 `Memory`, or what
+    /// the device refuses. All hand the disk back.
+    pub fn recover(
+        alloc: Global,
+        geometry: Geometry,
+        disk: D,
+    ) -> Result<World<D>, (JournalRefusal, D)>
+        ensures restarts { D.keeps_model → (s : State) → IsDurableFor geometry.blocks geometry.area s (D.gives disk)
+            → IfOk result (λ world. Restarts (4096 * geometry.blocks) s (seen world)) }
+        ensures refused { D.keeps_model → geometry.area ≤ D.size disk
+            → (s : State) → IsDurableFor geometry.blocks geometry.area s (D.gives disk) → IfErr result (λ e. e.0 ≢ JournalRefusal.Damaged) }
+        ensures told { IfErr result (λ e. IsOfRecovering e.0) }
+        ensures size { IfErr result (λ e. D.size e.1 ≡ D.size disk) }
+    {
+        restarts_stand();
+        if disk.len() < u64::from(geometry.area) {
+            return Err((JournalRefusal::Damaged, disk));
+        }
+        let slot = Slot::new(0).unwrap();
+        let mut disk = disk;
+        let member = match Member::recover(alloc, slot, &mut disk, geometry) {
+            Ok(member) => member,
+            Err(refusal) => return Err((refusal, disk)),
+        };
+        let mut gauges = [0; Board::SLOTS];
+        gauges[usize::from(slot.number())] = member.durable;
+        Ok(World {
+            alloc,
+            geometry,
+            board: Board::new(member.durable, 1 << slot.number(), gauges),
+            disk,
+            member,
+            clients: Vec::new(alloc),
+            demands: VecDeque::new(alloc),
+            looked: None,
+            muster: None,
+        })
+    }
+
     /// Plays steps in order. Room for the answers is made first: 100 `Memory` there plays nothing.
     pub fn play(&mut self, steps: &[Step]) -> Result<Answers, Refusal>
-        ensures { IfOk result (λ answers. length answers ≡ length steps.now) }
+        ensures answers { IfOk result (λ answers. length answers ≡ length steps.now) }
+        ensures one_volume { IfOk result (λ answers. OneVolume (4096 * self.old.geometry.blocks)
+            (seen self.old) steps.now answers (seen self.new)) }
+        ensures err { OnErr result (seen self.new ≡ seen self.old) }
     {
         let mut answers = Vec::with_capacity(self.alloc, steps.len())?;
         for step in steps {
             let answer = self.answer(step);
             answers.push_reserved(answer);
         }
+        plays_are_of_one_volume();
         Ok(Answers::from_vec(answers))
     }
 
@@ -111,6 +175,13 @@ impl<D: Disk + Drop> World<D> {
     pub fn member(&self, slot: Slot) -> Option<MemberState>
         ensures there { IsSome result ↔ (slot ≡ 0) }
         ensures ordered { IfSome result (λ m. (m.durable ≤ m.known) × (m.known ≤ m.applied)) }
+        ensures state { IfSome result (λ m. m ≡ record {
+          applied = (seen self.now).member.fronts.applied;
+          known = (seen self.now).member.fronts.known;
+          durable = (seen self.now).member.fronts.durable;
+          awaits_floor = list_any awaits_floor (seen self.now).member.waiting;
+          stopped = (seen self.now).member.stopped;
+        }) }
     {
         if slot != self.member.slot {
             return None;
@@ -136,7 +207,9 @@ impl<D: Disk + Drop> World<D> {
     }
 
     /// Ends the world: the member's disk. The tokens that are owed a reply are abandoned.
-    pub fn abandon(self) -> D {
+    pub fn abandon(self) -> D
+        ensures { result ≡ self.disk }
+    {
         let World {
             alloc: _,
             geometry: _,
@@ -173,7 +246,10 @@ impl<D: Disk + Drop> World<D> {
     }
 
     /// Plays one step. Room for what it puts out is made first: 100 `Memory` there changes nothing.
-    fn answer(&mut self, step: &Step) -> Answer {
+    fn answer(&mut self, step: &Step) -> Answer
+        ensures ordered { IsOrdered (seen self.new) }
+        ensures stepped { (events : List ClientEvent) × Stepped (seen self.old) step.now result (seen self.new) events }
+    {
         let Ok(mut outputs) = Vec::with_capacity(self.alloc, self.clients.len() + 1) else {
             return Answer::Refused(MEMORY);
         };
@@ -189,7 +265,8 @@ impl<D: Disk + Drop> World<D> {
 
     /// Takes a step, if it can be taken now.
     fn outcome(&mut self, step: &Step) -> Outcome
-        ensures { vec_len self.new.clients ≤ vec_len self.old.clients + 1 }
+        ensures clients { vec_len self.new.clients ≤ vec_len self.old.clients + 1 }
+        ensures came { Came (seen self.old) step.now result (seen self.new) }
     {
         match step {
             Step::Connect { session, slot } => self.connect(*session, *slot),
@@ -215,7 +292,10 @@ impl<D: Disk + Drop> World<D> {
 
     /// Takes a step of the member, which is running.
     fn running_outcome(&mut self, step: &Step) -> Outcome
-        ensures { vec_len self.new.clients ≡ vec_len self.old.clients }
+        requires running { self.old.member.stopped ≡ false }
+        requires own { IsOwnStep (fronts_of self.old.member).slot step.now }
+        ensures clients { vec_len self.new.clients ≡ vec_len self.old.clients }
+        ensures came { Came (seen self.old) step.now result (seen self.new) }
     {
         match step {
             Step::Number { .. } => self.number(),
@@ -234,7 +314,8 @@ impl<D: Disk + Drop> World<D> {
 
     /// A client connects: a session with a new number, at a member that is running.
     fn connect(&mut self, id: SessionId, slot: Slot) -> Outcome
-        ensures { vec_len self.new.clients ≤ vec_len self.old.clients + 1 }
+        ensures clients { vec_len self.new.clients ≤ vec_len self.old.clients + 1 }
+        ensures came { Came (seen self.old) (Step.Connect id slot) result (seen self.new) }
     {
         if slot != self.member.slot || self.member.stopped || self.position(id).is_some() {
             return Outcome::Skipped;
@@ -252,21 +333,30 @@ impl<D: Disk + Drop> World<D> {
             session,
             told: false,
         };
-        let at = self
-            .clients
-            .iter()
-            .take_while(|other| other.id < id)
-            .count();
+        let at = self.place_for(id);
         match self.clients.insert(at, client) {
             Ok(()) => Outcome::Taken,
             Err(_) => Outcome::Refused(MEMORY),
         }
     }
 
+    /// Where the client of a new session comes, by number.
+    fn place_for(&self, id: SessionId) -> usize
+        ensures within { result ≤ vec_len self.now.clients }
+        ensures place { result ≡ length (take_while (λ client. nat_lt client.id.0 id.0) (seen self.now).clients) }
+    {
+        self.clients
+            .iter()
+            .take_while(|other| other.id < id)
+            .count()
+    }
+
     /// A client sends bytes: the demands that they complete wait for the member.
     #[tactic(auto, using(crate::proofs::Lists::list_steps))]
     fn bytes(&mut self, id: SessionId, piece: &[u8]) -> Outcome
-        ensures { vec_len self.new.clients ≡ vec_len self.old.clients }
+        ensures clients { vec_len self.new.clients ≡ vec_len self.old.clients }
+        ensures came { Becomes (IsSome (place_of id (seen self.old).clients)) (IsRefusedBytes (seen self.old) id)
+            (GetsBytes id piece.now (seen self.old)) (seen self.old) result (seen self.new) }
     {
         let Some(at) = self.position(id) else {
             return Outcome::Skipped;
@@ -292,7 +382,8 @@ impl<D: Disk + Drop> World<D> {
         requires few { vec_len demands ≤ 1 }
         requires room { deque_len self.old.demands + 1 ≤ deque_capacity self.old.demands }
         requires inside { All (IsInside (4096 * self.old.geometry.blocks)) demands.items }
-        ensures { vec_len self.new.clients ≡ vec_len self.old.clients }
+        ensures clients { vec_len self.new.clients ≡ vec_len self.old.clients }
+        ensures queued { seen self.new ≡ record (seen self.old) { demands = (seen self.old).demands ++ demands.items } }
     {
         let mut demands = demands;
         if let Some(demand) = demands.pop() {
@@ -303,7 +394,8 @@ impl<D: Disk + Drop> World<D> {
 
     /// A client sends no more: its session ends, and replies that come for it are not put out.
     fn end(&mut self, id: SessionId) -> Outcome
-        ensures { vec_len self.new.clients ≡ vec_len self.old.clients }
+        ensures clients { vec_len self.new.clients ≡ vec_len self.old.clients }
+        ensures came { Came (seen self.old) (Step.End id) result (seen self.new) }
     {
         match self.position(id) {
             Some(at) if !self.clients[at].session.closed() => {
@@ -316,14 +408,16 @@ impl<D: Disk + Drop> World<D> {
 
     /// Where the client of a session is.
     fn position(&self, id: SessionId) -> Option<usize>
-        ensures { IfSome result (λ at. at < vec_len self.now.clients) }
+        ensures within { IfSome result (λ at. at < vec_len self.now.clients) }
+        ensures place { result ≡ place_of id (seen self.now).clients }
     {
         self.clients.iter().position(|client| client.id == id)
     }
 
     /// The member takes the oldest waiting demand. One that has stopped refuses it.
     fn take(&mut self) -> Outcome
-        ensures { vec_len self.new.clients ≡ vec_len self.old.clients }
+        ensures clients { vec_len self.new.clients ≡ vec_len self.old.clients }
+        ensures came { Came (seen self.old) (Step.Take (fronts_of self.old.member).slot) result (seen self.new) }
     {
         match self.demands.pop_front() {
             None => return Outcome::Skipped,
@@ -355,7 +449,10 @@ impl<D: Disk + Drop> World<D> {
     /// Answers a read at the board's front.
     fn take_read(&mut self, token: OwedRead, offset: u64, len: u32)
         requires { offset + len ≤ 4096 * self.old.geometry.blocks }
-        ensures { vec_len self.new.clients ≡ vec_len self.old.clients }
+        ensures clients { vec_len self.new.clients ≡ vec_len self.old.clients }
+        ensures taken { (events : List ClientEvent) × MatchBool self.old.member.stopped
+            (Tells (record { session = token.session; cookie = token.cookie; outcome = Failed ErrorCode.Io }) (seen self.old) (seen self.new) events)
+            (TakesRead token.session token.cookie offset len (seen self.old) (seen self.new) events) }
     {
         if self.member.stopped {
             let reply = token.refuse(self.alloc, ErrorCode::Io);
@@ -373,27 +470,38 @@ impl<D: Disk + Drop> World<D> {
     #[tactic(auto, using(crate::proofs::Lists::list_steps))]
     fn take_write(&mut self, token: Token, write: Write)
         requires { IsWriteInside (4096 * self.old.geometry.blocks) write }
-        ensures { vec_len self.new.clients ≡ vec_len self.old.clients }
+        ensures clients { vec_len self.new.clients ≡ vec_len self.old.clients }
+        ensures taken { (events : List ClientEvent) × MatchBool self.old.member.stopped
+            (Tells (unsubmitted (Failed ErrorCode.Io) token) (seen self.old) (seen self.new) events)
+            (TakesWrite token write (seen self.old) (seen self.new) events) }
     {
         if self.member.stopped {
-            let reply = token.refuse(self.alloc, ErrorCode::Io);
-            return self.deliver(reply);
+            return self.refuse(token, ErrorCode::Io);
         }
-        let (token, code) = match self.member.submit(token, write) {
-            Ok(()) => return,
-            Err((token, Unsubmitted::Memory)) => (token, ErrorCode::NoMemory),
+        match self.member.submit(token, write) {
+            Ok(()) => {}
+            Err((token, Unsubmitted::Memory)) => self.refuse(token, ErrorCode::NoMemory),
             Err((token, Unsubmitted::LastTicket)) => {
                 self.stop();
-                (token, ErrorCode::Io)
+                self.refuse(token, ErrorCode::Io);
             }
-        };
+        }
+    }
+
+    /// Refuses a write that is not submitted.
+    fn refuse(&mut self, token: Token, code: ErrorCode)
+        ensures clients { vec_len self.new.clients ≡ vec_len self.old.clients }
+        ensures told { (events : List ClientEvent) × Tells (unsubmitted (Failed code) token) (seen self.old) (seen self.new) events }
+    {
         let reply = token.refuse(self.alloc, code);
         self.deliver(reply);
     }
 
     /// The head numbers the write at the front of its submit link, and applies it.
     fn number(&mut self) -> Outcome
-        ensures { vec_len self.new.clients ≡ vec_len self.old.clients }
+        requires running { self.old.member.stopped ≡ false }
+        ensures clients { vec_len self.new.clients ≡ vec_len self.old.clients }
+        ensures came { Came (seen self.old) (Step.Number (fronts_of self.old.member).slot) result (seen self.new) }
     {
         if !self.member.has_submit() {
             return Outcome::Skipped;
@@ -409,7 +517,9 @@ impl<D: Disk + Drop> World<D> {
 
     /// The tail raises the board's front to its last applied write.
     fn raise(&mut self) -> Outcome
-        ensures { vec_len self.new.clients ≡ vec_len self.old.clients }
+        requires running { self.old.member.stopped ≡ false }
+        ensures clients { vec_len self.new.clients ≡ vec_len self.old.clients }
+        ensures came { Came (seen self.old) (Step.Raise (fronts_of self.old.member).slot) result (seen self.new) }
     {
         let front = self.board.raise(self.member.applied());
         self.member.kept = Some(Kept {
@@ -421,7 +531,9 @@ impl<D: Disk + Drop> World<D> {
 
     /// The member looks up the board's front.
     fn look(&mut self) -> Outcome
-        ensures { vec_len self.new.clients ≡ vec_len self.old.clients }
+        requires running { self.old.member.stopped ≡ false }
+        ensures clients { vec_len self.new.clients ≡ vec_len self.old.clients }
+        ensures came { Came (seen self.old) (Step.Look (fronts_of self.old.member).slot) result (seen self.new) }
     {
         let front = self.board.look();
         self.member.kept = Some(Kept {
@@ -435,7 +547,9 @@ impl<D: Disk + Drop> World<D> {
     /// The member goes on with the front that it kept: a raised one is its known commit, and the plain writes up to it
     /// are answered.
     fn answer_front(&mut self) -> Outcome
-        ensures { vec_len self.new.clients ≡ vec_len self.old.clients }
+        requires running { self.old.member.stopped ≡ false }
+        ensures clients { vec_len self.new.clients ≡ vec_len self.old.clients }
+        ensures came { Came (seen self.old) (Step.AnswerFront (fronts_of self.old.member).slot) result (seen self.new) }
     {
         let Some(Kept { front, found }) = self.member.kept else {
             return Outcome::Skipped;
@@ -450,7 +564,9 @@ impl<D: Disk + Drop> World<D> {
 
     /// Answers the plain writes that are committed, in the order of numbers.
     fn settle_writes(&mut self)
-        ensures { vec_len self.new.clients ≡ vec_len self.old.clients }
+        ensures clients { vec_len self.new.clients ≡ vec_len self.old.clients }
+        ensures settled { (events : List ClientEvent) × AnswersEach (is_committed (fronts_of self.old.member).known) (Done [])
+            (λ waiting. record (seen self.old).member { waiting = waiting }) (seen self.old) (seen self.new) events }
     {
         while let Some(reply) = self.member.settle_write() {
             self.deliver(reply);
@@ -459,7 +575,9 @@ impl<D: Disk + Drop> World<D> {
 
     /// The member builds the images of the next write. One whose batch doesn't fit stops the member.
     fn begin_commit(&mut self) -> Outcome
-        ensures { vec_len self.new.clients ≡ vec_len self.old.clients }
+        requires running { self.old.member.stopped ≡ false }
+        ensures clients { vec_len self.new.clients ≡ vec_len self.old.clients }
+        ensures came { Came (seen self.old) (Step.BeginCommit (fronts_of self.old.member).slot) result (seen self.new) }
     {
         if !self.member.can_begin() {
             return Outcome::Skipped;
@@ -472,7 +590,9 @@ impl<D: Disk + Drop> World<D> {
 
     /// The member journals the images. A failure stops it.
     fn end_commit(&mut self) -> Outcome
-        ensures { vec_len self.new.clients ≡ vec_len self.old.clients }
+        requires running { self.old.member.stopped ≡ false }
+        ensures clients { vec_len self.new.clients ≡ vec_len self.old.clients }
+        ensures came { Came (seen self.old) (Step.EndCommit (fronts_of self.old.member).slot) result (seen self.new) }
     {
         if !self.member.is_committing() {
             return Outcome::Skipped;
@@ -485,7 +605,9 @@ impl<D: Disk + Drop> World<D> {
 
     /// The member posts its last receipt.
     fn post(&mut self) -> Outcome
-        ensures { vec_len self.new.clients ≡ vec_len self.old.clients }
+        requires running { self.old.member.stopped ≡ false }
+        ensures clients { vec_len self.new.clients ≡ vec_len self.old.clients }
+        ensures came { Came (seen self.old) (Step.Post (fronts_of self.old.member).slot) result (seen self.new) }
     {
         match self.member.receipt.take() {
             None => Outcome::Skipped,
@@ -498,7 +620,9 @@ impl<D: Disk + Drop> World<D> {
 
     /// The mask is looked up behind the front that was looked up last.
     fn crew(&mut self) -> Outcome
-        ensures { vec_len self.new.clients ≡ vec_len self.old.clients }
+        requires running { self.old.member.stopped ≡ false }
+        ensures clients { vec_len self.new.clients ≡ vec_len self.old.clients }
+        ensures came { Came (seen self.old) (Step.Crew (fronts_of self.old.member).slot) result (seen self.new) }
     {
         match self.looked.take() {
             None => Outcome::Skipped,
@@ -511,7 +635,9 @@ impl<D: Disk + Drop> World<D> {
 
     /// The gauge of the next counted slot is looked up.
     fn gauge(&mut self) -> Outcome
-        ensures { vec_len self.new.clients ≡ vec_len self.old.clients }
+        requires running { self.old.member.stopped ≡ false }
+        ensures clients { vec_len self.new.clients ≡ vec_len self.old.clients }
+        ensures came { Came (seen self.old) (Step.Gauge (fronts_of self.old.member).slot) result (seen self.new) }
     {
         match &mut self.muster {
             Some(muster) if !muster.is_complete() => {
@@ -524,7 +650,9 @@ impl<D: Disk + Drop> World<D> {
 
     /// The FUA writes that the floor of the gauges reaches are answered.
     fn answer_floor(&mut self) -> Outcome
-        ensures { vec_len self.new.clients ≡ vec_len self.old.clients }
+        requires running { self.old.member.stopped ≡ false }
+        ensures clients { vec_len self.new.clients ≡ vec_len self.old.clients }
+        ensures came { Came (seen self.old) (Step.AnswerFloor (fronts_of self.old.member).slot) result (seen self.new) }
     {
         let Some(muster) = self.muster.take() else {
             return Outcome::Skipped;
@@ -542,7 +670,8 @@ impl<D: Disk + Drop> World<D> {
 
     /// The member stops: its tokens are refused in the order in which they were taken.
     fn stop(&mut self)
-        ensures { vec_len self.new.clients ≡ vec_len self.old.clients }
+        ensures clients { vec_len self.new.clients ≡ vec_len self.old.clients }
+        ensures stopped { (events : List ClientEvent) × Stops (seen self.old) (seen self.new) events }
     {
         self.member.stop();
         self.looked = None;
@@ -556,6 +685,7 @@ impl<D: Disk + Drop> World<D> {
     fn deliver(&mut self, reply: Reply)
         ensures clients { vec_len self.new.clients ≡ vec_len self.old.clients }
         ensures member { self.new.member ≡ self.old.member }
+        ensures told { (events : List ClientEvent) × Tells (told_by reply) (seen self.old) (seen self.new) events }
     {
         if let Some(at) = self.position(reply.session) {
             self.clients[at].take_reply(reply);
@@ -565,11 +695,40 @@ impl<D: Disk + Drop> World<D> {
     /// Collects what waits to go out to the clients, and the ends that weren't told yet.
     fn put_out(&mut self, outputs: &mut Vec<Output>)
         requires { vec_len outputs.old + vec_len self.old.clients ≤ vec_capacity outputs.old }
+        ensures outputs { map put_of outputs.new.items ≡ map put_of outputs.old.items ++ flat_map waiting_for (seen self.old).clients }
+        ensures clients { seen self.new ≡ record (seen self.old) { clients = map handed_to (seen self.old).clients } }
     {
         for at in 0..self.clients.len() {
             if let Some(output) = self.clients[at].put_out() {
                 outputs.push_reserved(output);
             }
         }
+    }
+}
+
+impl World<MemDisk> {
+    ghost use Rattle.disk_model.specs.Event.{counted_from};
+    ghost use Rattle.disk_model.specs.Memory.{bytes_of, calls_of, given_of, may_be_left, script_of};
+    ghost use Rattle.std.specs.Prelude.{◌++◌, ◌∷◌, [], OnOk, OnErr};
+    ghost use Rattle.world.specs.Seen.{seen};
+
+    /// Adds an event to the script of the member's disk, its calls counted from now. 100 `Memory`: nothing was added.
+    pub fn arm(&mut self, event: Event) -> Result<(), Refusal>
+        ensures seen { seen self.new ≡ seen self.old }
+        ensures ok { OnOk result (script_of self.new.disk ≡ script_of self.old.disk ++ counted_from (calls_of self.old.disk) event ∷ []) }
+        ensures err { OnErr result (script_of self.new.disk ≡ script_of self.old.disk) }
+    {
+        self.disk.arm(event)?;
+        Ok(())
+    }
+
+    /// Everything stops: the member's disk, with a content that a stop now may leave, as newly opened.
+    pub fn cut(self, cut: Cut) -> MemDisk
+        ensures left { may_be_left self.disk (bytes_of result) }
+        ensures gives { given_of result ≡ bytes_of result }
+    {
+        let mut disk = self.abandon();
+        disk.cut(cut);
+        disk
     }
 }

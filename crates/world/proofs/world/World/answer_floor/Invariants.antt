@@ -1,9 +1,16 @@
-use Rattle.std.proofs.Common.{◌≡◌, vec_len}
+use Rattle.std.proofs.Common.{◌≡◌, vec_len, []}
 use Rattle.world.specs.Member.{waiting_count}
+use Rattle.world.specs.Seen.{seen}
+use Rattle.world.specs.Waiting.{is_paid}
+use Rattle.world_model.specs.Event.{Done}
+use Rattle.world.proofs.Settling.{SettlesTo}
 use Rattle.world.proofs.world.World.answer_floor.Given as goal
 
 abbrev pub invariant-loop-reply : goal.invariant-loop-reply
-invariant-loop-reply g l = vec_len l.self.clients ≡ vec_len l.fn.self.clients
+invariant-loop-reply g l = record {
+  clients : vec_len l.self.clients ≡ vec_len l.fn.self.clients;
+  settled : SettlesTo (is_paid l.floor) (Done []) (seen l.initial.self) (seen l.self);
+}
 
 -- the tokens that wait
 abbrev pub decreases-loop-reply : goal.decreases-loop-reply

@@ -1,9 +1,16 @@
-use Rattle.std.proofs.Common.{◌≡◌, vec_len}
+use Rattle.std.proofs.Common.{◌≡◌, vec_len, true}
+use Rattle.flush_barrier.specs.declared.error_code.ErrorCode.TheVariants.{Io}
 use Rattle.world.specs.Member.{waiting_count}
+use Rattle.world.specs.Seen.{seen}
+use Rattle.world_model.specs.Event.{Failed}
+use Rattle.world.proofs.Settling.{SettlesTo}
 use Rattle.world.proofs.world.World.stop.Given as goal
 
 abbrev pub invariant-loop-reply : goal.invariant-loop-reply
-invariant-loop-reply g l = vec_len l.self.clients ≡ vec_len l.fn.self.clients
+invariant-loop-reply g l = record {
+  clients : vec_len l.self.clients ≡ vec_len l.fn.self.clients;
+  settled : SettlesTo (λ _. true) (Failed Io) (seen l.initial.self) (seen l.self);
+}
 
 -- the tokens that wait
 abbrev pub decreases-loop-reply : goal.decreases-loop-reply
