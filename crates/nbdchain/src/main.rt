@@ -17,6 +17,14 @@ pub use refusal::Refusal;
 pub use sim::sim_on;
 
 #[cfg(test)]
+mod beside;
+#[cfg(test)]
+mod crash_tests;
+#[cfg(test)]
+mod model_tests;
+#[cfg(test)]
+mod stray_tests;
+#[cfg(test)]
 mod tests;
 
 fn main(rt: HostRuntime) -> io::Result<ExitCode> {

@@ -1,5 +1,6 @@
 //! The lines of a script.
 use crate::client::{ClientRequest, RequestKind};
+use disk_model::Cut;
 use flush_barrier::SessionId;
 use std::alloc::{AllocError, Global};
 use std::str;
@@ -41,6 +42,20 @@ pub enum ScriptCommand {
     },
     /// `run`: rounds until one changes nothing.
     Run,
+    /// `stopat M K N`: the world stops in the K-th device call of a member from now on, after N bytes.
+    StopAt {
+        member: u64,
+        call: u64,
+        bytes: u64,
+    },
+    /// `cut all`, `cut none`: everything stops; what wasn't synced is as written, or all `ff`.
+    Cut {
+        cut: Cut,
+    },
+    /// `return`, `return M`: a member is recovered from its disk.
+    Return {
+        member: Option<u64>,
+    },
 }
 
 /// What a member is told to do.
@@ -138,6 +153,7 @@ pub fn parse(alloc: Global, line: &[u8]) -> Result<Option<ScriptCommand>, LineEr
             piece: joined(alloc, first, others)?,
         },
         ["run"] => ScriptCommand::Run,
+        ["stopat" | "cut" | "return", ..] => crash_command(&words)?,
         [act, member] => ScriptCommand::Act {
             act: member_act(act)?,
             member: number(member)?,
@@ -145,6 +161,24 @@ pub fn parse(alloc: Global, line: &[u8]) -> Result<Option<ScriptCommand>, LineEr
         _ => return Err(LineError::Malformed),
     };
     Ok(Some(command))
+}
+
+/// A command of crashes and recovery.
+fn crash_command(words: &[&str]) -> Result<ScriptCommand, LineError> {
+    match words {
+        ["stopat", member, call, bytes] => Ok(ScriptCommand::StopAt {
+            member: number(member)?,
+            call: number(call)?,
+            bytes: number(bytes)?,
+        }),
+        ["cut", "all"] => Ok(ScriptCommand::Cut { cut: Cut::All }),
+        ["cut", "none"] => Ok(ScriptCommand::Cut { cut: Cut::None }),
+        ["return"] => Ok(ScriptCommand::Return { member: None }),
+        ["return", member] => Ok(ScriptCommand::Return {
+            member: Some(number(member)?),
+        }),
+        _ => Err(LineError::Malformed),
+    }
 }
 
 /// A request with this payload.

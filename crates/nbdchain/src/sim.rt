@@ -3,18 +3,21 @@ use crate::client::{ClientRequest, NEGOTIATION, ScriptedClient};
 use crate::printed::Printed;
 use crate::refusal::Refusal;
 use crate::script::{MemberAct, ScriptCommand, parse};
-use disk_model::{MemDisk, Script};
+use disk_model::{Cut, Event, MemDisk, Script};
 use flush_barrier::SessionId;
-use gate_journal::Slot;
+use gate_journal::{Refusal as JournalRefusal, Slot};
 use std::alloc::Global;
 use std::collections::BTreeMap;
 use std::io::{BufRead, Write};
 use std::mem;
 use volume::Geometry;
-use world::{Answer, MemberState, Step, World};
+use world::{Answer, Answers, MemberState, Step, World};
 
 /// The bytes of the member's journal area, which is its whole disk.
 pub const AREA: u32 = 4_194_304;
+
+/// The number of the refusal of a recovery for which no disk is returned.
+const NONE_RETURNED: u16 = 191;
 
 /// Plays a script: what its commands print goes to the writer. It ends at the first line that is no command, or not in
 /// its place, with 301; 104 where the reader or the writer fails, or a line isn't text.
@@ -66,7 +69,12 @@ struct Played {
 pub(crate) struct Sim {
     alloc: Global,
     begun: bool,
+    geometry: Option<Geometry>,
     world: Option<World<MemDisk>>,
+    // a device call met its stop: nothing goes on until a cut
+    stopped: bool,
+    // what a cut left, until a recovery
+    left: Option<MemDisk>,
     sessions: Vec<SessionId>,
     clients: BTreeMap<SessionId, ScriptedClient>,
 }
@@ -76,7 +84,10 @@ impl Sim {
         Sim {
             alloc,
             begun: false,
+            geometry: None,
             world: None,
+            stopped: false,
+            left: None,
             sessions: Vec::new(alloc),
             clients: BTreeMap::new(alloc),
         }
@@ -87,7 +98,10 @@ impl Sim {
         let Sim {
             alloc: _,
             begun: _,
+            geometry: _,
             world,
+            stopped: _,
+            left: _,
             sessions: _,
             clients: _,
         } = self;
@@ -118,6 +132,17 @@ impl Sim {
             } if is_first => self.begin(blocks, max_payload, writer),
             ScriptCommand::New { .. } => Err(Refusal::BadScript { line }),
             _ if is_first => Err(Refusal::BadScript { line }),
+            ScriptCommand::Cut { cut } => {
+                self.cut(cut);
+                Ok(())
+            }
+            ScriptCommand::Return { member } => self.recover(member, writer),
+            _ if self.stopped => Ok(()),
+            ScriptCommand::StopAt {
+                member,
+                call,
+                bytes,
+            } => self.stop_at(member, call, bytes),
             ScriptCommand::Connect { session, member } => self.connect(session, member, writer),
             ScriptCommand::Session { session, member } => self.session(session, member, writer),
             ScriptCommand::Request { session, request } => self.request(session, &request, writer),
@@ -146,10 +171,89 @@ impl Sim {
         };
         let disk = MemDisk::new(self.alloc, u64::from(AREA), Script::new(self.alloc))?;
         let world = World::new(self.alloc, geometry, disk).map_err(|_| Refusal::Memory)?;
+        self.geometry = Some(geometry);
+        self.goes_on_with(world);
+        Ok(())
+    }
+
+    /// The script goes on with this world.
+    fn goes_on_with(&mut self, world: World<MemDisk>) {
         if let Some(old) = mem::replace(&mut self.world, Some(world)) {
             let _disk = old.abandon();
         }
-        Ok(())
+    }
+
+    /// The world stops in a device call to come. A slot that is none, or no call, changes nothing.
+    fn stop_at(&mut self, member: u64, call: u64, bytes: u64) -> Result<(), Refusal> {
+        match &mut self.world {
+            Some(world) if member == 0 && call > 0 => world
+                .arm(Event::StopAt { call, bytes })
+                .map_err(|_| Refusal::Memory),
+            _ => Ok(()),
+        }
+    }
+
+    /// Everything stops. Where there is no world, and no recovery that met a stop, nothing changes.
+    fn cut(&mut self, cut: Cut) {
+        if let Some(world) = self.world.take() {
+            self.left = Some(world.cut(cut));
+        } else if self.stopped
+            && let Some(disk) = &mut self.left
+        {
+            disk.cut(cut);
+        }
+        self.stopped = false;
+    }
+
+    /// The member is recovered from its disk, after a cut: prints `source M front F`. Without a member it is refused; a
+    /// member that is none changes nothing. Sessions are gone.
+    fn recover<W: Write>(&mut self, member: Option<u64>, writer: &mut W) -> Result<(), Refusal> {
+        if self.left.is_none() || self.stopped {
+            return Ok(());
+        }
+        match member {
+            None => Ok(writeln!(writer, "refused {NONE_RETURNED}")?),
+            Some(0) => self.go_on_from_disk(writer),
+            Some(_) => Ok(()),
+        }
+    }
+
+    /// The world goes on from what a cut left.
+    fn go_on_from_disk<W: Write>(&mut self, writer: &mut W) -> Result<(), Refusal> {
+        let (Some(geometry), Some(disk)) = (self.geometry, self.left.take()) else {
+            return Ok(());
+        };
+        match World::recover(self.alloc, geometry, disk) {
+            Ok(world) => {
+                self.sessions.clear();
+                self.clients.clear();
+                let front = Slot::new(0)
+                    .and_then(|slot| world.member(slot))
+                    .map_or(0, |member| member.durable);
+                self.goes_on_with(world);
+                Ok(writeln!(writer, "source 0 front {front}")?)
+            }
+            Err((refusal, disk)) => {
+                self.stopped = disk.is_stopped();
+                self.left = Some(disk);
+                self.not_recovered(refusal, writer)
+            }
+        }
+    }
+
+    /// Prints why there is no recovery.
+    fn not_recovered<W: Write>(
+        &self,
+        refusal: JournalRefusal,
+        writer: &mut W,
+    ) -> Result<(), Refusal> {
+        match refusal.number() {
+            _ if self.stopped => Ok(writeln!(writer, "stopped")?),
+            Some(number) if refusal != JournalRefusal::Memory => {
+                Ok(writeln!(writer, "refused {number}")?)
+            }
+            _ => Err(Refusal::Memory),
+        }
     }
 
     /// A client connects. A slot that is none, or a session that was there before, changes nothing.
@@ -266,20 +370,49 @@ impl Sim {
             writeln!(writer, "refused {number}")?;
         }
         printed.print(writer)?;
+        self.tell_stop(writer)?;
         Ok(played)
     }
 
-    /// Plays steps, and adds what they put out.
+    /// Prints that a device call met its stop, if one did.
+    fn tell_stop<W: Write>(&self, writer: &mut W) -> Result<(), Refusal> {
+        if self.stopped {
+            writeln!(writer, "stopped")?;
+        }
+        Ok(())
+    }
+
+    /// Plays steps, and adds what they put out. They end where a device call meets its stop, without what that step put
+    /// out.
     fn steps(&mut self, steps: &[Step], printed: &mut Printed) -> Result<Played, Refusal> {
         let mut played = Played {
             taken: false,
             put_out: false,
             refused: None,
         };
-        let Some(world) = &mut self.world else {
-            return Ok(played);
-        };
-        let answers = world.play(steps).map_err(|_| Refusal::Memory)?;
+        for at in 0..steps.len() {
+            let Some(world) = &mut self.world else {
+                break;
+            };
+            if self.stopped {
+                break;
+            }
+            let answers = world.play(&steps[at..at + 1]).map_err(|_| Refusal::Memory)?;
+            self.stopped = self.disk().is_some_and(|disk| disk.is_stopped());
+            if !self.stopped {
+                self.add(answers, &mut played, printed)?;
+            }
+        }
+        Ok(played)
+    }
+
+    /// Adds what steps put out.
+    fn add(
+        &mut self,
+        answers: Answers,
+        played: &mut Played,
+        printed: &mut Printed,
+    ) -> Result<(), Refusal> {
         for answer in answers.into_vec() {
             match answer {
                 Answer::Taken(outputs) => {
@@ -293,7 +426,7 @@ impl Sim {
                 Answer::Skipped => {}
             }
         }
-        Ok(played)
+        Ok(())
     }
 
     /// Plays rounds until one changes nothing, and prints what they put out.
@@ -304,7 +437,8 @@ impl Sim {
                 break;
             }
         }
-        printed.print(writer)
+        printed.print(writer)?;
+        self.tell_stop(writer)
     }
 
     /// Plays one round over the member, if it runs: whether it changed anything.

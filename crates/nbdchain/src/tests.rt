@@ -9,17 +9,17 @@ use volume::Geometry;
 use world::{Answer, MemberState, Step, World};
 
 /// A script, and what it prints.
-struct Row {
-    name: &'static str,
-    script: &'static str,
-    printed: &'static str,
+pub(crate) struct Row {
+    pub name: &'static str,
+    pub script: &'static str,
+    pub printed: &'static str,
 }
 
 const GREETING: &str = "4e42444d41474943 49484156454f5054 0003";
 
 const GREETED: &str = "out 1 4e42444d4147494349484156454f50540003\n";
 
-const ROWS: [Row; 16] = [
+pub(crate) const ROWS: [Row; 19] = [
     Row {
         name: "an empty script",
         script: "",
@@ -72,8 +72,8 @@ const ROWS: [Row; 16] = [
     },
     Row {
         name: "a write with FUA waits for the post",
-        script: "new 1 8 4096\nsession 1 0\nfua 1 1 0 aa\ntake 0\nnumber 0\nraise 0\nfloor 0\nbegin 0\nend 0\nfloor 0\npost 0\nfront 0\ncrew 0\nsettle 0\n",
-        printed: "reply 1 1 0\n",
+        script: "new 1 8 4096\nsession 1 0\nsession 2 0\nfua 1 1 0 aa\ntake 0\nnumber 0\nraise 0\nfloor 0\nread 2 2 0 0\nbegin 0\nend 0\nfloor 0\nread 2 3 0 0\npost 0\nfront 0\ncrew 0\nsettle 0\n",
+        printed: "reply 2 2 0\nreply 2 3 0\nreply 1 1 0\n",
     },
     Row {
         name: "two sessions that write and read in turn",
@@ -99,6 +99,28 @@ const ROWS: [Row; 16] = [
         name: "no world",
         script: "# a volume of no blocks\n\nnew 1 0 4096\nconnect 1 0\nbytes 1 00\nrun\n",
         printed: "refused 111\n",
+    },
+    // Each read shows the writes up to the front that was raised last, the later over the earlier: 01020304 at 4,094;
+    // then aabb at 4,096 over its last two; then cc at 4,095; at the end ddee at 4,094. The write with FUA has number 2:
+    // it is answered once two receipts are posted, behind the plain write with number 3, which waits for no disk. The
+    // reads of no bytes, which are answered at once, show that no floor before that answers it.
+    Row {
+        name: "two sessions whose writes overlap, one with FUA",
+        script: "new 1 8 4096\nsession 1 0\nsession 2 0\nwrite 1 1 4094 01020304\ntake 0\nnumber 0\nraise 0\nfua 2 2 4096 aabb\ntake 0\nnumber 0\nread 1 3 4094 4\ntake 0\nraise 0\nread 1 4 4094 4\ntake 0\nwrite 1 5 4095 cc\ntake 0\nnumber 0\nraise 0\nread 1 6 4094 4\ntake 0\nfloor 0\nread 1 10 0 0\ncommit 0\npost 0\nfloor 0\nread 1 11 0 0\ncommit 0\nfloor 0\nread 1 12 0 0\npost 0\nfloor 0\nread 2 7 4094 4\nwrite 1 8 4094 ddee\ntake 0\ntake 0\nrun\nread 2 9 4093 6\nrun\n",
+        printed: "reply 1 1 0\nreply 1 3 0 01020304\nreply 1 4 0 0102aabb\nreply 1 5 0\nreply 1 6 0 01ccaabb\nreply 1 10 0\nreply 1 11 0\nreply 1 12 0\nreply 2 2 0\nreply 2 7 0 01ccaabb\nreply 1 8 0\nreply 2 9 0 00ddeeaabb00\n",
+    },
+    // bbbb at 1 was taken first, so aaaa at 0 lies over its first byte. The front comes to both numbers at once: the
+    // plain write is answered, and the one with FUA, number 1, by the first floor behind the first receipt.
+    Row {
+        name: "two sessions whose writes are numbered together",
+        script: "new 1 8 4096\nsession 1 0\nsession 2 0\nfua 2 1 1 bbbb\nwrite 1 1 0 aaaa\ntake 0\ntake 0\nnumber 0\nnumber 0\nraise 0\nread 1 2 0 4\ntake 0\nfloor 0\nread 1 3 0 0\ncommit 0\npost 0\nfloor 0\n",
+        printed: "reply 1 1 0\nreply 1 2 0 aaaabb00\nreply 1 3 0\nreply 2 1 0\n",
+    },
+    // The front was looked up before the write had a number: no floor behind it reaches the write.
+    Row {
+        name: "a floor is no greater than its front",
+        script: "new 1 8 4096\nsession 1 0\nsession 2 0\nfua 1 1 0 aa\ntake 0\nfront 0\nnumber 0\nraise 0\ncommit 0\npost 0\ncrew 0\nsettle 0\nread 2 3 0 0\nread 1 2 0 1\nfloor 0\nrun\n",
+        printed: "reply 2 3 0\nreply 1 1 0\nreply 1 2 0 aa\n",
     },
 ];
 
@@ -515,7 +537,7 @@ const FIRST_WRITE: [u8; 31] = [
 ];
 
 /// The least journal area for payloads of up to 4,096 bytes: two images.
-const LEAST_AREA: u32 = 8_214;
+pub(crate) const LEAST_AREA: u32 = 8_214;
 
 /// What is left of a world of 8 blocks with one session, which negotiated and sent some bytes.
 struct Played {
