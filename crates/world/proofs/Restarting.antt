@@ -16,7 +16,7 @@ use Rattle.world_model.specs.Counting.{count-cons, none_counted, one_if-false, o
 use Rattle.world_model.specs.Machine.{May, Restart, State, Taken, Waits, after, volume_at}
 use Rattle.world_model.specs.Runs.{length-writes_of, sound_step}
 use Rattle.world_model.specs.Sound.{IsSound, writes_of}
-use Rattle.world_model.specs.Standing.{map_two}
+use Rattle.world_model.specs.Standing.{map_two, names_of}
 use Rattle.world_model.specs.StandsFor as machine
 use Rattle.world_model.specs.View as view
 
@@ -47,10 +47,6 @@ one_of_each name (w ∷ ws) apart = elim (cases_Bool (eqb w.0 name)) [
         one_of_each name ws (λ i j d lt within. apart (suc i) (suc j) d (omega arith) (omega arith)),
       )
 ]
-
-names_of : (taken : List Taken) → map (λ (w : ℕ × Placed). w.0) (writes_of taken) ≡ map (λ (t : Taken). t.name) taken
-names_of [] = refl
-names_of (t ∷ ts) = ap (λ (l : List ℕ). t.name ∷ l) (names_of ts)
 
 no_names : machine.Names
 no_names = record { untaken = []; tokens = []; demands = []; kept = [] }

@@ -1,6 +1,5 @@
-ghost use Rattle.std.specs.Prelude.{◌≡◌, ◌+◌, ◌*◌, ◌<◌, ◌≤◌, vec_len, All};
+ghost use Rattle.std.specs.Prelude.{◌≡◌, ◌+◌, ◌*◌, ◌<◌, ◌≤◌, vec_len, All, IfOk, IfErr, IsErrOf};
 ghost use Rattle.std.specs.Option.{ForSome};
-ghost use Rattle.std.specs.Prelude.{IfOk, IfErr, IsErrOf};
 ghost use Rattle.gate_journal.specs.Batch.{AreBatches, AreImages, HoldsBatches, IsDamaged};
 ghost use Rattle.gate_journal.specs.Journal.{IsSettled};
 ghost use Rattle.world.specs.Recovery.{IsJournalOf, IsOfRecovering, area_of};

@@ -708,8 +708,10 @@ impl<D: Disk + Drop> World<D> {
 
 impl World<MemDisk> {
     ghost use Rattle.disk_model.specs.Event.{counted_from};
-    ghost use Rattle.disk_model.specs.Memory.{bytes_of, calls_of, given_of, may_be_left, script_of};
-    ghost use Rattle.std.specs.Prelude.{◌++◌, ◌∷◌, [], OnOk, OnErr};
+    ghost use Rattle.disk_model.specs.Content.{left_by};
+    ghost use Rattle.disk_model.specs.Disk.{NothingNew};
+    ghost use Rattle.disk_model.specs.Memory.{IsAsBefore, bytes_of, calls_of, given_of, has_stopped, may_be_left, script_of, unsynced_of};
+    ghost use Rattle.std.specs.Prelude.{◌++◌, ◌∷◌, [], OnOk, OnErr, false};
     ghost use Rattle.world.specs.Seen.{seen};
 
     /// Adds an event to the script of the member's disk, its calls counted from now. 100 `Memory`: nothing was added.
@@ -717,6 +719,8 @@ impl World<MemDisk> {
         ensures seen { seen self.new ≡ seen self.old }
         ensures ok { OnOk result (script_of self.new.disk ≡ script_of self.old.disk ++ counted_from (calls_of self.old.disk) event ∷ []) }
         ensures err { OnErr result (script_of self.new.disk ≡ script_of self.old.disk) }
+        ensures stays { IsAsBefore self.old.disk self.new.disk }
+        ensures leaves { NothingNew (may_be_left self.old.disk) (may_be_left self.new.disk) }
     {
         self.disk.arm(event)?;
         Ok(())
@@ -724,8 +728,13 @@ impl World<MemDisk> {
 
     /// Everything stops: the member's disk, with a content that a stop now may leave, as newly opened.
     pub fn cut(self, cut: Cut) -> MemDisk
+        ensures bytes { bytes_of result ≡ left_by cut (bytes_of self.disk) (unsynced_of self.disk) }
         ensures left { may_be_left self.disk (bytes_of result) }
         ensures gives { given_of result ≡ bytes_of result }
+        ensures unsynced { unsynced_of result ≡ [] }
+        ensures runs { has_stopped result ≡ false }
+        ensures calls { calls_of result ≡ calls_of self.disk }
+        ensures script { script_of result ≡ script_of self.disk }
     {
         let mut disk = self.abandon();
         disk.cut(cut);

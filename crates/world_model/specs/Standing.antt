@@ -66,7 +66,7 @@ take_two m n l le =
     ap (λ (xs : List Placed). xs ++ take (n - m) (drop m l)) (sym (take-take m n l le) ∙ refl) ∙ ap (λ (xs : List Placed). take m (take n l) ++ xs) (sym (drop-take m (n - m) l) ∙ ap (λ (k : ℕ). drop m (take k l)) sum)
     ∙ take-append-drop m (take n l)
 
-names_of : (taken : List Taken) → map (λ (w : ℕ × Placed). w.0) (writes_of taken) ≡ map (λ (t : Taken). t.name) taken
+pub names_of : (taken : List Taken) → map (λ (w : ℕ × Placed). w.0) (writes_of taken) ≡ map (λ (t : Taken). t.name) taken
 names_of [] = refl
 names_of (t ∷ ts) = ap (λ (l : List ℕ). t.name ∷ l) (names_of ts)
 

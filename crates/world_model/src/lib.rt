@@ -4,7 +4,8 @@
 //! Its contract for the layers above: what clients see is lawful where some run of the machine shows it, and in each
 //! run a READ finds every write that was taken when it was sent, what is owed is never lost, and a FLUSH or a FUA
 //! write that was answered owes what came before it.
-//! `Machine` runs it, slowly and plainly: its contract is the definition.
+//! `Machine` runs it, slowly and plainly: its contract is the definition. When a world of one member stands for a state
+//! of the machine, and how each of its steps keeps that, is said here too, for the crate that plays them.
 //!
 //! Left to others: which steps are taken, and when; that a session's requests and replies are its bytes; and that any
 //! step is taken at all.
