@@ -2,6 +2,8 @@ ghost use Rattle.std.specs.Prelude.{◌≡◌, ◌+◌, ◌*◌, ◌<◌, ◌≤
 ghost use Rattle.std.specs.Option.{ForSome};
 ghost use Rattle.gate_journal.specs.Batch.{AreBatches, AreImages, HoldsBatches, IsDamaged};
 ghost use Rattle.gate_journal.specs.Journal.{IsSettled};
+ghost use Rattle.gate_journal.specs.Refusal.{HasCause};
+ghost use Rattle.gate_journal.specs.Runs.{OnlyReads};
 ghost use Rattle.world.specs.Recovery.{IsJournalOf, IsOfRecovering, area_of};
 ghost use Rattle.world.specs.Commit.{IsOfFirst};
 ghost use Rattle.world.specs.Writes.{IsInside};
@@ -88,7 +90,7 @@ impl Member {
     ghost use Rattle.std.specs.List.{list_any, slice_get};
     ghost use Rattle.world.specs.Waiting.{is_committed, is_paid, awaits_floor, without_first, first_learned, IsReplyTo};
     ghost use Rattle.disk_model.specs.Disk.{LeavesOnly};
-    ghost use Rattle.gate_journal.specs.Refusal.{HasCause, IsOfAppending};
+    ghost use Rattle.gate_journal.specs.Refusal.{IsOfAppending};
     ghost use Rattle.world.specs.Blocks.{flat};
     ghost use Rattle.world.specs.DiskMeaning.{IsDurable, Means, MeansOldOrNew};
     ghost use Rattle.world.specs.Member.{fronts_of, contents_of, rest_of, volume_at, submitted, numbered, committed, waiting_of, all_learned, waiting_count, NextIsTooMuch, CanBegin, HasSubmit, IsCommitting};
@@ -155,7 +157,9 @@ impl Member {
         ensures durable { D.keeps_model → IfOk result (λ m. IsDurable m (D.gives disk.new) (D.may_leave_now disk.new)) }
         ensures damaged { D.keeps_model → IfErr result (λ e. e ≡ Refusal.Damaged
             → IsDamaged geometry.blocks 0 (area_of geometry.area (D.gives disk.old))) }
+        ensures reads { D.keeps_model → OnlyReads D.gives D.may_leave_now D.moment D.may_have_left_since disk.old disk.new }
         ensures told { IfErr result IsOfRecovering }
+        ensures cause { HasCause (D.failures disk.old) (D.failures disk.new) result }
         ensures size { D.size disk.new ≡ D.size disk.old }
     {
         let (journal, batches) = read_journal(alloc, slot, disk, geometry)?;
@@ -523,7 +527,9 @@ fn read_journal<D: Disk>(
     ensures settled { D.keeps_model → IfOk result (λ r. IsSettled r.0 r.1.items (D.gives disk.new) (D.may_leave_now disk.new)) }
     ensures damaged { D.keeps_model → IfErr result (λ e. e ≡ Refusal.Damaged
         → IsDamaged geometry.blocks 0 (area_of geometry.area (D.gives disk.old))) }
+    ensures reads { D.keeps_model → OnlyReads D.gives D.may_leave_now D.moment D.may_have_left_since disk.old disk.new }
     ensures told { IfErr result IsOfRecovering }
+    ensures cause { HasCause (D.failures disk.old) (D.failures disk.new) result }
     ensures size { D.size disk.new ≡ D.size disk.old }
 {
     let area = Part::new(0, u64::from(geometry.area));

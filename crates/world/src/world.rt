@@ -77,6 +77,8 @@ pub struct World<D: Disk> {
 
 impl<D: Disk + Drop> World<D> {
     ghost use Rattle.std.specs.Prelude.{◌≢◌, IfErr, ◌++◌, [], List, map, flat_map, take_while, nat_lt, false, MatchBool, OnErr};
+    ghost use Rattle.gate_journal.specs.Refusal.{IsCaused};
+    ghost use Rattle.gate_journal.specs.Runs.{OnlyReads};
     ghost use Rattle.world.specs.OneVolume.{OneVolume, StandsFor};
     ghost use Rattle.world.specs.Played.{Becomes, Came, IsOrdered, IsOwnStep, IsRefusedBytes, Stepped, handed_to, put_of, waiting_for};
     ghost use Rattle.world.specs.Recovery.{IsOfRecovering};
@@ -117,7 +119,7 @@ impl<D: Disk + Drop> World<D> {
     /// of the journal's last batch, where the board opens. There are no sessions.
     ///
     /// 123 `Damaged` only where the disk is shorter than an area, or its area holds no batches; else 100 `Memory`, or what
-    /// the device refuses. All hand the disk back.
+    /// the device refuses. All hand the disk back. Nothing is written.
     pub fn recover(
         alloc: Global,
         geometry: Geometry,
@@ -127,7 +129,12 @@ impl<D: Disk + Drop> World<D> {
             → IfOk result (λ world. Restarts (4096 * geometry.blocks) s (seen world)) }
         ensures refused { D.keeps_model → geometry.area ≤ D.size disk
             → (s : State) → IsDurableFor geometry.blocks geometry.area s (D.gives disk) → IfErr result (λ e. e.0 ≢ JournalRefusal.Damaged) }
+        ensures reads { D.keeps_model
+            → IfOk result (λ world. OnlyReads D.gives D.may_leave_now D.moment D.may_have_left_since disk world.disk) }
+        ensures back { D.keeps_model
+            → IfErr result (λ e. OnlyReads D.gives D.may_leave_now D.moment D.may_have_left_since disk e.1) }
         ensures told { IfErr result (λ e. IsOfRecovering e.0) }
+        ensures cause { IfErr result (λ e. IsCaused (D.failures disk) (D.failures e.1) e.0) }
         ensures size { IfErr result (λ e. D.size e.1 ≡ D.size disk) }
     {
         restarts_stand();
