@@ -9,7 +9,7 @@ use Rattle.gate_journal.specs.declared.batch.Image.{Image}
 use Rattle.gate_journal.specs.Batch.{Batch, HoldsBatches, HoldsOldOrNew, last_front}
 use Rattle.gate_journal.specs.Journal.{IsSettled}
 use Rattle.world.specs.Blocks.{flat, with_batches, with_images, AreImagesAfter}
-use Rattle.world.specs.DiskMeaning.{MeansOldOrNew}
+use Rattle.world.specs.DiskMeaning.{MeansAt, MeansOldOrNew}
 use Rattle.world.specs.declared.member.Member.{Member}
 
 -- the images of the first write leave the volume after it
@@ -32,18 +32,23 @@ last_front-push : (before : ℕ) (batches : List Batch) (batch : Batch) → last
 last_front-push before [] batch = refl
 last_front-push before (b ∷ batches) batch = last_front-push b.front batches batch
 
--- what holds the batches, or these and one more, means the volume at the durable front, or at the next
-pub means_old_or_new : (m : Member) (batches : List Batch) (images : List Image) {gives : List ℕ} {may_leave : List ℕ → Type 0} → IsSettled m.journal batches gives may_leave → with_batches (vec_len m.blocks) batches ≡ m.blocks.items
-    → 0 < length m.writes.items → HoldsAt (λ (w : Placed). AreImagesAfter m.blocks.items w images) m.writes.items 0
-    → (c : List ℕ) → HoldsOldOrNew m.journal.blocks m.journal.before batches (record { front = m.durable + 1; images = images }) (inside m.journal.part c) → MeansOldOrNew m c
-means_old_or_new m batches images settled blocks some after c (inl holds) =
+-- what holds the batches means the volume at the durable front
+pub means_durable : (m : Member) (batches : List Batch) {gives : List ℕ} {may_leave : List ℕ → Type 0} → IsSettled m.journal batches gives may_leave → with_batches (vec_len m.blocks) batches ≡ m.blocks.items
+    → (c : List ℕ) → HoldsBatches m.journal.blocks m.journal.before batches (inside m.journal.part c) → MeansAt m m.durable c
+means_durable m batches settled blocks c holds =
     let none : m.durable - m.durable ≡ 0 = omega arith in
-    inl (record {
+    record {
       batches = batches;
       holds = subst (λ (n : ℕ). HoldsBatches n 0 batches (inside m.journal.part c)) (sym m.few_blocks.0) (subst (λ (n : ℕ). HoldsBatches m.journal.blocks n batches (inside m.journal.part c)) m.journaled.0 holds);
       front = ap (λ (n : ℕ). last_front n batches) (sym m.journaled.0) ∙ sym settled.front ∙ m.journaled.1;
       volume = ap flat blocks ∙ ap (λ (n : ℕ). fold patched (flat m.blocks.items) (take n m.writes.items)) (sym none);
-    })
+    }
+
+-- what holds the batches, or these and one more, means the volume at the durable front, or at the next
+pub means_old_or_new : (m : Member) (batches : List Batch) (images : List Image) {gives : List ℕ} {may_leave : List ℕ → Type 0} → IsSettled m.journal batches gives may_leave → with_batches (vec_len m.blocks) batches ≡ m.blocks.items
+    → 0 < length m.writes.items → HoldsAt (λ (w : Placed). AreImagesAfter m.blocks.items w images) m.writes.items 0
+    → (c : List ℕ) → HoldsOldOrNew m.journal.blocks m.journal.before batches (record { front = m.durable + 1; images = images }) (inside m.journal.part c) → MeansOldOrNew m c
+means_old_or_new m batches images settled blocks some after c (inl holds) = inl (means_durable m batches settled blocks c holds)
 means_old_or_new m batches images settled blocks some after c (inr holds) =
     let batch : Batch = record { front = m.durable + 1; images = images } in
     let more = batches ++ batch ∷ [] in

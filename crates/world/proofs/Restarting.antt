@@ -13,7 +13,7 @@ use Rattle.world.specs.OneVolume.{StandsFor}
 use Rattle.world.specs.Recovery.{area_of}
 use Rattle.world.specs.Restart.{RestartsStand, seen_restarted}
 use Rattle.world_model.specs.Counting.{count-cons, none_counted, one_if-false, one_if-true}
-use Rattle.world_model.specs.Machine.{May, Restart, State, Taken, Waits, after, volume_at}
+use Rattle.world_model.specs.Machine.{May, Restart, State, Waits, after, volume_at}
 use Rattle.world_model.specs.Runs.{length-writes_of, sound_step}
 use Rattle.world_model.specs.Sound.{IsSound, writes_of}
 use Rattle.world_model.specs.Standing.{map_two, names_of}

@@ -2,7 +2,7 @@
 use Rattle.std.specs.Prelude.{◌≡◌, ◌⊎◌, ℕ, ◌+◌, List, vec_len}
 use Rattle.disk_model.specs.Part.{inside}
 use Rattle.gate_journal.specs.Batch.{Batch, HoldsBatches, last_front}
-use Rattle.gate_journal.specs.Journal.{IsSettled}
+use Rattle.gate_journal.specs.Journal.{IsSettled, State}
 use Rattle.world.specs.Blocks.{flat, with_batches}
 use Rattle.world.specs.Member.{volume_at}
 use Rattle.world.specs.declared.member.Member.{Member}
@@ -23,8 +23,17 @@ MeansAt m n disk = Means (vec_len m.blocks) n (volume_at m n) (inside m.journal.
 abbrev pub MeansOldOrNew : Member → List ℕ → Type 0
 MeansOldOrNew m disk = MeansAt m m.durable disk ⊎ MeansAt m (m.durable + 1) disk
 
--- the member's disk holds batches that leave the member's blocks, and a stop now leaves these batches
-pub record IsDurable (m : Member) (gives : List ℕ) (may_leave : List ℕ → Type 0) : Type 0 where
+-- what a member knows of its disk: its journal there, and of how many blocks its volume is, with these at its durable front
+pub record Stored : Type 0 where
+  pub journal : State
+  pub count : ℕ
+  pub blocks : List (List ℕ)
+
+abbrev pub stored_of : Member → Stored
+stored_of m = record { journal = m.journal; count = vec_len m.blocks; blocks = m.blocks.items }
+
+-- the disk holds batches that leave these blocks, and a stop now leaves these batches
+pub record IsDurable (stored : Stored) (gives : List ℕ) (may_leave : List ℕ → Type 0) : Type 0 where
   pub batches : List Batch
-  pub settled : IsSettled m.journal batches gives may_leave
-  pub blocks : with_batches (vec_len m.blocks) batches ≡ m.blocks.items
+  pub settled : IsSettled stored.journal batches gives may_leave
+  pub blocks : with_batches stored.count batches ≡ stored.blocks

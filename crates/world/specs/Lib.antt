@@ -4,6 +4,7 @@ pub mod DiskMeaning
 pub mod Lawful
 pub mod Member
 pub mod Muster
+pub mod OnDisk
 pub mod OneVolume
 pub mod Played
 pub mod Recovery

@@ -1,6 +1,7 @@
 //! What holds of whatever is played. The functions do nothing.
 
 ghost use Rattle.world.specs.Lawful.{FirstHasNone, GoingIsLawful, SessionsAreLawful};
+ghost use Rattle.world.specs.OnDisk.{WhatIsLeftIsDurable, WhatIsLeftPlayingIsDurable};
 ghost use Rattle.world.specs.OneVolume.{FirstStandsForStart, PlaysAreOfOneVolume};
 ghost use Rattle.world.specs.Refusals.{MembersStopForACause, RunningMembersRefuseNothing};
 ghost use Rattle.world.specs.Restart.{RestartsStand};
@@ -42,4 +43,14 @@ pub fn restarts_stand()
     ensures { RestartsStand }
 {
     readings_are_one();
+}
+
+/// A disk that means the volume of a world, at a front from the durable one to the committed one, is one that recovery
+/// goes on from, for each state of the machine that the world stands for. What a stop leaves while steps are played is
+/// so for a state that some run of the machine leads to.
+pub fn what_is_left_is_durable()
+    ensures now { WhatIsLeftIsDurable }
+    ensures playing { WhatIsLeftPlayingIsDurable }
+{
+    plays_are_of_one_volume();
 }

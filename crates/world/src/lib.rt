@@ -21,6 +21,7 @@ mod world;
 pub use answer::{Answer, Answers, Output};
 pub use laws::{
     plays_are_of_one_volume, refusals_have_a_cause, restarts_stand, sessions_are_lawful,
+    what_is_left_is_durable,
 };
 pub use refusal::Refusal;
 pub use step::Step;

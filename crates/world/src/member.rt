@@ -92,7 +92,7 @@ impl Member {
     ghost use Rattle.disk_model.specs.Disk.{LeavesOnly};
     ghost use Rattle.gate_journal.specs.Refusal.{IsOfAppending};
     ghost use Rattle.world.specs.Blocks.{flat};
-    ghost use Rattle.world.specs.DiskMeaning.{IsDurable, Means, MeansOldOrNew};
+    ghost use Rattle.world.specs.DiskMeaning.{IsDurable, Means, MeansOldOrNew, stored_of};
     ghost use Rattle.world.specs.Member.{fronts_of, contents_of, rest_of, volume_at, submitted, numbered, committed, waiting_of, all_learned, waiting_count, NextIsTooMuch, CanBegin, HasSubmit, IsCommitting};
 
     /// A member at the slot with a volume of zeros, and an empty journal from the beginning of its disk. It is lent the
@@ -108,7 +108,8 @@ impl Member {
         ensures contents { IfOk result (λ m. contents_of m
             ≡ record { volume = replicate (4096 * geometry.blocks) 0; writes = []; submits = []; ticket = 1 }) }
         ensures waiting { IfOk result (λ m. waiting_of m ≡ []) }
-        ensures durable { D.keeps_model → IfOk result (λ m. IsDurable m (D.gives disk.new) (D.may_leave_now disk.new)) }
+        ensures journal { IfOk result (λ m. IsJournalOf slot geometry.blocks geometry.area (stored_of m).journal) }
+        ensures durable { D.keeps_model → IfOk result (λ m. IsDurable (stored_of m) (D.gives disk.new) (D.may_leave_now disk.new)) }
         ensures size { D.size disk.new ≡ D.size disk.old }
         ensures idle { IfOk result (λ m. m.kept ≡ None) }
         ensures rest { IfOk result (λ m. rest_of m ≡ record { committing = false; receipt = None; stopped = false }) }
@@ -154,7 +155,8 @@ impl Member {
         ensures greatest { IfOk result (λ m. m.durable ≤ 9223372036854775807) }
         ensures means { D.keeps_model → IfOk result (λ m. Means geometry.blocks m.durable (flat m.blocks.items)
             (area_of geometry.area (D.gives disk.old))) }
-        ensures durable { D.keeps_model → IfOk result (λ m. IsDurable m (D.gives disk.new) (D.may_leave_now disk.new)) }
+        ensures journal { IfOk result (λ m. IsJournalOf slot geometry.blocks geometry.area (stored_of m).journal) }
+        ensures durable { D.keeps_model → IfOk result (λ m. IsDurable (stored_of m) (D.gives disk.new) (D.may_leave_now disk.new)) }
         ensures damaged { D.keeps_model → IfErr result (λ e. e ≡ Refusal.Damaged
             → IsDamaged geometry.blocks 0 (area_of geometry.area (D.gives disk.old))) }
         ensures reads { D.keeps_model → OnlyReads D.gives D.may_leave_now D.moment D.may_have_left_since disk.old disk.new }
@@ -219,6 +221,7 @@ impl Member {
         ensures fronts { fronts_of self.new ≡ fronts_of self.old }
         ensures kept { self.new.kept ≡ None }
         ensures rest { rest_of self.new ≡ rest_of self.old }
+        ensures stored { stored_of self.new ≡ stored_of self.old }
     {
         self.kept = None;
         if self.next_ticket > GREATEST {
@@ -269,6 +272,7 @@ impl Member {
         ensures grows { (fronts_of self.old).applied ≤ (fronts_of self.new).applied }
         ensures kept { self.new.kept ≡ None }
         ensures rest { rest_of self.new ≡ rest_of self.old }
+        ensures stored { stored_of self.new ≡ stored_of self.old }
     {
         self.kept = None;
         self.writes.reserve(1)?;
@@ -291,6 +295,7 @@ impl Member {
             ≡ record (contents_of self.old) { writes = (contents_of self.old).writes ++ submit.write ∷ [] } }
         ensures kept { self.new.kept ≡ None }
         ensures rest { rest_of self.new ≡ rest_of self.old }
+        ensures stored { stored_of self.new ≡ stored_of self.old }
     {
         let Submit { ticket, write } = submit;
         self.kept = None;
@@ -327,6 +332,7 @@ impl Member {
         ensures full { IsErrOf result Refusal.Full ↔ NextIsTooMuch self.old }
         ensures told { IfErr result (λ e. (e ≡ Refusal.Full) ⊎ (e ≡ Refusal.Memory)) }
         ensures rest { rest_of self.new ≡ record (rest_of self.old) { committing = is_ok result } }
+        ensures stored { stored_of self.new ≡ stored_of self.old }
     {
         self.kept = None;
         let write = &self.writes[0];
@@ -360,16 +366,18 @@ impl Member {
             → volume_at self.new front ≡ volume_at self.old front }
         ensures frame { record (fronts_of self.new) { durable = (fronts_of self.old).durable } ≡ fronts_of self.old }
         ensures kept { self.new.kept ≡ None }
-        ensures durable { D.keeps_model → IsDurable self.old (D.gives disk.old) (D.may_leave_now disk.old)
-            → OnOk result (IsDurable self.new (D.gives disk.new) (D.may_leave_now disk.new)) }
+        ensures durable { D.keeps_model → IsDurable (stored_of self.old) (D.gives disk.old) (D.may_leave_now disk.old)
+            → OnOk result (IsDurable (stored_of self.new) (D.gives disk.new) (D.may_leave_now disk.new)) }
         ensures receipt { OnOk result (self.new.receipt ≡ Some (record { slot = (fronts_of self.old).slot; front = (fronts_of self.new).durable })) }
         ensures unposted { OnErr result (self.new.receipt ≡ self.old.receipt) }
         ensures idle { self.new.commit ≡ None }
         ensures told { IfErr result IsOfAppending }
         ensures cause { HasCause (D.failures disk.old) (D.failures disk.new) result }
-        ensures any_moment { D.keeps_model → IsDurable self.old (D.gives disk.old) (D.may_leave_now disk.old)
+        ensures any_moment { D.keeps_model → IsDurable (stored_of self.old) (D.gives disk.old) (D.may_leave_now disk.old)
             → LeavesOnly D.moment D.may_have_left_since disk.old disk.new (MeansOldOrNew self.old) }
         ensures stopped { self.new.stopped ≡ self.old.stopped }
+        ensures part { (stored_of self.new).journal.part ≡ (stored_of self.old).journal.part }
+        ensures count { (stored_of self.new).count ≡ (stored_of self.old).count }
     {
         self.kept = None;
         let Commit { images } = self.commit.take().unwrap();
@@ -395,6 +403,7 @@ impl Member {
         ensures waiting { waiting_of self.new ≡ waiting_of self.old }
         ensures kept { self.new.kept ≡ None }
         ensures rest { rest_of self.new ≡ rest_of self.old }
+        ensures stored { stored_of self.new ≡ stored_of self.old }
     {
         self.kept = None;
         self.known = front.number();
@@ -419,6 +428,7 @@ impl Member {
         ensures kept { self.new.kept ≡ self.old.kept }
         ensures fewer { OnSome result (waiting_count self.new + 1 ≡ waiting_count self.old) }
         ensures rest { rest_of self.new ≡ rest_of self.old }
+        ensures stored { stored_of self.new ≡ stored_of self.old }
     {
         let known = self.known;
         let at = self.first_committed()?;
@@ -442,6 +452,7 @@ impl Member {
         ensures kept { self.new.kept ≡ self.old.kept }
         ensures fewer { OnSome result (waiting_count self.new + 1 ≡ waiting_count self.old) }
         ensures rest { rest_of self.new ≡ rest_of self.old }
+        ensures stored { stored_of self.new ≡ stored_of self.old }
     {
         let at = self.first_paid(floor)?;
         Some(self.waiting.remove(at).settle_fua(self.alloc, floor))
@@ -456,6 +467,7 @@ impl Member {
         ensures waiting { waiting_of self.new ≡ waiting_of self.old }
         ensures kept { self.new.kept ≡ None }
         ensures receipt { self.new.receipt ≡ self.old.receipt }
+        ensures stored { stored_of self.new ≡ stored_of self.old }
     {
         self.stopped = true;
         self.kept = None;
@@ -472,6 +484,7 @@ impl Member {
         ensures kept { self.new.kept ≡ self.old.kept }
         ensures fewer { OnSome result (waiting_count self.new + 1 ≡ waiting_count self.old) }
         ensures rest { rest_of self.new ≡ rest_of self.old }
+        ensures stored { stored_of self.new ≡ stored_of self.old }
     {
         if self.waiting.is_empty() {
             return None;

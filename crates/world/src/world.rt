@@ -76,9 +76,10 @@ pub struct World<D: Disk> {
 }
 
 impl<D: Disk + Drop> World<D> {
-    ghost use Rattle.std.specs.Prelude.{◌≢◌, IfErr, ◌++◌, [], List, map, flat_map, take_while, nat_lt, false, MatchBool, OnErr};
+    ghost use Rattle.std.specs.Prelude.{◌≢◌, IfErr, ◌++◌, [], List, map, flat_map, take_while, nat_lt, true, false, MatchBool, OnErr};
     ghost use Rattle.gate_journal.specs.Refusal.{IsCaused};
     ghost use Rattle.gate_journal.specs.Runs.{OnlyReads};
+    ghost use Rattle.world.specs.OnDisk.{KeepsVolume, PlaysOnDisk, StaysOnDisk, ends_commit, on_disk};
     ghost use Rattle.world.specs.OneVolume.{OneVolume, StandsFor};
     ghost use Rattle.world.specs.Played.{Becomes, Came, IsOrdered, IsOwnStep, IsRefusedBytes, Stepped, handed_to, put_of, waiting_for};
     ghost use Rattle.world.specs.Recovery.{IsOfRecovering};
@@ -97,6 +98,7 @@ impl<D: Disk + Drop> World<D> {
         requires { geometry.area ≤ D.size disk }
         ensures seen { IfOk result (λ world. seen world ≡ seen_first geometry.blocks geometry.area geometry.max_payload) }
         ensures stands { IfOk result (λ world. StandsFor (4096 * geometry.blocks) (seen world) start) }
+        ensures durable { D.keeps_model → IfOk result (λ world. KeepsVolume world) }
     {
         plays_are_of_one_volume();
         let slot = Slot::new(0).unwrap();
@@ -129,6 +131,7 @@ impl<D: Disk + Drop> World<D> {
             → IfOk result (λ world. Restarts (4096 * geometry.blocks) s (seen world)) }
         ensures refused { D.keeps_model → geometry.area ≤ D.size disk
             → (s : State) → IsDurableFor geometry.blocks geometry.area s (D.gives disk) → IfErr result (λ e. e.0 ≢ JournalRefusal.Damaged) }
+        ensures durable { D.keeps_model → IfOk result (λ world. KeepsVolume world) }
         ensures reads { D.keeps_model
             → IfOk result (λ world. OnlyReads D.gives D.may_leave_now D.moment D.may_have_left_since disk world.disk) }
         ensures back { D.keeps_model
@@ -167,6 +170,7 @@ impl<D: Disk + Drop> World<D> {
         ensures answers { IfOk result (λ answers. length answers ≡ length steps.now) }
         ensures one_volume { IfOk result (λ answers. OneVolume (4096 * self.old.geometry.blocks)
             (seen self.old) steps.now answers (seen self.new)) }
+        ensures durable { D.keeps_model → KeepsVolume self.old → PlaysOnDisk self.old self.new steps.now }
         ensures err { OnErr result (seen self.new ≡ seen self.old) }
     {
         let mut answers = Vec::with_capacity(self.alloc, steps.len())?;
@@ -215,7 +219,9 @@ impl<D: Disk + Drop> World<D> {
 
     /// Ends the world: the member's disk. The tokens that are owed a reply are abandoned.
     pub fn abandon(self) -> D
-        ensures { result ≡ self.disk }
+        ensures disk { result ≡ self.disk }
+        ensures durable { D.keeps_model → KeepsVolume self → (s : State) → StandsFor (4096 * self.geometry.blocks) (seen self) s
+            → IsDurableFor self.geometry.blocks self.geometry.area s (D.gives result) }
     {
         let World {
             alloc: _,
@@ -256,6 +262,7 @@ impl<D: Disk + Drop> World<D> {
     fn answer(&mut self, step: &Step) -> Answer
         ensures ordered { IsOrdered (seen self.new) }
         ensures stepped { (events : List ClientEvent) × Stepped (seen self.old) step.now result (seen self.new) events }
+        ensures durable { D.keeps_model → KeepsVolume self.old → StaysOnDisk self.old self.new }
     {
         let Ok(mut outputs) = Vec::with_capacity(self.alloc, self.clients.len() + 1) else {
             return Answer::Refused(MEMORY);
@@ -274,6 +281,8 @@ impl<D: Disk + Drop> World<D> {
     fn outcome(&mut self, step: &Step) -> Outcome
         ensures clients { vec_len self.new.clients ≤ vec_len self.old.clients + 1 }
         ensures came { Came (seen self.old) step.now result (seen self.new) }
+        ensures disk { ends_commit step.now ≡ false → on_disk self.new ≡ on_disk self.old }
+        ensures commits { ends_commit step.now ≡ true → D.keeps_model → KeepsVolume self.old → StaysOnDisk self.old self.new }
     {
         match step {
             Step::Connect { session, slot } => self.connect(*session, *slot),
@@ -303,6 +312,8 @@ impl<D: Disk + Drop> World<D> {
         requires own { IsOwnStep (fronts_of self.old.member).slot step.now }
         ensures clients { vec_len self.new.clients ≡ vec_len self.old.clients }
         ensures came { Came (seen self.old) step.now result (seen self.new) }
+        ensures disk { ends_commit step.now ≡ false → on_disk self.new ≡ on_disk self.old }
+        ensures commits { ends_commit step.now ≡ true → D.keeps_model → KeepsVolume self.old → StaysOnDisk self.old self.new }
     {
         match step {
             Step::Number { .. } => self.number(),
@@ -323,6 +334,7 @@ impl<D: Disk + Drop> World<D> {
     fn connect(&mut self, id: SessionId, slot: Slot) -> Outcome
         ensures clients { vec_len self.new.clients ≤ vec_len self.old.clients + 1 }
         ensures came { Came (seen self.old) (Step.Connect id slot) result (seen self.new) }
+        ensures disk { on_disk self.new ≡ on_disk self.old }
     {
         if slot != self.member.slot || self.member.stopped || self.position(id).is_some() {
             return Outcome::Skipped;
@@ -364,6 +376,7 @@ impl<D: Disk + Drop> World<D> {
         ensures clients { vec_len self.new.clients ≡ vec_len self.old.clients }
         ensures came { Becomes (IsSome (place_of id (seen self.old).clients)) (IsRefusedBytes (seen self.old) id)
             (GetsBytes id piece.now (seen self.old)) (seen self.old) result (seen self.new) }
+        ensures disk { on_disk self.new ≡ on_disk self.old }
     {
         let Some(at) = self.position(id) else {
             return Outcome::Skipped;
@@ -391,6 +404,7 @@ impl<D: Disk + Drop> World<D> {
         requires inside { All (IsInside (4096 * self.old.geometry.blocks)) demands.items }
         ensures clients { vec_len self.new.clients ≡ vec_len self.old.clients }
         ensures queued { seen self.new ≡ record (seen self.old) { demands = (seen self.old).demands ++ demands.items } }
+        ensures disk { on_disk self.new ≡ on_disk self.old }
     {
         let mut demands = demands;
         if let Some(demand) = demands.pop() {
@@ -403,6 +417,7 @@ impl<D: Disk + Drop> World<D> {
     fn end(&mut self, id: SessionId) -> Outcome
         ensures clients { vec_len self.new.clients ≡ vec_len self.old.clients }
         ensures came { Came (seen self.old) (Step.End id) result (seen self.new) }
+        ensures disk { on_disk self.new ≡ on_disk self.old }
     {
         match self.position(id) {
             Some(at) if !self.clients[at].session.closed() => {
@@ -425,6 +440,7 @@ impl<D: Disk + Drop> World<D> {
     fn take(&mut self) -> Outcome
         ensures clients { vec_len self.new.clients ≡ vec_len self.old.clients }
         ensures came { Came (seen self.old) (Step.Take (fronts_of self.old.member).slot) result (seen self.new) }
+        ensures disk { on_disk self.new ≡ on_disk self.old }
     {
         match self.demands.pop_front() {
             None => return Outcome::Skipped,
@@ -460,6 +476,7 @@ impl<D: Disk + Drop> World<D> {
         ensures taken { (events : List ClientEvent) × MatchBool self.old.member.stopped
             (Tells (record { session = token.session; cookie = token.cookie; outcome = Failed ErrorCode.Io }) (seen self.old) (seen self.new) events)
             (TakesRead token.session token.cookie offset len (seen self.old) (seen self.new) events) }
+        ensures disk { on_disk self.new ≡ on_disk self.old }
     {
         if self.member.stopped {
             let reply = token.refuse(self.alloc, ErrorCode::Io);
@@ -481,6 +498,7 @@ impl<D: Disk + Drop> World<D> {
         ensures taken { (events : List ClientEvent) × MatchBool self.old.member.stopped
             (Tells (unsubmitted (Failed ErrorCode.Io) token) (seen self.old) (seen self.new) events)
             (TakesWrite token write (seen self.old) (seen self.new) events) }
+        ensures disk { on_disk self.new ≡ on_disk self.old }
     {
         if self.member.stopped {
             return self.refuse(token, ErrorCode::Io);
@@ -499,6 +517,7 @@ impl<D: Disk + Drop> World<D> {
     fn refuse(&mut self, token: Token, code: ErrorCode)
         ensures clients { vec_len self.new.clients ≡ vec_len self.old.clients }
         ensures told { (events : List ClientEvent) × Tells (unsubmitted (Failed code) token) (seen self.old) (seen self.new) events }
+        ensures disk { on_disk self.new ≡ on_disk self.old }
     {
         let reply = token.refuse(self.alloc, code);
         self.deliver(reply);
@@ -509,6 +528,7 @@ impl<D: Disk + Drop> World<D> {
         requires running { self.old.member.stopped ≡ false }
         ensures clients { vec_len self.new.clients ≡ vec_len self.old.clients }
         ensures came { Came (seen self.old) (Step.Number (fronts_of self.old.member).slot) result (seen self.new) }
+        ensures disk { on_disk self.new ≡ on_disk self.old }
     {
         if !self.member.has_submit() {
             return Outcome::Skipped;
@@ -527,6 +547,7 @@ impl<D: Disk + Drop> World<D> {
         requires running { self.old.member.stopped ≡ false }
         ensures clients { vec_len self.new.clients ≡ vec_len self.old.clients }
         ensures came { Came (seen self.old) (Step.Raise (fronts_of self.old.member).slot) result (seen self.new) }
+        ensures disk { on_disk self.new ≡ on_disk self.old }
     {
         let front = self.board.raise(self.member.applied());
         self.member.kept = Some(Kept {
@@ -541,6 +562,7 @@ impl<D: Disk + Drop> World<D> {
         requires running { self.old.member.stopped ≡ false }
         ensures clients { vec_len self.new.clients ≡ vec_len self.old.clients }
         ensures came { Came (seen self.old) (Step.Look (fronts_of self.old.member).slot) result (seen self.new) }
+        ensures disk { on_disk self.new ≡ on_disk self.old }
     {
         let front = self.board.look();
         self.member.kept = Some(Kept {
@@ -557,6 +579,7 @@ impl<D: Disk + Drop> World<D> {
         requires running { self.old.member.stopped ≡ false }
         ensures clients { vec_len self.new.clients ≡ vec_len self.old.clients }
         ensures came { Came (seen self.old) (Step.AnswerFront (fronts_of self.old.member).slot) result (seen self.new) }
+        ensures disk { on_disk self.new ≡ on_disk self.old }
     {
         let Some(Kept { front, found }) = self.member.kept else {
             return Outcome::Skipped;
@@ -574,6 +597,7 @@ impl<D: Disk + Drop> World<D> {
         ensures clients { vec_len self.new.clients ≡ vec_len self.old.clients }
         ensures settled { (events : List ClientEvent) × AnswersEach (is_committed (fronts_of self.old.member).known) (Done [])
             (λ waiting. record (seen self.old).member { waiting = waiting }) (seen self.old) (seen self.new) events }
+        ensures disk { on_disk self.new ≡ on_disk self.old }
     {
         while let Some(reply) = self.member.settle_write() {
             self.deliver(reply);
@@ -585,6 +609,7 @@ impl<D: Disk + Drop> World<D> {
         requires running { self.old.member.stopped ≡ false }
         ensures clients { vec_len self.new.clients ≡ vec_len self.old.clients }
         ensures came { Came (seen self.old) (Step.BeginCommit (fronts_of self.old.member).slot) result (seen self.new) }
+        ensures disk { on_disk self.new ≡ on_disk self.old }
     {
         if !self.member.can_begin() {
             return Outcome::Skipped;
@@ -600,6 +625,7 @@ impl<D: Disk + Drop> World<D> {
         requires running { self.old.member.stopped ≡ false }
         ensures clients { vec_len self.new.clients ≡ vec_len self.old.clients }
         ensures came { Came (seen self.old) (Step.EndCommit (fronts_of self.old.member).slot) result (seen self.new) }
+        ensures durable { D.keeps_model → KeepsVolume self.old → StaysOnDisk self.old self.new }
     {
         if !self.member.is_committing() {
             return Outcome::Skipped;
@@ -615,6 +641,7 @@ impl<D: Disk + Drop> World<D> {
         requires running { self.old.member.stopped ≡ false }
         ensures clients { vec_len self.new.clients ≡ vec_len self.old.clients }
         ensures came { Came (seen self.old) (Step.Post (fronts_of self.old.member).slot) result (seen self.new) }
+        ensures disk { on_disk self.new ≡ on_disk self.old }
     {
         match self.member.receipt.take() {
             None => Outcome::Skipped,
@@ -630,6 +657,7 @@ impl<D: Disk + Drop> World<D> {
         requires running { self.old.member.stopped ≡ false }
         ensures clients { vec_len self.new.clients ≡ vec_len self.old.clients }
         ensures came { Came (seen self.old) (Step.Crew (fronts_of self.old.member).slot) result (seen self.new) }
+        ensures disk { on_disk self.new ≡ on_disk self.old }
     {
         match self.looked.take() {
             None => Outcome::Skipped,
@@ -645,6 +673,7 @@ impl<D: Disk + Drop> World<D> {
         requires running { self.old.member.stopped ≡ false }
         ensures clients { vec_len self.new.clients ≡ vec_len self.old.clients }
         ensures came { Came (seen self.old) (Step.Gauge (fronts_of self.old.member).slot) result (seen self.new) }
+        ensures disk { on_disk self.new ≡ on_disk self.old }
     {
         match &mut self.muster {
             Some(muster) if !muster.is_complete() => {
@@ -660,6 +689,7 @@ impl<D: Disk + Drop> World<D> {
         requires running { self.old.member.stopped ≡ false }
         ensures clients { vec_len self.new.clients ≡ vec_len self.old.clients }
         ensures came { Came (seen self.old) (Step.AnswerFloor (fronts_of self.old.member).slot) result (seen self.new) }
+        ensures disk { on_disk self.new ≡ on_disk self.old }
     {
         let Some(muster) = self.muster.take() else {
             return Outcome::Skipped;
@@ -679,6 +709,7 @@ impl<D: Disk + Drop> World<D> {
     fn stop(&mut self)
         ensures clients { vec_len self.new.clients ≡ vec_len self.old.clients }
         ensures stopped { (events : List ClientEvent) × Stops (seen self.old) (seen self.new) events }
+        ensures disk { on_disk self.new ≡ on_disk self.old }
     {
         self.member.stop();
         self.looked = None;
@@ -693,6 +724,7 @@ impl<D: Disk + Drop> World<D> {
         ensures clients { vec_len self.new.clients ≡ vec_len self.old.clients }
         ensures member { self.new.member ≡ self.old.member }
         ensures told { (events : List ClientEvent) × Tells (told_by reply) (seen self.old) (seen self.new) events }
+        ensures disk { on_disk self.new ≡ on_disk self.old }
     {
         if let Some(at) = self.position(reply.session) {
             self.clients[at].take_reply(reply);
@@ -704,6 +736,7 @@ impl<D: Disk + Drop> World<D> {
         requires { vec_len outputs.old + vec_len self.old.clients ≤ vec_capacity outputs.old }
         ensures outputs { map put_of outputs.new.items ≡ map put_of outputs.old.items ++ flat_map waiting_for (seen self.old).clients }
         ensures clients { seen self.new ≡ record (seen self.old) { clients = map handed_to (seen self.old).clients } }
+        ensures disk { on_disk self.new ≡ on_disk self.old }
     {
         for at in 0..self.clients.len() {
             if let Some(output) = self.clients[at].put_out() {
@@ -719,7 +752,11 @@ impl World<MemDisk> {
     ghost use Rattle.disk_model.specs.Disk.{NothingNew};
     ghost use Rattle.disk_model.specs.Memory.{IsAsBefore, bytes_of, calls_of, given_of, has_stopped, may_be_left, script_of, unsynced_of};
     ghost use Rattle.std.specs.Prelude.{◌++◌, ◌∷◌, [], OnOk, OnErr, false};
+    ghost use Rattle.world.specs.OnDisk.{KeepsVolume};
+    ghost use Rattle.world.specs.OneVolume.{StandsFor};
+    ghost use Rattle.world.specs.Restart.{IsDurableFor};
     ghost use Rattle.world.specs.Seen.{seen};
+    ghost use Rattle.world_model.specs.Machine.{State};
 
     /// Adds an event to the script of the member's disk, its calls counted from now. 100 `Memory`: nothing was added.
     pub fn arm(&mut self, event: Event) -> Result<(), Refusal>
@@ -728,6 +765,8 @@ impl World<MemDisk> {
         ensures err { OnErr result (script_of self.new.disk ≡ script_of self.old.disk) }
         ensures stays { IsAsBefore self.old.disk self.new.disk }
         ensures leaves { NothingNew (may_be_left self.old.disk) (may_be_left self.new.disk) }
+        ensures durable { KeepsVolume self.old → KeepsVolume self.new }
+        ensures geometry { self.new.geometry ≡ self.old.geometry }
     {
         self.disk.arm(event)?;
         Ok(())
@@ -742,6 +781,8 @@ impl World<MemDisk> {
         ensures runs { has_stopped result ≡ false }
         ensures calls { calls_of result ≡ calls_of self.disk }
         ensures script { script_of result ≡ script_of self.disk }
+        ensures durable { KeepsVolume self → (s : State) → StandsFor (4096 * self.geometry.blocks) (seen self) s
+            → IsDurableFor self.geometry.blocks self.geometry.area s (given_of result) }
     {
         let mut disk = self.abandon();
         disk.cut(cut);

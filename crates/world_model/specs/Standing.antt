@@ -90,26 +90,29 @@ module _ (size : ℕ) (v : View) (s : State) (names : Names) (stands : StandsUnd
         stands.member.durable,
       )
 
-  volume_is : volume_shown v ≡ volume_at size s v.front
-  volume_is =
+  -- the volume at a front from the durable one to the committed one is the machine's
+  pub volume_is_at : (front : ℕ) → v.durable ≤ front → front ≤ v.front → fold patched v.volume (take (front - v.durable) v.writes) ≡ volume_at size s front
+  volume_is_at front durable committed =
       let all = all_writes s names in
       let placed : List Placed = map (λ (w : ℕ × Placed). w.1) all in
-      let zeros = volume_of size [] in
-      let front = v.front - v.durable in
-      let here : take front v.writes ≡ take front (drop v.durable placed) =
-      sym (take-append-le front v.writes (map (λ (x : Submitted). x.write) v.submits) (omega (arith, stands.member.applied)))
-      ∙ ap (take front) stands.member.above ∙ ap (take front) (sym (drop-map (λ (w : ℕ × Placed). w.1) v.durable all)) in
+      let above = front - v.durable in
+      let here : take above v.writes ≡ take above (drop v.durable placed) =
+      sym (take-append-le above v.writes (map (λ (x : Submitted). x.write) v.submits) (omega (arith, stands.member.applied)))
+      ∙ ap (take above) stands.member.above ∙ ap (take above) (sym (drop-map (λ (w : ℕ × Placed). w.1) v.durable all)) in
       let below : v.volume ≡ volume_of size (take v.durable placed) =
       stands.member.volume ∙ ap (volume_of size) (sym (take-map (λ (w : ℕ × Placed). w.1) v.durable all)) in
-      let whole : take v.durable placed ++ take front (drop v.durable placed) ≡ take v.front placed = take_two v.durable v.front placed stands.member.durable in
-      let mine : take v.front placed ≡ map (λ (t : Taken). t.write) (take v.front s.taken) =
-      take-map (λ (w : ℕ × Placed). w.1) v.front all
-      ∙ ap (λ (l : List (ℕ × Placed)). map (λ (w : ℕ × Placed). w.1) l) (take-append-le v.front (writes_of s.taken) names.untaken (omega (arith, stands.committed, length-writes_of s.taken)))
-      ∙ ap (λ (l : List (ℕ × Placed)). map (λ (w : ℕ × Placed). w.1) l) (take-map (λ (t : Taken). (t.name, t.write)) v.front s.taken)
-      ∙ map_two (take v.front s.taken) in
-      ap (fold patched v.volume) here ∙ ap (λ (l : List ℕ). fold patched l (take front (drop v.durable placed))) below
-      ∙ sym (fold-append patched (volume_of size []) (take v.durable placed) (take front (drop v.durable placed)))
+      let whole : take v.durable placed ++ take above (drop v.durable placed) ≡ take front placed = take_two v.durable front placed durable in
+      let mine : take front placed ≡ map (λ (t : Taken). t.write) (take front s.taken) =
+      take-map (λ (w : ℕ × Placed). w.1) front all
+      ∙ ap (λ (l : List (ℕ × Placed)). map (λ (w : ℕ × Placed). w.1) l) (take-append-le front (writes_of s.taken) names.untaken (omega (arith, stands.committed, length-writes_of s.taken)))
+      ∙ ap (λ (l : List (ℕ × Placed)). map (λ (w : ℕ × Placed). w.1) l) (take-map (λ (t : Taken). (t.name, t.write)) front s.taken)
+      ∙ map_two (take front s.taken) in
+      ap (fold patched v.volume) here ∙ ap (λ (l : List ℕ). fold patched l (take above (drop v.durable placed))) below
+      ∙ sym (fold-append patched (volume_of size []) (take v.durable placed) (take above (drop v.durable placed)))
       ∙ ap (volume_of size) whole ∙ ap (volume_of size) mine
+
+  volume_is : volume_shown v ≡ volume_at size s v.front
+  volume_is = volume_is_at v.front stands.member.durable (omega arith)
 
 -- ---- a demand is told
 

@@ -22,6 +22,7 @@ loop-reply-preserved g c =
     let floor = c.into_floor-floor.result in
     record {
       clients = cc;
+      disk = search rules;
       settled = reply_settles (is_paid floor) (is_paid floor) refl None start (seen c.loop-reply.self) (seen c.deliver.new.self) m c.settle_fua.new.self c.in-Some-settle_fua.reply
           was ensures.fronts ensures.contents ensures.kept ensures.rest ensures.waiting ensures.reply c.deliver.ensures.told;
     }

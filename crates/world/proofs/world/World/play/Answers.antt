@@ -1,7 +1,9 @@
 use Rattle.std.proofs.Common.{arith, ◌*◌, ◌++◌, ◌∷◌, take, sym, subst, List, []}
 use Rattle.std.proofs.lemmas.List.{take_all}
 use Rattle.world.proofs.Outgoing.{take-next}
+use Rattle.world.proofs.Durable.{plays_first, plays_more}
 use Rattle.world.proofs.Playing.{GoesOn, goes_on-first, goes_on-step, played_all}
+use Rattle.world.specs.OnDisk.{PlaysOnDisk}
 use Rattle.world.specs.OneVolume.{OneVolume}
 use Rattle.world.specs.Seen.{seen}
 use Rattle.world.specs.declared.answer.Answer.{Answer}
@@ -15,6 +17,7 @@ loop-step-init g c =
       answers = omega (arith, c.in_ok-answers.ensures.len);
       room = omega (arith, c.in_ok-answers.ensures.capacity);
       played = subst (λ (answers : List Answer). GoesOn first [] answers first) (sym c.in_ok-answers.ensures.items) (goes_on-first first);
+      durable = λ keeps on. plays_first c.args.self.now (g.met.D.Disk.only_now keeps c.args.self.now.disk) on;
     }
 
 pub loop-step-preserved : goal.loop-step-preserved
@@ -30,6 +33,10 @@ loop-step-preserved g c =
     record {
       answers = omega (arith, c.push_reserved.ensures.len);
       room = omega (arith, c.push_reserved.ensures.capacity);
+      durable = λ keeps on.
+          let so_far = played_all first (seen c.loop-step.self) (take at steps) had c.loop-step.invariant.played in
+          subst (λ (played : List Step). PlaysOnDisk c.args.self.now c.answer-answer.new.self played) (sym (take-next steps at step c.loop-step-test.true (sym c.step-item.is)))
+          (plays_more c.args.self.now c.loop-step.self c.answer-answer.new.self (take at steps) step had so_far.0 so_far.1 (c.loop-step.invariant.durable keeps on) (c.answer-answer.ensures.durable keeps (c.loop-step.invariant.durable keeps on).now));
       played = subst (λ (played : List Step). GoesOn first played c.push_reserved.new.self.items next) (sym (take-next steps at step c.loop-step-test.true (sym c.step-item.is))) lengthened;
     }
 
@@ -42,3 +49,7 @@ returns-clause-one_volume g c =
     let bytes = 4096 * c.args.self.now.geometry.blocks in
     subst (λ (answers : List Answer). OneVolume bytes first c.args.steps.now answers now) (sym c.from_vec.ensures)
     (record { events = played.0; played = played.1; shown = c.plays_are_of_one_volume.ensures.plays bytes first now c.args.steps.now c.loop-step.answers.items played.0 played.1 })
+
+pub returns-clause-durable : goal.returns-clause-durable
+returns-clause-durable g c keeps on =
+    subst (λ (played : List Step). PlaysOnDisk c.args.self.now c.loop-step.self played) (take_all _ c.args.steps.now c.loop-step-test.false) (c.loop-step.invariant.durable keeps on)

@@ -25,6 +25,7 @@ loop-at-preserved g c =
     subst (λ x. set now at x ≡ map handed_to (take (at + 1) xs) ++ drop (at + 1) xs) (sym c.put_out.ensures.client) (next-changed handed_to xs now at client made inside here) in
     record {
       clients = c.loop-at.invariant.clients;
+      disk = c.loop-at.invariant.disk;
       room = elim c.match-put_out.branch [ in-Some w ↦ grind arith | in_default w ↦ grind arith ];
       came = next-given waiting_for xs at client _ _ _ inside here c.loop-at.invariant.came more;
       handed = ap {A = Seen} {B = Seen} (λ w. record w { clients = set now at c.put_out.new.self }) before ∙ ap {A = List Client} {B = Seen} (λ clients. record (seen c.args.self.now) { clients = clients }) changed;

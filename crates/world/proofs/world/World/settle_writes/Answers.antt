@@ -1,4 +1,4 @@
-use Rattle.std.proofs.Common.{None, []}
+use Rattle.std.proofs.Common.{None, [], rules}
 use Rattle.world.specs.Seen.{seen}
 use Rattle.world.specs.Waiting.{is_committed}
 use Rattle.world_model.specs.Event.{Done}
@@ -14,6 +14,7 @@ loop-reply-preserved g c =
     let same = known_stays (is_committed old.member.fronts.known) (Done []) old (seen c.loop-reply.self) was in
     record {
       clients = cc;
+      disk = search rules;
       settled = reply_settles (is_committed old.member.fronts.known) (is_committed m.known) same None old (seen c.loop-reply.self) (seen c.deliver.new.self) m c.settle_write.new.self c.in-Some.reply
           was ensures.fronts ensures.contents ensures.kept ensures.rest ensures.waiting ensures.reply c.deliver.ensures.told;
     }

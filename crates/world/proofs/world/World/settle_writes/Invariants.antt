@@ -1,5 +1,6 @@
 use Rattle.std.proofs.Common.{◌≡◌, vec_len, []}
 use Rattle.world.specs.Member.{fronts_of, waiting_count}
+use Rattle.world.specs.OnDisk.{on_disk}
 use Rattle.world.specs.Seen.{seen}
 use Rattle.world.specs.Waiting.{is_committed}
 use Rattle.world_model.specs.Event.{Done}
@@ -9,6 +10,7 @@ use Rattle.world.proofs.world.World.settle_writes.Given as goal
 abbrev pub invariant-loop-reply : goal.invariant-loop-reply
 invariant-loop-reply g l = record {
   clients : vec_len l.self.clients ≡ vec_len l.fn.self.clients;
+  disk : on_disk l.self ≡ on_disk l.fn.self;
   settled : SettlesTo (is_committed (fronts_of l.fn.self.member).known) (Done []) (seen l.initial.self) (seen l.self);
 }
 

@@ -1,4 +1,4 @@
-use Rattle.std.proofs.Common.{None, Some, true, refl, ◌∙◌, sym}
+use Rattle.std.proofs.Common.{None, Some, true, refl, ◌∙◌, sym, rules}
 use Rattle.flush_barrier.specs.declared.error_code.ErrorCode.TheVariants.{Io}
 use Rattle.world.specs.Member.{waiting_of}
 use Rattle.world.specs.Seen.{seen, seen_member}
@@ -13,6 +13,7 @@ loop-reply-preserved g c =
     let ensures = c.in-Some.ensures in
     record {
       clients = cc;
+      disk = search rules;
       settled = reply_settles (λ _. true) (λ _. true) refl (Some Io) start (seen c.loop-reply.self) (seen c.deliver.new.self) m c.refuse_next.new.self c.in-Some.reply
           was ensures.fronts ensures.contents ensures.kept ensures.rest (ensures.waiting ∙ sym (without_any (waiting_of m))) (rw (find_any (waiting_of m)) ensures.reply) c.deliver.ensures.told;
     }

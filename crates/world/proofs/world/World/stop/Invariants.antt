@@ -1,6 +1,7 @@
 use Rattle.std.proofs.Common.{◌≡◌, vec_len, true}
 use Rattle.flush_barrier.specs.declared.error_code.ErrorCode.TheVariants.{Io}
 use Rattle.world.specs.Member.{waiting_count}
+use Rattle.world.specs.OnDisk.{on_disk}
 use Rattle.world.specs.Seen.{seen}
 use Rattle.world_model.specs.Event.{Failed}
 use Rattle.world.proofs.Settling.{SettlesTo}
@@ -9,6 +10,7 @@ use Rattle.world.proofs.world.World.stop.Given as goal
 abbrev pub invariant-loop-reply : goal.invariant-loop-reply
 invariant-loop-reply g l = record {
   clients : vec_len l.self.clients ≡ vec_len l.fn.self.clients;
+  disk : on_disk l.self ≡ on_disk l.fn.self;
   settled : SettlesTo (λ _. true) (Failed Io) (seen l.initial.self) (seen l.self);
 }
 
