@@ -14,7 +14,10 @@ use std::alloc::Global;
 use std::process::Abort;
 use std::test::Fail;
 use volume::{Geometry, Write};
-use world::{Answer, Answers, MemberState, Step, World, plays_are_of_one_volume};
+use world::{
+    Answer, Answers, MemberState, Step, World, plays_are_of_one_volume, refusals_have_a_cause,
+    restarts_stand, sessions_are_lawful, what_is_left_is_durable,
+};
 use world_model::{Request, flushes_owe, owed_stays, reads_are_fresh, runs_go_on, runs_keep_sound};
 
 /// A world with the machine beside it.
@@ -43,6 +46,8 @@ impl Pair<'_> {
             // rows that crash are played elsewhere
             ScriptCommand::New { .. }
             | ScriptCommand::StopAt { .. }
+            | ScriptCommand::Fail { .. }
+            | ScriptCommand::State
             | ScriptCommand::Cut { .. }
             | ScriptCommand::Return { .. } => {}
             ScriptCommand::Connect { session, member } => {
@@ -283,11 +288,15 @@ fn worlds_on_disks_that_fail(rt: HostRuntime) -> Result<(), Fail> {
     Ok(())
 }
 
-/// A world of one member, and its disk once it is abandoned.
+/// A world of one member, and its disk once it is abandoned; and the laws, which do nothing.
 #[test]
 fn one_member(rt: HostRuntime) -> Result<(), Fail> {
     let alloc = rt.alloc();
     plays_are_of_one_volume();
+    refusals_have_a_cause();
+    sessions_are_lawful();
+    what_is_left_is_durable();
+    restarts_stand();
     let (slot, other) = (first_slot()?, Slot::new(1).ok_or("there is a slot 1")?);
     let geometry = Geometry::new(8, LEAST_AREA, 4_096)?;
     let disk = MemDisk::new(alloc, u64::from(LEAST_AREA), Script::new(alloc))?;
@@ -296,7 +305,7 @@ fn one_member(rt: HostRuntime) -> Result<(), Fail> {
     let others = (world.member(other), world.disk(other).is_some());
     let session = SessionId(7);
     let answers = world.play(&[Step::Connect { session, slot }, Step::Take { slot }]);
-    let state = world.member(slot);
+    let (state, front) = (world.member(slot), world.front());
     let disk = world.abandon();
     assert_eq!(rt; (calls, disk.calls()), (Some(2), 2));
     assert_eq!(rt; others, (None, false));
@@ -306,8 +315,9 @@ fn one_member(rt: HostRuntime) -> Result<(), Fail> {
         durable: 0,
         awaits_floor: false,
         stopped: false,
+        fault: None,
     };
-    assert_eq!(rt; state, Some(wanted));
+    assert_eq!(rt; (state, front), (Some(wanted), 0));
     let answers = answers?;
     assert!(rt; matches!(answers.as_slice(), [Answer::Taken(_), Answer::Skipped]));
     let answers = Answers::from_vec(vec![in alloc; Answer::Refused(100)]?);

@@ -2,6 +2,7 @@
 use crate::client::ScriptedClient;
 use crate::refusal::Refusal;
 use flush_barrier::SessionId;
+use gate_journal::Slot;
 use std::alloc::Global;
 use std::collections::BTreeMap;
 use std::io::Write;
@@ -14,8 +15,8 @@ struct Line {
     closed: bool,
 }
 
-/// What the sessions put out during a command: the replies to scripted clients as they came, and what the others were
-/// sent, by session number.
+/// What the sessions put out during a command: the replies to scripted clients and the faults of members as they came, and
+/// what the other sessions were sent, by session number.
 #[derive(Debug, Drop)]
 pub(crate) struct Printed {
     alloc: Global,
@@ -56,7 +57,13 @@ impl Printed {
         Ok(())
     }
 
-    /// Prints the replies, and then `out S H` for each session that put bytes out, and `closed S` for each that ended.
+    /// Adds that a device's fault stopped a member, before the replies that come of it.
+    pub(crate) fn add_fault(&mut self, member: Slot, number: u16) -> Result<(), Refusal> {
+        let member = member.number();
+        Ok(writeln!(self.replies, "fault {member} {number}")?)
+    }
+
+    /// Prints the replies and the faults, and then `out S H` for each session that put bytes out, and `closed S` for each that ended.
     pub(crate) fn print<W: Write>(&self, writer: &mut W) -> Result<(), Refusal> {
         writer.write_all(&self.replies)?;
         for (session, line) in &self.lines {

@@ -48,6 +48,11 @@ pub enum ScriptCommand {
         call: u64,
         bytes: u64,
     },
+    /// `fail M K`: the K-th device call of a member from now on fails, once.
+    Fail {
+        member: u64,
+        call: u64,
+    },
     /// `cut all`, `cut none`: everything stops; what wasn't synced is as written, or all `ff`.
     Cut {
         cut: Cut,
@@ -56,6 +61,8 @@ pub enum ScriptCommand {
     Return {
         member: Option<u64>,
     },
+    /// `state`: prints the epoch, the committed front and the chain.
+    State,
 }
 
 /// What a member is told to do.
@@ -153,7 +160,8 @@ pub fn parse(alloc: Global, line: &[u8]) -> Result<Option<ScriptCommand>, LineEr
             piece: joined(alloc, first, others)?,
         },
         ["run"] => ScriptCommand::Run,
-        ["stopat" | "cut" | "return", ..] => crash_command(&words)?,
+        ["state"] => ScriptCommand::State,
+        ["fail" | "stopat" | "cut" | "return", ..] => crash_command(&words)?,
         [act, member] => ScriptCommand::Act {
             act: member_act(act)?,
             member: number(member)?,
@@ -163,9 +171,13 @@ pub fn parse(alloc: Global, line: &[u8]) -> Result<Option<ScriptCommand>, LineEr
     Ok(Some(command))
 }
 
-/// A command of crashes and recovery.
+/// A command of faults, crashes and recovery.
 fn crash_command(words: &[&str]) -> Result<ScriptCommand, LineError> {
     match words {
+        ["fail", member, call] => Ok(ScriptCommand::Fail {
+            member: number(member)?,
+            call: number(call)?,
+        }),
         ["stopat", member, call, bytes] => Ok(ScriptCommand::StopAt {
             member: number(member)?,
             call: number(call)?,

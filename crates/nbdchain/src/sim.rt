@@ -142,7 +142,9 @@ impl Sim {
                 member,
                 call,
                 bytes,
-            } => self.stop_at(member, call, bytes),
+            } => self.arm(member, Event::StopAt { call, bytes }),
+            ScriptCommand::Fail { member, call } => self.arm(member, Event::FailAt { call }),
+            ScriptCommand::State => self.state(writer),
             ScriptCommand::Connect { session, member } => self.connect(session, member, writer),
             ScriptCommand::Session { session, member } => self.session(session, member, writer),
             ScriptCommand::Request { session, request } => self.request(session, &request, writer),
@@ -183,13 +185,25 @@ impl Sim {
         }
     }
 
-    /// The world stops in a device call to come. A slot that is none, or no call, changes nothing.
-    fn stop_at(&mut self, member: u64, call: u64, bytes: u64) -> Result<(), Refusal> {
+    /// A device call to come fails, or the world stops in it. A slot that is none, or no call, changes nothing.
+    fn arm(&mut self, member: u64, event: Event) -> Result<(), Refusal> {
+        let (Event::FailAt { call } | Event::StopAt { call, .. }) = event;
         match &mut self.world {
-            Some(world) if member == 0 && call > 0 => world
-                .arm(Event::StopAt { call, bytes })
-                .map_err(|_| Refusal::Memory),
+            Some(world) if member == 0 && call > 0 => {
+                world.arm(event).map_err(|_| Refusal::Memory)
+            }
             _ => Ok(()),
+        }
+    }
+
+    /// Prints the epoch, the committed front and the chain, if there is a world. There is one epoch, and one member.
+    fn state<W: Write>(&mut self, writer: &mut W) -> Result<(), Refusal> {
+        match &mut self.world {
+            Some(world) => {
+                let front = world.front();
+                Ok(writeln!(writer, "epoch 1 front {front} chain 0")?)
+            }
+            None => Ok(()),
         }
     }
 
@@ -391,6 +405,7 @@ impl Sim {
             refused: None,
         };
         for at in 0..steps.len() {
+            let had = self.fault();
             let Some(world) = &mut self.world else {
                 break;
             };
@@ -400,10 +415,24 @@ impl Sim {
             let answers = world.play(&steps[at..at + 1]).map_err(|_| Refusal::Memory)?;
             self.stopped = self.disk().is_some_and(|disk| disk.is_stopped());
             if !self.stopped {
+                self.tell_fault(had, printed)?;
                 self.add(answers, &mut played, printed)?;
             }
         }
         Ok(played)
+    }
+
+    /// The number of the device's fault that stopped the member, if one did.
+    fn fault(&self) -> Option<u16> {
+        self.member(Slot::new(0)?)?.fault?.number()
+    }
+
+    /// Adds the fault of the member's device, if there is one that wasn't there before.
+    fn tell_fault(&self, had: Option<u16>, printed: &mut Printed) -> Result<(), Refusal> {
+        match (self.fault(), Slot::new(0)) {
+            (Some(number), Some(slot)) if had.is_none() => printed.add_fault(slot, number),
+            _ => Ok(()),
+        }
     }
 
     /// Adds what steps put out.

@@ -131,7 +131,17 @@ struct BadRow {
     ended: Refusal,
 }
 
-const BAD_ROWS: [BadRow; 16] = [
+const BAD_ROWS: [BadRow; 18] = [
+    BadRow {
+        script: "state\n",
+        printed: "",
+        ended: Refusal::BadScript { line: 1 },
+    },
+    BadRow {
+        script: "new 1 8 4096\nfail 0\n",
+        printed: "",
+        ended: Refusal::BadScript { line: 2 },
+    },
     BadRow {
         script: "bytes 1 00\n",
         printed: "",

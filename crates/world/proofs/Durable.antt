@@ -1,5 +1,5 @@
 -- How the disk of a world goes on holding its volume: lemmas.
-use Rattle.std.proofs.Common.{◌≡◌, ℕ, ◌+◌, ◌-◌, ◌*◌, ◌<◌, ◌≤◌, Bool, true, false, List, [], ◌∷◌, ◌++◌, map, take, vec_len, append_assoc, refl, sym, ◌∙◌, ap, subst, inl, inr, arith}
+use Rattle.std.proofs.Common.{◌≡◌, ◌⊎◌, ℕ, ◌+◌, ◌-◌, ◌*◌, ◌<◌, ◌≤◌, Bool, true, false, List, [], ◌∷◌, ◌++◌, map, take, vec_len, append_assoc, refl, sym, ◌∙◌, ap, subst, inl, inr, arith}
 use Rattle.std.specs.Prelude.{MatchBool, Option, IsSome, fold, Some, None}
 use Rattle.std.proofs.lemmas.Bool.{cases_Bool}
 use Rattle.std.proofs.lemmas.List.{take-append-le}
@@ -18,7 +18,7 @@ use Rattle.world.proofs.DurableLemmas.{means_durable}
 use Rattle.world.proofs.Replaying.{inside_area}
 use Rattle.world.specs.DiskMeaning.{IsDurable, Means, MeansAt, MeansOldOrNew, Stored, stored_of}
 use Rattle.world.specs.Member.{IsCommitting}
-use Rattle.world.specs.OnDisk.{IsOnDisk, KeepsVolume, LeftPlaying, MeansCommitted, OnDisk, PlaysOnDisk, StaysOnDisk, WhatIsLeftIsDurable, WhatIsLeftPlayingIsDurable, ends_commit, on_disk}
+use Rattle.world.specs.OnDisk.{FaultsAreCaused, IsOnDisk, KeepsVolume, LeftPlaying, MeansCommitted, OnDisk, PlaysOnDisk, StaysOnDisk, WhatIsLeftIsDurable, WhatIsLeftPlayingIsDurable, ends_commit, on_disk}
 use Rattle.world.specs.OneVolume.{PlaysAreOfOneVolume, view_of}
 use Rattle.world.specs.Played.{Came, Does, IsOrdered, Played, handed_to}
 use Rattle.world.specs.Recovery.{area_of}
@@ -304,6 +304,24 @@ module _ {D : Type 0} {g : Ghosts D} where
             (weaker g.moment g.may_have_left_since now.disk next.disk (MeansCommitted blocks area (seen now)) (LeftPlaying blocks area (seen first) (steps ++ step ∷ []))
             (λ c means. record { played = steps; rest = step ∷ []; are = refl; answers = answers; events = events; world = seen now; leads = played; means = means }) here);
       }
+
+-- ---- faults
+
+faults_either : {T : Type 0} (before mid now : ℕ) (told then_told now_told : Option T) → before ≤ mid → mid ≤ now → (then_told ≡ told) ⊎ ((before < mid) × IsSome then_told)
+    → (now_told ≡ then_told) ⊎ ((mid < now) × IsSome now_told) → (now_told ≡ told) ⊎ ((before < now) × IsSome now_told)
+faults_either before mid now told then_told now_told le later (inl one) (inl two) = inl (two ∙ one)
+faults_either before mid now told then_told now_told le later (inr (failed, some)) (inl two) = inr (omega (arith, failed, later), subst IsSome (sym two) some)
+faults_either before mid now told then_told now_told le later one (inr (failed, some)) = inr (omega (arith, failed, le), some)
+
+module _ {D : Type 0} {g : Ghosts D} where
+  pub faults_here : (old : World D g) → FaultsAreCaused old old
+  faults_here old = record { later = omega arith; fault = inl refl }
+
+  pub faults_then : (old mid new : World D g) → FaultsAreCaused old mid → FaultsAreCaused mid new → FaultsAreCaused old new
+  faults_then old mid new first second = record {
+    later = omega (arith, first.later, second.later);
+    fault = faults_either (g.failures old.disk) (g.failures mid.disk) (g.failures new.disk) old.fault mid.fault new.fault first.later second.later first.fault second.fault;
+  }
 
 -- ---- what the machine makes of it
 

@@ -1,6 +1,7 @@
 pub mod Blocks
 pub mod Commit
 pub mod DiskMeaning
+pub mod Fault
 pub mod Lawful
 pub mod Member
 pub mod Muster

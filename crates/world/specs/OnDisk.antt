@@ -1,7 +1,8 @@
 -- What the disk of a world holds of its volume.
-use Rattle.std.specs.Prelude.{◌≡◌, ℕ, ◌*◌, ◌≤◌, Bool, true, false, List, ◌++◌}
+use Rattle.std.specs.Prelude.{◌≡◌, ◌⊎◌, ℕ, ◌*◌, ◌<◌, ◌≤◌, Bool, true, false, Option, IsSome, List, ◌++◌}
 use Rattle.disk_model.specs.Disk.{LeavesOnly}
 use Rattle.disk_model.specs.declared.disk.Disk.{Ghosts}
+use Rattle.disk_model.specs.declared.error.DiskError.{DiskError}
 use Rattle.volume.specs.declared.geometry.Geometry.{Geometry}
 use Rattle.world.specs.DiskMeaning.{IsDurable, Means, Stored, stored_of}
 use Rattle.world.specs.OneVolume.{StandsFor}
@@ -17,14 +18,15 @@ use Rattle.world.specs.declared.world.World.{World}
 use Rattle.world_model.specs.Event.{ClientEvent}
 use Rattle.world_model.specs.Machine.{Move, Run, State}
 
--- a world's geometry, what its member knows of its disk, and the disk
+-- a world's geometry, what its member knows of its disk, the disk, and its fault that stopped the member
 pub record OnDisk (D : Type 0) : Type 0 where
   pub geometry : Geometry
   pub stored : Stored
   pub disk : D
+  pub fault : Option DiskError
 
 abbrev pub on_disk : {D : Type 0} → {g : Ghosts D} → World D g → OnDisk D
-on_disk w = record { geometry = w.geometry; stored = stored_of w.member; disk = w.disk }
+on_disk w = record { geometry = w.geometry; stored = stored_of w.member; disk = w.disk; fault = w.fault }
 
 -- the disk means the world's volume at a front from the durable one to the committed one
 pub record MeansCommitted (blocks area : ℕ) (w : Seen) (disk : List ℕ) : Type 0 where
@@ -50,6 +52,11 @@ pub record StaysOnDisk {D : Type 0} {g : Ghosts D} (old new : World D g) : Type 
   pub now : KeepsVolume new
   pub same : new.geometry ≡ old.geometry
   pub moments : LeavesOnly g.moment g.may_have_left_since old.disk new.disk (MeansCommitted old.geometry.blocks old.geometry.area (seen old))
+
+-- the disk has failed no less often, and a fault that wasn't told before came of a failure
+pub record FaultsAreCaused {D : Type 0} {g : Ghosts D} (old new : World D g) : Type 0 where
+  pub later : g.failures old.disk ≤ g.failures new.disk
+  pub fault : (new.fault ≡ old.fault) ⊎ ((g.failures old.disk < g.failures new.disk) × IsSome new.fault)
 
 -- the one step that touches a disk
 abbrev pub ends_commit : Step → Bool

@@ -10,6 +10,7 @@ mod answer;
 mod blocks;
 mod client;
 mod commit;
+mod fault;
 mod laws;
 mod member;
 mod muster;

@@ -1,4 +1,4 @@
-ghost use Rattle.std.specs.Prelude.{◌≡◌, ◌+◌, ◌*◌, ◌<◌, ◌≤◌, ◌↔◌, length, vec_len, vec_capacity, All, IfOk, IfSome, IsSome};
+ghost use Rattle.std.specs.Prelude.{◌≡◌, ◌+◌, ◌*◌, ◌<◌, ◌≤◌, ◌↔◌, length, vec_len, vec_capacity, All, IfOk, IfSome, IsSome, None, false};
 ghost use Rattle.std.specs.VecDeque.{deque_len, deque_capacity};
 ghost use Rattle.nbd_session.specs.Demand.{IsInside};
 ghost use Rattle.world.specs.Member.{fronts_of, KeepsWithin};
@@ -6,13 +6,14 @@ ghost use Rattle.world.specs.Writes.{IsInside as IsWriteInside};
 
 use crate::answer::{Answer, Answers, Output};
 use crate::client::Client;
+use crate::fault::fault_of;
 use crate::laws::{plays_are_of_one_volume, restarts_stand};
 use crate::member::{Found, Kept, Member, Unsubmitted};
 use crate::muster::Muster;
 use crate::refusal::Refusal;
 use crate::step::Step;
 use crate::waiting::Token;
-use disk_model::{Cut, Disk, Event, MemDisk};
+use disk_model::{Cut, Disk, DiskError, Event, MemDisk};
 use flush_barrier::{Board, ErrorCode, Front, OwedRead, Reply, SessionId};
 use gate_journal::{Refusal as JournalRefusal, Slot};
 use nbd_session::{Demand, LIMIT_IN_FLIGHT, Session};
@@ -50,6 +51,8 @@ pub struct MemberState {
     pub awaits_floor: bool,
     /// Whether it has stopped.
     pub stopped: bool,
+    /// The fault of its device, where that stopped it.
+    pub fault: Option<DiskError>,
 }
 
 /// The world of one member at slot 0: its disk, the board and its clients. It has no `Drop`, since it holds tokens:
@@ -65,6 +68,7 @@ pub struct World<D: Disk> {
     demands: VecDeque<Demand>,
     looked: Option<Front>,
     muster: Option<Muster>,
+    fault: Option<DiskError>,
     ghost first: { (fronts_of member).slot ≡ 0 },
     ghost on_disk: { (fronts_of member).area_end ≤ D.size disk },
     ghost front: { ((fronts_of member).known ≤ board.front) × (board.front ≤ (fronts_of member).applied) },
@@ -73,13 +77,14 @@ pub struct World<D: Disk> {
     ghost sessions: { All (λ client. client.session.export.size ≡ 4096 * geometry.blocks) clients.items },
     ghost own_ids: { All (λ client. client.session.id ≡ client.id) clients.items },
     ghost demands_inside: { All (IsInside (4096 * geometry.blocks)) demands.items },
+    ghost faulty: { member.stopped ≡ false → fault ≡ None },
 }
 
 impl<D: Disk + Drop> World<D> {
-    ghost use Rattle.std.specs.Prelude.{◌≢◌, IfErr, ◌++◌, [], List, map, flat_map, take_while, nat_lt, true, false, MatchBool, OnErr};
+    ghost use Rattle.std.specs.Prelude.{◌≢◌, IfErr, ◌++◌, [], List, map, flat_map, take_while, nat_lt, true, MatchBool, OnErr};
     ghost use Rattle.gate_journal.specs.Refusal.{IsCaused};
     ghost use Rattle.gate_journal.specs.Runs.{OnlyReads};
-    ghost use Rattle.world.specs.OnDisk.{KeepsVolume, PlaysOnDisk, StaysOnDisk, ends_commit, on_disk};
+    ghost use Rattle.world.specs.OnDisk.{FaultsAreCaused, KeepsVolume, PlaysOnDisk, StaysOnDisk, ends_commit, on_disk};
     ghost use Rattle.world.specs.OneVolume.{OneVolume, StandsFor};
     ghost use Rattle.world.specs.Played.{Becomes, Came, IsOrdered, IsOwnStep, IsRefusedBytes, Stepped, handed_to, put_of, waiting_for};
     ghost use Rattle.world.specs.Recovery.{IsOfRecovering};
@@ -114,6 +119,7 @@ impl<D: Disk + Drop> World<D> {
             demands: VecDeque::new(alloc),
             looked: None,
             muster: None,
+            fault: None,
         })
     }
 
@@ -162,6 +168,7 @@ impl<D: Disk + Drop> World<D> {
             demands: VecDeque::new(alloc),
             looked: None,
             muster: None,
+            fault: None,
         })
     }
 
@@ -171,6 +178,7 @@ impl<D: Disk + Drop> World<D> {
         ensures one_volume { IfOk result (λ answers. OneVolume (4096 * self.old.geometry.blocks)
             (seen self.old) steps.now answers (seen self.new)) }
         ensures durable { D.keeps_model → KeepsVolume self.old → PlaysOnDisk self.old self.new steps.now }
+        ensures faults { FaultsAreCaused self.old self.new }
         ensures err { OnErr result (seen self.new ≡ seen self.old) }
     {
         let mut answers = Vec::with_capacity(self.alloc, steps.len())?;
@@ -192,7 +200,9 @@ impl<D: Disk + Drop> World<D> {
           durable = (seen self.now).member.fronts.durable;
           awaits_floor = list_any awaits_floor (seen self.now).member.waiting;
           stopped = (seen self.now).member.stopped;
+          fault = self.now.fault;
         }) }
+        ensures fault { IfSome result (λ m. m.stopped ≡ false → m.fault ≡ None) }
     {
         if slot != self.member.slot {
             return None;
@@ -203,7 +213,17 @@ impl<D: Disk + Drop> World<D> {
             durable: self.member.durable,
             awaits_floor: self.member.awaits_floor(),
             stopped: self.member.stopped,
+            fault: self.fault,
         })
+    }
+
+    /// The committed front, as the board has it.
+    pub fn front(&mut self) -> u64
+        ensures front { result ≡ (seen self.old).board.front }
+        ensures seen { seen self.new ≡ seen self.old }
+        ensures disk { on_disk self.new ≡ on_disk self.old }
+    {
+        self.board.look().number()
     }
 
     /// The disk of the member at the slot, if there is one.
@@ -233,6 +253,7 @@ impl<D: Disk + Drop> World<D> {
             mut demands,
             looked: _,
             muster: _,
+            fault: _,
         } = self;
         while let Some(demand) = demands.pop_front() {
             match demand {
@@ -263,6 +284,7 @@ impl<D: Disk + Drop> World<D> {
         ensures ordered { IsOrdered (seen self.new) }
         ensures stepped { (events : List ClientEvent) × Stepped (seen self.old) step.now result (seen self.new) events }
         ensures durable { D.keeps_model → KeepsVolume self.old → StaysOnDisk self.old self.new }
+        ensures faults { FaultsAreCaused self.old self.new }
     {
         let Ok(mut outputs) = Vec::with_capacity(self.alloc, self.clients.len() + 1) else {
             return Answer::Refused(MEMORY);
@@ -283,6 +305,7 @@ impl<D: Disk + Drop> World<D> {
         ensures came { Came (seen self.old) step.now result (seen self.new) }
         ensures disk { ends_commit step.now ≡ false → on_disk self.new ≡ on_disk self.old }
         ensures commits { ends_commit step.now ≡ true → D.keeps_model → KeepsVolume self.old → StaysOnDisk self.old self.new }
+        ensures faults { FaultsAreCaused self.old self.new }
     {
         match step {
             Step::Connect { session, slot } => self.connect(*session, *slot),
@@ -314,6 +337,7 @@ impl<D: Disk + Drop> World<D> {
         ensures came { Came (seen self.old) step.now result (seen self.new) }
         ensures disk { ends_commit step.now ≡ false → on_disk self.new ≡ on_disk self.old }
         ensures commits { ends_commit step.now ≡ true → D.keeps_model → KeepsVolume self.old → StaysOnDisk self.old self.new }
+        ensures faults { FaultsAreCaused self.old self.new }
     {
         match step {
             Step::Number { .. } => self.number(),
@@ -626,12 +650,14 @@ impl<D: Disk + Drop> World<D> {
         ensures clients { vec_len self.new.clients ≡ vec_len self.old.clients }
         ensures came { Came (seen self.old) (Step.EndCommit (fronts_of self.old.member).slot) result (seen self.new) }
         ensures durable { D.keeps_model → KeepsVolume self.old → StaysOnDisk self.old self.new }
+        ensures faults { FaultsAreCaused self.old self.new }
     {
         if !self.member.is_committing() {
             return Outcome::Skipped;
         }
-        if self.member.end_commit(&mut self.disk).is_err() {
+        if let Err(refusal) = self.member.end_commit(&mut self.disk) {
             self.stop();
+            self.fault = fault_of(refusal);
         }
         Outcome::Taken
     }
@@ -751,7 +777,7 @@ impl World<MemDisk> {
     ghost use Rattle.disk_model.specs.Content.{left_by};
     ghost use Rattle.disk_model.specs.Disk.{NothingNew};
     ghost use Rattle.disk_model.specs.Memory.{IsAsBefore, bytes_of, calls_of, given_of, has_stopped, may_be_left, script_of, unsynced_of};
-    ghost use Rattle.std.specs.Prelude.{◌++◌, ◌∷◌, [], OnOk, OnErr, false};
+    ghost use Rattle.std.specs.Prelude.{◌++◌, ◌∷◌, [], OnOk, OnErr};
     ghost use Rattle.world.specs.OnDisk.{KeepsVolume};
     ghost use Rattle.world.specs.OneVolume.{StandsFor};
     ghost use Rattle.world.specs.Restart.{IsDurableFor};

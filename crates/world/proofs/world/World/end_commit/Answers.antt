@@ -9,8 +9,8 @@ use Rattle.world.specs.OnDisk.{IsOnDisk, MeansCommitted, OnDisk}
 use Rattle.world.specs.Seen.{Seen, seen, seen_member}
 use Rattle.world.proofs.world.World.end_commit.Goals as goal
 
-pub returns-else-is_err-clause-durable : goal.returns-else-is_err-clause-durable
-returns-else-is_err-clause-durable g c keeps on =
+pub returns-in_default-clause-durable : goal.returns-in_default-clause-durable
+returns-in_default-clause-durable g c keeps on =
     let old = c.args.self.now in
     let m = old.member in
     let blocks = old.geometry.blocks in
@@ -30,8 +30,8 @@ returns-else-is_err-clause-durable g c keeps on =
           (old_or_new_committed m (seen old) blocks area on.start on.len on.count room) (c.end_commit.ensures.any_moment keeps durable);
     }
 
-pub returns-then-is_err-clause-durable : goal.returns-then-is_err-clause-durable
-returns-then-is_err-clause-durable g c keeps on =
+pub returns-in-Err-clause-durable : goal.returns-in-Err-clause-durable
+returns-in-Err-clause-durable g c keeps on =
     let old = c.args.self.now in
     let m = old.member in
     let blocks = old.geometry.blocks in

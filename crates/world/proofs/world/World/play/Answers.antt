@@ -1,7 +1,7 @@
 use Rattle.std.proofs.Common.{arith, ◌*◌, ◌++◌, ◌∷◌, take, sym, subst, List, []}
 use Rattle.std.proofs.lemmas.List.{take_all}
 use Rattle.world.proofs.Outgoing.{take-next}
-use Rattle.world.proofs.Durable.{plays_first, plays_more}
+use Rattle.world.proofs.Durable.{faults_here, faults_then, plays_first, plays_more}
 use Rattle.world.proofs.Playing.{GoesOn, goes_on-first, goes_on-step, played_all}
 use Rattle.world.specs.OnDisk.{PlaysOnDisk}
 use Rattle.world.specs.OneVolume.{OneVolume}
@@ -18,6 +18,7 @@ loop-step-init g c =
       room = omega (arith, c.in_ok-answers.ensures.capacity);
       played = subst (λ (answers : List Answer). GoesOn first [] answers first) (sym c.in_ok-answers.ensures.items) (goes_on-first first);
       durable = λ keeps on. plays_first c.args.self.now (g.met.D.Disk.only_now keeps c.args.self.now.disk) on;
+      faults = faults_here c.args.self.now;
     }
 
 pub loop-step-preserved : goal.loop-step-preserved
@@ -37,6 +38,7 @@ loop-step-preserved g c =
           let so_far = played_all first (seen c.loop-step.self) (take at steps) had c.loop-step.invariant.played in
           subst (λ (played : List Step). PlaysOnDisk c.args.self.now c.answer-answer.new.self played) (sym (take-next steps at step c.loop-step-test.true (sym c.step-item.is)))
           (plays_more c.args.self.now c.loop-step.self c.answer-answer.new.self (take at steps) step had so_far.0 so_far.1 (c.loop-step.invariant.durable keeps on) (c.answer-answer.ensures.durable keeps (c.loop-step.invariant.durable keeps on).now));
+      faults = faults_then c.args.self.now c.loop-step.self c.answer-answer.new.self c.loop-step.invariant.faults c.answer-answer.ensures.faults;
       played = subst (λ (played : List Step). GoesOn first played c.push_reserved.new.self.items next) (sym (take-next steps at step c.loop-step-test.true (sym c.step-item.is))) lengthened;
     }
 

@@ -1,6 +1,6 @@
 use Rattle.std.proofs.Common.{◌≡◌, ◌≤◌, length, take, vec_len, vec_capacity}
 use Rattle.world.proofs.Playing.{GoesOn}
-use Rattle.world.specs.OnDisk.{KeepsVolume, PlaysOnDisk}
+use Rattle.world.specs.OnDisk.{FaultsAreCaused, KeepsVolume, PlaysOnDisk}
 use Rattle.world.specs.Seen.{seen}
 use Rattle.world.proofs.world.World.play.Given as goal
 
@@ -12,4 +12,5 @@ invariant-loop-step g l = record {
   room : length l.steps ≤ vec_capacity l.answers;
   played : GoesOn (seen l.fn.self) (take l.step-index l.steps) l.answers.items (seen l.self);
   durable : g.D.Disk.keeps_model → KeepsVolume l.fn.self → PlaysOnDisk l.fn.self l.self (take l.step-index l.steps);
+  faults : FaultsAreCaused l.fn.self l.self;
 }
