@@ -134,27 +134,7 @@ pub fn parse(alloc: Global, line: &[u8]) -> Result<Option<ScriptCommand>, LineEr
             session: SessionId(number(session)?),
             member: number(member)?,
         },
-        ["write", session, cookie, offset, payload] => {
-            let payload = bytes(alloc, payload)?;
-            request(session, RequestKind::Write, cookie, offset, payload)?
-        }
-        ["fua", session, cookie, offset, payload] => {
-            let payload = bytes(alloc, payload)?;
-            request(session, RequestKind::Fua, cookie, offset, payload)?
-        }
-        ["read", session, cookie, offset, len] => ScriptCommand::Request {
-            session: SessionId(number(session)?),
-            request: ClientRequest {
-                kind: RequestKind::Read,
-                cookie: number(cookie)?,
-                offset: number(offset)?,
-                length: length(len)?,
-                payload: Vec::new(alloc),
-            },
-        },
-        ["flush", session, cookie] => {
-            request(session, RequestKind::Flush, cookie, "0", Vec::new(alloc))?
-        }
+        ["write" | "fua" | "read" | "flush", ..] => request_command(alloc, &words)?,
         ["bytes", session, first, others @ ..] => ScriptCommand::Bytes {
             session: SessionId(number(session)?),
             piece: joined(alloc, first, others)?,
@@ -169,6 +149,34 @@ pub fn parse(alloc: Global, line: &[u8]) -> Result<Option<ScriptCommand>, LineEr
         _ => return Err(LineError::Malformed),
     };
     Ok(Some(command))
+}
+
+/// A request from a session's client.
+fn request_command(alloc: Global, words: &[&str]) -> Result<ScriptCommand, LineError> {
+    match words {
+        ["write", session, cookie, offset, payload] => {
+            let payload = bytes(alloc, payload)?;
+            request(session, RequestKind::Write, cookie, offset, payload)
+        }
+        ["fua", session, cookie, offset, payload] => {
+            let payload = bytes(alloc, payload)?;
+            request(session, RequestKind::Fua, cookie, offset, payload)
+        }
+        ["read", session, cookie, offset, len] => Ok(ScriptCommand::Request {
+            session: SessionId(number(session)?),
+            request: ClientRequest {
+                kind: RequestKind::Read,
+                cookie: number(cookie)?,
+                offset: number(offset)?,
+                length: length(len)?,
+                payload: Vec::new(alloc),
+            },
+        }),
+        ["flush", session, cookie] => {
+            request(session, RequestKind::Flush, cookie, "0", Vec::new(alloc))
+        }
+        _ => Err(LineError::Malformed),
+    }
 }
 
 /// A command of faults, crashes and recovery.

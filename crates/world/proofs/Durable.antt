@@ -17,11 +17,11 @@ use Rattle.volume.specs.declared.geometry.Geometry.{Geometry}
 use Rattle.world.proofs.DurableLemmas.{means_durable}
 use Rattle.world.proofs.Replaying.{inside_area}
 use Rattle.world.specs.DiskMeaning.{IsDurable, Means, MeansAt, MeansOldOrNew, Stored, stored_of}
-use Rattle.world.specs.Member.{IsCommitting}
+use Rattle.world.specs.Member.{IsCommitting, fronts_of}
 use Rattle.world.specs.OnDisk.{FaultsAreCaused, IsOnDisk, KeepsVolume, LeftPlaying, MeansCommitted, OnDisk, PlaysOnDisk, StaysOnDisk, WhatIsLeftIsDurable, WhatIsLeftPlayingIsDurable, ends_commit, on_disk}
 use Rattle.world.specs.OneVolume.{PlaysAreOfOneVolume, view_of}
 use Rattle.world.specs.Played.{Came, Does, IsOrdered, Played, handed_to}
-use Rattle.world.specs.Recovery.{area_of}
+use Rattle.world.specs.Recovery.{IsJournalOf, area_of}
 use Rattle.world.specs.Seen.{Seen, seen, seen_member}
 use Rattle.world.specs.Steps.{GoesOnAt, Stops, TakesDemand, TakesWrite, Tells, demand_told, unsubmitted, volume_seen}
 use Rattle.world.specs.Told.{Told}
@@ -191,6 +191,11 @@ running_on_disk m w blocks area {gives} {may_leave} start len count committed du
       };
   held = λ runs. durable;
 }
+
+-- the disk of a member whose journal was just made or opened
+pub opened_on_disk : (m : Member) (w : Seen) (slot blocks area : ℕ) {gives : List ℕ} {may_leave : List ℕ → Type 0} → IsJournalOf slot blocks area m.journal → (fronts_of m).size ≡ 4096 * blocks
+    → m.durable ≤ w.board.front → IsDurable (stored_of m) gives may_leave → IsOnDisk blocks area (record w { member = seen_member m }) (stored_of m) gives may_leave
+opened_on_disk m w slot blocks area journal size committed durable = running_on_disk m w blocks area journal.start journal.len (omega (arith, size)) committed durable
 
 -- what a commit leaves at any moment
 pub old_or_new_committed : (m : Member) (w : Seen) (blocks area : ℕ) → m.journal.part.start ≡ 0 → m.journal.part.len ≡ area → vec_len m.blocks ≡ blocks → m.durable + 1 ≤ w.board.front

@@ -13,6 +13,7 @@ mod commit;
 mod fault;
 mod laws;
 mod member;
+mod member_state;
 mod muster;
 mod refusal;
 mod step;
@@ -24,6 +25,7 @@ pub use laws::{
     plays_are_of_one_volume, refusals_have_a_cause, restarts_stand, sessions_are_lawful,
     what_is_left_is_durable,
 };
+pub use member_state::MemberState;
 pub use refusal::Refusal;
 pub use step::Step;
-pub use world::{MemberState, World};
+pub use world::World;

@@ -9,6 +9,7 @@ use crate::client::Client;
 use crate::fault::fault_of;
 use crate::laws::{plays_are_of_one_volume, restarts_stand};
 use crate::member::{Found, Kept, Member, Unsubmitted};
+use crate::member_state::MemberState;
 use crate::muster::Muster;
 use crate::refusal::Refusal;
 use crate::step::Step;
@@ -36,23 +37,6 @@ enum Outcome {
     Refused(u16),
     /// It can't be taken now, and changed nothing.
     Skipped,
-}
-
-/// How far a member has come.
-#[derive(Clone, Copy, Debug, PartialEq, Eq)]
-pub struct MemberState {
-    /// The number of its last applied write.
-    pub applied: u64,
-    /// Its known commit.
-    pub known: u64,
-    /// Its durable front.
-    pub durable: u64,
-    /// Whether a token of a FUA write waits for a floor.
-    pub awaits_floor: bool,
-    /// Whether it has stopped.
-    pub stopped: bool,
-    /// The fault of its device, where that stopped it.
-    pub fault: Option<DiskError>,
 }
 
 /// The world of one member at slot 0: its disk, the board and its clients. It has no `Drop`, since it holds tokens:

@@ -1,6 +1,7 @@
 // One run through all the steps, worked out by hand, and steps that may not be taken.
 use super::*;
 use flush_barrier::SessionId;
+use std::alloc::Global;
 use std::process::Abort;
 use std::test::Fail;
 use volume::Write;
@@ -52,66 +53,61 @@ fn answer_read(
     Ok(machine.answer_read(SIZE, name, front)?)
 }
 
-// Three bytes at 2, over them two at 4 with FUA, and one at 0 that a restart loses.
-#[test]
-fn all_steps(rt: HostRuntime) -> Result<(), Fail> {
-    let alloc = rt.alloc();
-    let mut machine = Machine::new(alloc);
-
+// Three bytes at 2.
+fn a_plain_write(rt: &impl Abort, alloc: Global, machine: &mut Machine) -> Result<(), Fail> {
     let first = Write::new(2, vec![in alloc; 1, 2, 3]?);
-    let first = send(&rt, &mut machine, ONE, 70, Request::write(first))?;
+    let first = send(rt, machine, ONE, 70, Request::write(first))?;
     assert_eq!(rt; first, 0);
-    assert!(rt;
-        !answer_write(&rt, &mut machine, first, 1),
-        "before it is taken"
-    );
+    assert!(rt; !answer_write(rt, machine, first, 1), "before it is taken");
     assert!(rt; machine.take(first)?);
     assert!(rt; !machine.take(first)?, "twice");
-    assert!(rt; !answer_fua(&rt, &mut machine, first, 1), "as FUA");
-    assert!(rt;
-        !answer_write(&rt, &mut machine, first, 2),
-        "at another place"
-    );
-    assert!(rt; answer_write(&rt, &mut machine, first, 1));
-    assert!(rt; !answer_write(&rt, &mut machine, first, 1), "twice");
+    assert!(rt; !answer_fua(rt, machine, first, 1), "as FUA");
+    assert!(rt; !answer_write(rt, machine, first, 2), "at another place");
+    assert!(rt; answer_write(rt, machine, first, 1));
+    assert!(rt; !answer_write(rt, machine, first, 1), "twice");
+    Ok(())
+}
 
-    let read = send(&rt, &mut machine, TWO, 70, Request::read(1, 6))?;
+// Over them two at 4, with FUA.
+fn a_write_with_fua(rt: &impl Abort, alloc: Global, machine: &mut Machine) -> Result<(), Fail> {
+    let read = send(rt, machine, TWO, 70, Request::read(1, 6))?;
     let second = Write::new(4, vec![in alloc; 4, 5]?);
-    let second = send(&rt, &mut machine, ONE, 71, Request::fua(second))?;
+    let second = send(rt, machine, ONE, 71, Request::fua(second))?;
     assert!(rt; machine.take(second)?);
-    assert_eq!(rt;
-        answer_read(&rt, &mut machine, read, 0)?,
-        None,
-        "below its mark"
-    );
-    assert_eq!(rt;
-        answer_read(&rt, &mut machine, read, 3)?,
-        None,
-        "past the writes"
-    );
-    let Some(bytes) = answer_read(&rt, &mut machine, read, 2)? else {
+    assert_eq!(rt; answer_read(rt, machine, read, 0)?, None, "below its mark");
+    assert_eq!(rt; answer_read(rt, machine, read, 3)?, None, "past the writes");
+    let Some(bytes) = answer_read(rt, machine, read, 2)? else {
         return Err(Fail::from("no bytes"));
     };
     assert_eq!(rt; bytes.as_slice(), [0, 1, 2, 4, 5, 0].as_slice());
-    assert!(rt; answer_fua(&rt, &mut machine, second, 2));
+    assert!(rt; answer_fua(rt, machine, second, 2));
+    Ok(())
+}
 
+// One at 0, which a restart loses.
+fn a_restart(rt: &impl Abort, alloc: Global, machine: &mut Machine) -> Result<(), Fail> {
     let third = Write::new(0, vec![in alloc; 9]?);
-    let third = send(&rt, &mut machine, TWO, 71, Request::write(third))?;
+    let third = send(rt, machine, TWO, 71, Request::write(third))?;
     assert!(rt; machine.take(third)?);
     assert!(rt; !machine.restart(1), "below what is owed");
     assert!(rt; !machine.restart(4), "past the writes");
     assert!(rt; machine.restart(2));
-    assert!(rt;
-        !answer_write(&rt, &mut machine, third, 3),
-        "over a restart"
-    );
-
-    let read = send(&rt, &mut machine, TWO, 72, Request::read(0, 9))?;
-    let Some(bytes) = answer_read(&rt, &mut machine, read, 2)? else {
+    assert!(rt; !answer_write(rt, machine, third, 3), "over a restart");
+    let read = send(rt, machine, TWO, 72, Request::read(0, 9))?;
+    let Some(bytes) = answer_read(rt, machine, read, 2)? else {
         return Err(Fail::from("no bytes"));
     };
     assert_eq!(rt; bytes.as_slice(), [0, 0, 1, 2, 4, 5, 0, 0].as_slice());
     Ok(())
+}
+
+#[test]
+fn all_steps(rt: HostRuntime) -> Result<(), Fail> {
+    let alloc = rt.alloc();
+    let mut machine = Machine::new(alloc);
+    a_plain_write(&rt, alloc, &mut machine)?;
+    a_write_with_fua(&rt, alloc, &mut machine)?;
+    a_restart(&rt, alloc, &mut machine)
 }
 
 // A FLUSH owes the write that was answered when it was sent, and not the one that came later.

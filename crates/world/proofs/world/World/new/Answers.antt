@@ -1,6 +1,6 @@
 use Rattle.std.proofs.Common.{◌≡◌, ◌≤◌, None, vec_len, ap, arith, rules}
 use Rattle.world.proofs.OneVolume.{same_stands}
-use Rattle.world.proofs.Durable.{running_on_disk}
+use Rattle.world.proofs.Durable.{opened_on_disk}
 use Rattle.world.specs.Member.{Fronts}
 use Rattle.world.specs.Seen.{Seen, seen_member}
 use Rattle.world.proofs.world.World.new.Goals as goal
@@ -14,8 +14,6 @@ pub returns-clause-durable : goal.returns-clause-durable
 returns-clause-durable g c keeps =
     let m = c.in_ok-member.member in
     let ensures = c.in_ok-member.ensures in
-    let geometry = c.args.geometry in
-    let world : Seen = record { board = c.new-3.result; member = seen_member m; looked = None; muster = None; demands = c.new-5.result.items; clients = c.new-4.result.items; max_payload = geometry.max_payload } in
-    let count : vec_len m.blocks ≡ geometry.blocks = omega (arith, ap (λ (f : Fronts). f.size) ensures.fronts) in
+    let world : Seen = record { board = c.new-3.result; member = seen_member m; looked = None; muster = None; demands = c.new-5.result.items; clients = c.new-4.result.items; max_payload = c.args.geometry.max_payload } in
     let committed : m.durable ≤ c.new-3.result.front = omega (arith, ap (λ (f : Fronts). f.durable) ensures.fronts, c.new-3.ensures.front) in
-    running_on_disk m world geometry.blocks geometry.area ensures.journal.start ensures.journal.len count committed (ensures.durable keeps)
+    opened_on_disk m world _ c.args.geometry.blocks c.args.geometry.area ensures.journal (ap (λ (f : Fronts). f.size) ensures.fronts) committed (ensures.durable keeps)
