@@ -115,6 +115,11 @@ impl ScriptedClient {
         Ok(())
     }
 
+    /// Its last request was not sent.
+    pub(crate) fn takes_back(&mut self) {
+        let _request = self.awaited.pop();
+    }
+
     /// The client is sent bytes: a line for each reply that is whole.
     pub(crate) fn is_sent(&mut self, bytes: &[u8], lines: &mut Vec<u8>) -> Result<(), Refusal> {
         self.text.extend_from_slice(bytes)?;

@@ -3,11 +3,15 @@ ghost use Rattle.std.specs.Prelude.{◌≤◌};
 
 use crate::refusal::Refusal;
 use crate::sim::sim_on;
+use clap::error::ErrorKind;
 use clap::{Arg, ArgAction, ArgMatches, Command, Error};
 use std::alloc::{AllocError, Global};
 use std::fs::File;
 use std::io::{BufRead, BufReader, Write};
 use std::rt::Files;
+
+/// The version of the program.
+const VERSION: &str = "0.1.0";
 
 /// The status after success.
 const SUCCESS: u8 = 0;
@@ -34,11 +38,10 @@ pub fn command<R: Files + AllocGlobal, I: BufRead, O: Write, E: Write>(
         return refused(Refusal::Memory, errors);
     };
     let played = match program.try_get_matches_from(words) {
-        Ok(matches) => match matches.subcommand() {
-            Some((_, sim)) => play_file(rt, sim, output),
-            None => sim_on(alloc, input, output),
-        },
-        Err(fault) => return word_fault(&fault, output, errors),
+        Ok(matches) => play_words(rt, &matches, input, output),
+        Err(fault) if fault.kind() == ErrorKind::OutOfMemory => Err(Refusal::Memory),
+        Err(fault) if fault.use_stderr() => return word_fault(&fault, errors),
+        Err(help) => print(&help, output),
     };
     let flushed = output.flush();
     match played {
@@ -57,9 +60,31 @@ fn program<'a>(alloc: Global) -> Result<Command<'a>, AllocError> {
     let sim = Command::new(alloc, "sim")
         .about("Plays a script over disks in memory")
         .arg(file)?;
+    let version = Arg::new(alloc, "version")
+        .short('V')
+        .long("version")
+        .action(ArgAction::SetTrue)
+        .help("Print version");
     Command::new(alloc, "nbdchain")
         .about("A replicated virtual disk. Without words, plays the script on the input.")
+        .arg(version)?
         .subcommand(sim)
+}
+
+/// Does what the words ask for.
+fn play_words<R: Files + AllocGlobal, I: BufRead, O: Write>(
+    rt: &R,
+    matches: &ArgMatches,
+    input: &mut I,
+    output: &mut O,
+) -> Result<(), Refusal> {
+    if matches.get_flag("version") {
+        return Ok(writeln!(output, "nbdchain {VERSION}")?);
+    }
+    match matches.subcommand() {
+        Some((_, sim)) => play_file(rt, sim, output),
+        None => sim_on(rt.alloc(), input, output),
+    }
 }
 
 /// Plays the script in a file.
@@ -75,7 +100,7 @@ fn play_file<R: Files + AllocGlobal, O: Write>(
 }
 
 /// Prints a refusal; the status.
-fn refused<E: Write>(refusal: Refusal, errors: &mut E) -> u8
+pub(crate) fn refused<E: Write>(refusal: Refusal, errors: &mut E) -> u8
     ensures { result ≤ 2 }
 {
     // There is nowhere left to tell that it can't be told.
@@ -83,17 +108,16 @@ fn refused<E: Write>(refusal: Refusal, errors: &mut E) -> u8
     REFUSED
 }
 
-/// Prints a fault of the words, or the help that they ask for; the status.
-fn word_fault<O: Write, E: Write>(fault: &Error, output: &mut O, errors: &mut E) -> u8
+/// Prints the help that the words ask for.
+fn print<O: Write>(help: &Error, output: &mut O) -> Result<(), Refusal> {
+    Ok(write!(output, "{help}")?)
+}
+
+/// Prints a fault of the words; the status.
+fn word_fault<E: Write>(fault: &Error, errors: &mut E) -> u8
     ensures { result ≤ 2 }
 {
-    if fault.use_stderr() {
-        // There is nowhere left to tell that it can't be told.
-        let _ = write!(errors, "{fault}");
-        return WORD_FAULT;
-    }
-    match write!(output, "{fault}") {
-        Ok(()) => SUCCESS,
-        Err(_) => REFUSED,
-    }
+    // There is nowhere left to tell that it can't be told.
+    let _ = write!(errors, "{fault}");
+    WORD_FAULT
 }

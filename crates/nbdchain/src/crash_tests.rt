@@ -76,12 +76,13 @@ const RETURNS: &str = "return 0\nsession 3 0\nread 3 1 0 2\nrun\nread 3 2 4096 1
 fn stops_in_each_call(rt: HostRuntime) -> Result<(), Fail> {
     let alloc = rt.alloc();
     for call in 1..=24_usize {
-        let bytes = [0, 1, 2_057, 4_114][call / 4 % 4];
-        let armed = format!(in alloc; "stopat 0 {call} {bytes}")?;
-        for cut in ["all", "none"] {
-            let printed = played(alloc, &armed, cut)?;
-            let ends = is_lawful(alloc, &printed, (call - 1) / 4, "stopped\n")?;
-            assert!(rt; ends, "{armed}, {cut}");
+        for bytes in [0, 1, 2_057, 4_114] {
+            let armed = format!(in alloc; "stopat 0 {call} {bytes}")?;
+            for cut in ["all", "none"] {
+                let printed = played(alloc, &armed, cut)?;
+                let ends = is_lawful(alloc, &printed, (call - 1) / 4, "stopped\n")?;
+                assert!(rt; ends, "{armed}, {cut}");
+            }
         }
     }
     Ok(())

@@ -2,7 +2,7 @@
 #![tactic(auto)]
 
 use std::env;
-use std::io::{self, BufReader, BufWriter};
+use std::io::{self, BufReader, BufWriter, Write};
 use std::process::ExitCode;
 
 mod client;
@@ -13,6 +13,7 @@ mod script;
 mod sim;
 
 pub use command::command;
+use command::refused;
 pub use refusal::Refusal;
 pub use sim::sim_on;
 
@@ -27,13 +28,21 @@ mod stray_tests;
 #[cfg(test)]
 mod tests;
 
-fn main(rt: HostRuntime) -> io::Result<ExitCode> {
-    let alloc = rt.alloc();
-    let words: Vec<String> = env::args(&rt)?.collect(alloc)?;
-    let mut input = BufReader::new(alloc, rt.reader())?;
-    let mut output = BufWriter::new(alloc, io::writer(&rt))?;
+fn main(rt: HostRuntime) -> ExitCode {
     let mut errors = rt.stderr();
+    let status = match command_on(&rt, &mut errors) {
+        Ok(status) => status,
+        Err(refusal) => refused(refusal, &mut errors),
+    };
+    ExitCode::from(status)
+}
+
+/// The program on its own words and streams: its status.
+fn command_on<E: Write>(rt: &HostRuntime, errors: &mut E) -> Result<u8, Refusal> {
+    let alloc = rt.alloc();
+    let words: Vec<String> = env::args(rt)?.collect(alloc)?;
+    let mut input = BufReader::new(alloc, rt.reader())?;
+    let mut output = BufWriter::new(alloc, io::writer(rt))?;
     let words: Vec<&str> = words.iter().map(|word| word.as_str()).collect(alloc)?;
-    let status = command(&rt, &words, &mut input, &mut output, &mut errors);
-    Ok(ExitCode::from(status))
+    Ok(command(rt, &words, &mut input, &mut output, errors))
 }

@@ -41,7 +41,10 @@ impl<T: Drop> From<AllocFailed<T>> for Refusal {
 }
 
 impl From<io::Error> for Refusal {
-    fn from(_: io::Error) -> Refusal {
-        Refusal::FileFault
+    fn from(error: io::Error) -> Refusal {
+        match error.kind() {
+            io::ErrorKind::OutOfMemory => Refusal::Memory,
+            _ => Refusal::FileFault,
+        }
     }
 }

@@ -333,7 +333,11 @@ impl Sim {
             client.asks(request)?;
         }
         let piece = request.spelled(self.alloc)?;
-        self.show(&[Step::Bytes { session, piece }], writer)
+        let is_sent = self.shown(&[Step::Bytes { session, piece }], writer)?.taken;
+        if !is_sent && let Some(client) = self.clients.get_mut(&session) {
+            client.takes_back();
+        }
+        Ok(())
     }
 
     /// The member does what it is told. A slot that is none does nothing.

@@ -650,18 +650,27 @@ fn journal_of_the_first_write(rt: HostRuntime) -> Result<(), Fail> {
 /// Words, and what the program prints and answers with an empty input.
 struct WordsRow {
     words: &'static [&'static str],
+    output: &'static str,
     errors: &'static str,
     status: u8,
 }
 
-const WORDS_ROWS: [WordsRow; 2] = [
+const WORDS_ROWS: [WordsRow; 3] = [
+    WordsRow {
+        words: &["nbdchain", "--version"],
+        output: "nbdchain 0.1.0\n",
+        errors: "",
+        status: 0,
+    },
     WordsRow {
         words: &["nbdchain"],
+        output: "",
         errors: "",
         status: 0,
     },
     WordsRow {
         words: &["nbdchain", "sim", "no such script"],
+        output: "",
         errors: "nbdchain: 104 FileFault\n",
         status: 1,
     },
@@ -689,7 +698,7 @@ fn words(rt: HostRuntime) -> Result<(), Fail> {
         );
         assert_eq!(rt; status, row.status, "{:?}", row.words);
         assert_eq!(rt; errors.as_slice(), row.errors.as_bytes(), "{:?}", row.words);
-        assert!(rt; output.is_empty(), "{:?}", row.words);
+        assert_eq!(rt; output.as_slice(), row.output.as_bytes(), "{:?}", row.words);
     }
     for words in BAD_WORDS {
         let (mut output, mut errors) = (Vec::new(alloc), Vec::new(alloc));

@@ -34,8 +34,8 @@ use Rattle.world.specs.declared.step.Step.{Step}
 use Rattle.world.specs.declared.step.Step.TheVariants as steps
 use Rattle.world.specs.declared.waiting.Token.{Token}
 use Rattle.world.specs.declared.waiting.Token.TheVariants as tokens
-use Rattle.world.specs.declared.world.Outcome as outcomes
-use Rattle.world.specs.declared.world.Outcome.TheVariants as results
+use Rattle.world.specs.declared.outcome.Outcome as outcomes
+use Rattle.world.specs.declared.outcome.Outcome.TheVariants as results
 use Rattle.world.specs.declared.world.World.{World}
 use Rattle.world_model.specs.Event.{ClientEvent, Failed}
 use Rattle.world_model.specs.Machine.{volume_at}

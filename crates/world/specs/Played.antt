@@ -14,8 +14,8 @@ use Rattle.world.specs.declared.answer.Output.{Output}
 use Rattle.world.specs.declared.client.Client.{Client}
 use Rattle.world.specs.declared.step.Step.{Step}
 use Rattle.world.specs.declared.step.Step.TheVariants as steps
-use Rattle.world.specs.declared.world.Outcome.{Outcome}
-use Rattle.world.specs.declared.world.Outcome.TheVariants as outcomes
+use Rattle.world.specs.declared.outcome.Outcome.{Outcome}
+use Rattle.world.specs.declared.outcome.Outcome.TheVariants as outcomes
 use Rattle.world_model.specs.Event.{ClientEvent}
 
 -- the member at the slot runs

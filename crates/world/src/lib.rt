@@ -15,6 +15,7 @@ mod laws;
 mod member;
 mod member_state;
 mod muster;
+mod outcome;
 mod refusal;
 mod step;
 mod waiting;

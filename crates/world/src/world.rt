@@ -11,6 +11,7 @@ use crate::laws::{plays_are_of_one_volume, restarts_stand};
 use crate::member::{Found, Kept, Member, Unsubmitted};
 use crate::member_state::MemberState;
 use crate::muster::Muster;
+use crate::outcome::Outcome;
 use crate::refusal::Refusal;
 use crate::step::Step;
 use crate::waiting::Token;
@@ -27,17 +28,6 @@ const MEMORY: u16 = 100;
 
 /// The number of the refusal of a write to be numbered where no number is left.
 const BUSY: u16 = 153;
-
-/// What became of a step.
-#[derive(Clone, Copy, Debug, PartialEq, Eq)]
-enum Outcome {
-    /// It was taken.
-    Taken,
-    /// It was refused with this number, and changed nothing.
-    Refused(u16),
-    /// It can't be taken now, and changed nothing.
-    Skipped,
-}
 
 /// The world of one member at slot 0: its disk, the board and its clients. It has no `Drop`, since it holds tokens:
 /// `abandon` ends it.

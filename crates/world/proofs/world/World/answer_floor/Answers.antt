@@ -8,7 +8,7 @@ use Rattle.world.specs.Steps.{AnswersEach}
 use Rattle.world.specs.Waiting.{is_paid}
 use Rattle.world.specs.declared.muster.Muster.{Muster}
 use Rattle.world.specs.declared.step.Step.TheVariants.{AnswerFloor}
-use Rattle.world.specs.declared.world.Outcome.TheVariants.{Taken}
+use Rattle.world.specs.declared.outcome.Outcome.TheVariants.{Taken}
 use Rattle.world_model.specs.Event.{ClientEvent, Done}
 use Rattle.world.proofs.Settling.{none_settles, reply_settles}
 use Rattle.world.proofs.world.World.answer_floor.Goals as goal

@@ -1,4 +1,4 @@
-use Rattle.std.proofs.Common.{◌≡◌, ◌≤◌, None, vec_len, ap, arith, rules}
+use Rattle.std.proofs.Common.{◌≤◌, None, ap, arith, rules}
 use Rattle.world.proofs.OneVolume.{same_stands}
 use Rattle.world.proofs.Durable.{opened_on_disk}
 use Rattle.world.specs.Member.{Fronts}

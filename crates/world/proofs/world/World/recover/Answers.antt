@@ -1,4 +1,4 @@
-use Rattle.std.proofs.Common.{◌≡◌, ◌≤◌, None, vec_len, ap, arith}
+use Rattle.std.proofs.Common.{◌≤◌, None, ap, arith}
 use Rattle.world.proofs.Durable.{opened_on_disk}
 use Rattle.world.specs.Member.{Fronts}
 use Rattle.world.specs.Seen.{Seen, seen_member}
