@@ -19,7 +19,7 @@ pub struct Part {
 impl Part {
     ghost use Rattle.disk_model.specs.Part.{inside, LeftInside, TouchesOnly};
 
-    /// The part of `len` bytes from `start` on.
+    /// The part of `len` bytes from `start` on. It ends below 2^64 bytes.
     pub fn new(start: u64, len: u64) -> Self
         requires { start + len < 2 ^ 64 }
         ensures start { result.start ≡ start }
@@ -49,7 +49,8 @@ impl Part {
         self.len == 0
     }
 
-    /// Reads as many of the part's bytes as there is room for, from `at` on, counted from its beginning.
+    /// Reads as many of the part's bytes as there is room for, from `at` on, counted from its beginning. The range lies
+    /// within the part, and the part within the disk.
     pub fn read<D: Disk>(self, disk: &mut D, at: u64, bytes: &mut [u8]) -> Result<(), DiskError>
         requires within { self.start + self.len ≤ D.size disk.old }
         requires range { at + length bytes.old ≤ self.len }
@@ -65,7 +66,8 @@ impl Part {
         disk.read(self.start + at, bytes)
     }
 
-    /// Writes over the part's bytes, from `at` on, counted from its beginning.
+    /// Writes over the part's bytes, from `at` on, counted from its beginning. The range lies within the part, and the part
+    /// within the disk.
     pub fn write_at<D: Disk>(self, disk: &mut D, at: u64, bytes: &[u8]) -> Result<(), DiskError>
         requires within { self.start + self.len ≤ D.size disk.old }
         requires range { at + length bytes.now ≤ self.len }

@@ -32,7 +32,7 @@ impl Board {
     /// How many slots have a gauge.
     pub const SLOTS: usize = Slot::COUNT as usize;
 
-    /// A board that opens with these numbers. Bit `s` of `mask` is set where slot `s` is counted,
+    /// A board that opens with these numbers, the front at most 2^63 - 1. Bit `s` of `mask` is set where slot `s` is counted,
     /// and `gauges` has the durable front of each slot. It takes no memory.
     pub fn new(front: u64, mask: u8, gauges: [u64; Board::SLOTS]) -> Board
         requires { front ≤ Front.GREATEST }
@@ -48,7 +48,7 @@ impl Board {
         }
     }
 
-    /// Raises the committed front to `n` if it is below, and answers the front that is there then.
+    /// Raises the committed front to `n`, at most 2^63 - 1, if it is below, and answers the front that is there then.
     pub fn raise(&mut self, n: u64) -> Front
         requires { n ≤ Front.GREATEST }
         ensures words { self.new ≡ raised self.old n }

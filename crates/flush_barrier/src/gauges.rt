@@ -33,7 +33,7 @@ impl Gauges {
         }
     }
 
-    /// Puts a gauge behind those that are there.
+    /// Puts a gauge behind those that are there, fewer than eight.
     pub fn push(&mut self, gauge: Gauge)
         requires { length self.old < Board.SLOTS }
         ensures { self.new ≡ self.old ++ gauge ∷ [] }

@@ -58,7 +58,8 @@ impl OwedFlush {
         self.cookie
     }
 
-    /// Binds the token to the first front that was looked up after its request was taken.
+    /// Binds the token to a front, once: the first that was looked up after its request was taken, which is the caller's to
+    /// know.
     pub fn bind(&mut self, front: &Front)
         requires { IsNone self.old.number }
         ensures { self.new ≡ record self.old { number = Some front.now } }

@@ -58,7 +58,7 @@ impl OwedFua {
         self.cookie
     }
 
-    /// Binds the token to the number of its write.
+    /// Binds the token to the number of its write, once.
     pub fn number(&mut self, n: u64)
         requires { IsNone self.old.number }
         ensures { self.new ≡ record self.old { number = Some n } }

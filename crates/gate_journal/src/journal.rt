@@ -46,7 +46,8 @@ impl Journal {
     ghost use Rattle.gate_journal.specs.Journal.{Fits, IsSettled, IsSpelled, IsTooMuch, appended};
 
     /// An empty journal in a part of a disk, of 1 byte to 2^32 - 1, for the blocks 0 to `blocks - 1` of the member at the
-    /// slot; the first batch will have a front above `front`. It writes a closed gate and syncs.
+    /// slot; the first batch will have a front above `front`. The part lies within the disk. It writes a closed gate and
+    /// syncs.
     ///
     /// It is refused by the device alone. Then, and until it is done, the part holds what it held but for its first byte.
     pub fn create<D: Disk>(
@@ -81,7 +82,8 @@ impl Journal {
     }
 
     /// The journal in a part of a disk, of at most 2^32 - 1 bytes, which may be any, for the blocks 0 to `blocks - 1` of
-    /// the member at the slot; `front` is the one before the first batch. It syncs, and then reads.
+    /// the member at the slot; `front` is the one before the first batch. The part lies within the disk. It syncs, and then
+    /// reads.
     ///
     /// 123 `Damaged` exactly where the part holds no batches: an open gate isn't followed by a batch of the volume, of a
     /// front above the last one's, with a byte behind it. 100 `Memory`, and what the device refuses. All leave the part
@@ -163,7 +165,8 @@ impl Journal {
 
     /// Appends a batch by four device calls: the batch behind its closed gate, with the closed gate of the next one;
     /// a sync; the opened gate; a sync. The receipt is of the batch's front, which is above the last one and at most
-    /// 2^63 - 1; its images are at least one, each of a block of the volume, no block twice.
+    /// 2^63 - 1; its images are at least one, each of a block of the volume, no block twice. The journal's part lies within
+    /// the disk.
     ///
     /// 122 `Broken` exactly where a device call failed before; else 121 `Full` exactly where the batch doesn't fit; else
     /// 100 `Memory`: these change nothing. After a refusal of the device the journal is broken, and the part holds the
@@ -218,7 +221,7 @@ impl Journal {
         Ok(Synced::new(self.slot, front))
     }
 
-    /// All batches that the part holds, in their order.
+    /// All batches that the part holds, in their order. The part lies within the disk.
     ///
     /// 122 `Broken` exactly where a device call failed before: nothing is read. 123 `Damaged` exactly where the part holds
     /// no batches. 100 `Memory`, and what the device refuses: after that the journal is broken. All leave the part as it

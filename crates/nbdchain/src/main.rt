@@ -1,4 +1,7 @@
 //! `nbdchain`: a replicated virtual disk for clients of the Network Block Device protocol.
+//!
+//! It plays a script: each line is steps of a `World` over a disk in memory, or makes, stops, cuts and recovers one; what
+//! they put out is printed. What the steps do, and what holds of them, is `world`'s.
 #![tactic(auto)]
 
 use std::env;

@@ -22,7 +22,7 @@ const BATCH_OVERHEAD: u32 = 14;
 const IMAGE_SIZE: u32 = 4_100;
 
 /// The least journal area, in bytes, for requests of up to `max_payload` bytes: a batch of each block that such a
-/// write can touch, and a closed gate.
+/// write can touch, and a closed gate. `max_payload` is at most 1,048,576.
 pub fn least_area(max_payload: u32) -> u32
     requires { max_payload ≤ MAX_MAX_PAYLOAD }
     ensures { result ≡ least_area_of max_payload }

@@ -45,7 +45,7 @@ impl Write {
 ghost use Rattle.volume.specs.Writes.{patched, block_of, IsTouched};
 
 /// Patches a block of a volume by a write: afterwards it is that block of the patched volume.
-/// A block that the write doesn't touch stays as it was.
+/// A block that the write doesn't touch stays as it was. The write ends below 2^64 bytes.
 pub fn patch(bytes: &mut [u8; 4_096], write: &Write, block: u32)
     requires { write.now.offset + length write.now.bytes < 2 ^ 64 }
     ensures patched { (volume : List ℕ) → write.now.offset + length write.now.bytes ≤ length volume

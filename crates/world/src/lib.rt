@@ -1,9 +1,10 @@
 //! A chain of members and their clients, played step by step.
 //!
 //! Its contract for the layer above: each step is answered with what it put out, with a refusal's number, or as one
-//! that can't be taken now; and what the clients see of any steps is what the one volume of `world_model` shows. A
-//! world is also recovered from its member's disk. There is one member for now, at slot 0. When the steps come, and
-//! where the bytes go, is left to whoever plays them.
+//! that can't be taken now; what the clients see of any steps is what the one volume of `world_model` shows; and at
+//! whatever moment everything stops, the member's disk holds the volume after a front of the committed writes, with all
+//! that is owed, from which a world is recovered. There is one member for now, at slot 0. When the steps come, and where
+//! the bytes go, is left to whoever plays them.
 #![tactic(auto)]
 
 mod answer;

@@ -57,7 +57,7 @@ impl Machine {
         self.events == u64::MAX
     }
 
-    /// A request is sent: its name.
+    /// A request is sent: its name. It isn't full.
     pub fn send(
         &mut self,
         session: SessionId,
@@ -102,7 +102,7 @@ impl Machine {
         Ok(true)
     }
 
-    /// A write without FUA, taken at this place, is answered: whether it may be.
+    /// A write without FUA, taken at this place, is answered: whether it may be. It isn't full.
     pub fn answer_write(&mut self, name: u64, place: usize) -> bool
         requires { self.old.events < 2 ^ 64 - 1 }
         ensures { TriedOn self.old name (λ asked. AnswerWrite asked place) result self.new }
@@ -122,7 +122,7 @@ impl Machine {
         true
     }
 
-    /// A write with FUA, taken at this place, is answered, and all up to it is owed: whether it may be.
+    /// A write with FUA, taken at this place, is answered, and all up to it is owed: whether it may be. It isn't full.
     pub fn answer_fua(&mut self, name: u64, place: usize) -> bool
         requires { self.old.events < 2 ^ 64 - 1 }
         ensures { TriedOn self.old name (λ asked. AnswerFua asked place) result self.new }
@@ -143,7 +143,7 @@ impl Machine {
         true
     }
 
-    /// A FLUSH is answered, and all is owed that was answered when it was sent: whether it may be.
+    /// A FLUSH is answered, and all is owed that was answered when it was sent: whether it may be. It isn't full.
     pub fn answer_flush(&mut self, name: u64) -> bool
         requires { self.old.events < 2 ^ 64 - 1 }
         ensures { TriedOn self.old name (λ asked. AnswerFlush asked) result self.new }
@@ -160,7 +160,7 @@ impl Machine {
         true
     }
 
-    /// A READ is answered from the volume of `size` bytes after the first `front` writes: its bytes, if it may be.
+    /// A READ is answered from the volume of `size` bytes after the first `front` writes: its bytes, if it may be. It isn't full.
     pub fn answer_read(
         &mut self,
         size: usize,
@@ -190,7 +190,7 @@ impl Machine {
         Ok(Some(bytes))
     }
 
-    /// The request of this name is refused, with whatever error: whether it may be.
+    /// The request of this name is refused, with whatever error: whether it may be. It isn't full.
     pub fn refuse(&mut self, name: u64) -> bool
         requires { self.old.events < 2 ^ 64 - 1 }
         ensures { (error : ErrorCode) →
