@@ -4,6 +4,7 @@ pub mod Fields
 pub mod Findings
 pub mod Handshake
 pub mod Laws
+pub mod Numbers
 pub mod OptionReply
 pub mod Reply
 pub mod Request

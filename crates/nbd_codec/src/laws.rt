@@ -7,6 +7,7 @@ ghost use Rattle.nbd_codec.specs.OptionReply.{export_spelling};
 ghost use Rattle.nbd_codec.specs.Request.{spelling as request_spelling, IsRequest, request_in};
 ghost use Rattle.nbd_codec.specs.Reply.{spelling as reply_spelling};
 ghost use Rattle.nbd_codec.specs.Laws.{AreApart, IsAtLeast, IsAtMost, IsKept, IsReplyOf, IsSpelled, NeedsSome, NumberedFits, numbered_spelling};
+ghost use Rattle.nbd_codec.specs.Numbers.{AreErrors, AreFlags as AreFlagBits, AreMagics, AreOptionReplies, AreOptions, AreRequests};
 
 use crate::constants::*;
 
@@ -63,4 +64,14 @@ pub fn requests_are_apart()
 /// No spelling of a reply begins another that answers a request for as many bytes.
 pub fn replies_are_apart()
     ensures { (len : ℕ) → AreApart reply_spelling (IsReplyOf len) }
+{}
+
+/// The numbers on the wire are those of the standard.
+pub fn numbers_are_the_standards()
+    ensures magics { AreMagics }
+    ensures flags { AreFlagBits }
+    ensures options { AreOptions }
+    ensures option_replies { AreOptionReplies }
+    ensures requests { AreRequests }
+    ensures errors { AreErrors }
 {}

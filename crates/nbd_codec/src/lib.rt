@@ -26,8 +26,8 @@ pub use checks::{Checked, check};
 pub use findings::{Fault, Reading};
 pub use handshake::{ClientFlags, greeting, read_client_flags};
 pub use laws::{
-    client_flags_are_apart, exports_are_apart, option_replies_are_apart, options_are_apart,
-    replies_are_apart, requests_are_apart,
+    client_flags_are_apart, exports_are_apart, numbers_are_the_standards, option_replies_are_apart,
+    options_are_apart, replies_are_apart, requests_are_apart,
 };
 pub use option_replies::{OptionReply, write_export, write_option_reply};
 pub use options::{ClientOption, InfoData, read_option};
