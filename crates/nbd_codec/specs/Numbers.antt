@@ -12,7 +12,7 @@ pub record AreMagics : Type 0 where
   pub simple_reply : SIMPLE_REPLY_MAGIC ≡ 1732535960
 
 -- flags by their bits
-pub record AreFlags : Type 0 where
+pub record AreFlagBits : Type 0 where
   pub handshake : HANDSHAKE_FLAGS ≡ 2 ^ 0 + 2 ^ 1
   pub newstyle : FIXED_NEWSTYLE ≡ 2 ^ 0
   pub no_zeroes : FIXED_NEWSTYLE_NO_ZEROES ≡ 2 ^ 0 + 2 ^ 1

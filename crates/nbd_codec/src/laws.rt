@@ -7,7 +7,7 @@ ghost use Rattle.nbd_codec.specs.OptionReply.{export_spelling};
 ghost use Rattle.nbd_codec.specs.Request.{spelling as request_spelling, IsRequest, request_in};
 ghost use Rattle.nbd_codec.specs.Reply.{spelling as reply_spelling};
 ghost use Rattle.nbd_codec.specs.Laws.{AreApart, IsAtLeast, IsAtMost, IsKept, IsReplyOf, IsSpelled, NeedsSome, NumberedFits, numbered_spelling};
-ghost use Rattle.nbd_codec.specs.Numbers.{AreErrors, AreFlags as AreFlagBits, AreMagics, AreOptionReplies, AreOptions, AreRequests};
+ghost use Rattle.nbd_codec.specs.Numbers.{AreErrors, AreFlagBits, AreMagics, AreOptionReplies, AreOptions, AreRequests};
 
 use crate::constants::*;
 

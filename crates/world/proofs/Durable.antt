@@ -347,4 +347,4 @@ what_is_left_is_durable blocks area w s disk means (kept, stands) =
 pub what_is_left_playing_is_durable : PlaysAreOfOneVolume → WhatIsLeftPlayingIsDurable
 what_is_left_playing_is_durable plays blocks area old s steps disk left stands =
     let run = plays (4096 * blocks) old left.world left.played left.answers left.events left.leads s stands in
-    (run.0, run.1, run.2, what_is_left_is_durable blocks area left.world run.1 disk left.means run.4)
+    (run.0, run.1, run.2, run.3, run.4, what_is_left_is_durable blocks area left.world run.1 disk left.means run.4)

@@ -16,7 +16,7 @@ use Rattle.world.specs.declared.step.Step.{Step}
 use Rattle.world.specs.declared.step.Step.TheVariants as steps
 use Rattle.world.specs.declared.world.World.{World}
 use Rattle.world_model.specs.Event.{ClientEvent}
-use Rattle.world_model.specs.Machine.{Move, Run, State}
+use Rattle.world_model.specs.Machine.{Move, Run, State, shown}
 
 -- a world's geometry, what its member knows of its disk, the disk, and its fault that stopped the member
 pub record OnDisk (D : Type 0) : Type 0 where
@@ -98,9 +98,10 @@ abbrev pub WhatIsLeftIsDurable : Type 0
 WhatIsLeftIsDurable = (blocks area : ℕ) (w : Seen) (s : State) (disk : List ℕ)
     → MeansCommitted blocks area w disk → StandsFor (4096 * blocks) w s → IsDurableFor blocks area s disk
 
--- and a disk that a stop left while steps were played is so for a state that some run leads to, from each state that the
--- world before them stood for
+-- and a disk that a stop left while steps were played is so for a state that the world in between stands for: from each
+-- state that the world before them stood for, some run leads there that shows what the clients saw of the steps up to it
 abbrev pub WhatIsLeftPlayingIsDurable : Type 0
 WhatIsLeftPlayingIsDurable = (blocks area : ℕ) (old : Seen) (s : State) (steps : List Step) (disk : List ℕ)
-    → LeftPlaying blocks area old steps disk → StandsFor (4096 * blocks) old s
-    → (moves : List Move) × (t : State) × Run s moves t × IsDurableFor blocks area t disk
+    → (left : LeftPlaying blocks area old steps disk) → StandsFor (4096 * blocks) old s
+    → (moves : List Move) × (t : State) × Run s moves t × (shown (4096 * blocks) s moves ≡ left.events)
+    × StandsFor (4096 * blocks) left.world t × IsDurableFor blocks area t disk

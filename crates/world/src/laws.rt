@@ -47,7 +47,7 @@ pub fn restarts_stand()
 
 /// A disk that means the volume of a world, at a front from the durable one to the committed one, is one that recovery
 /// goes on from, for each state of the machine that the world stands for. What a stop leaves while steps are played is
-/// so for a state that some run of the machine leads to.
+/// so for a state that a run of the machine leads to which shows what the clients saw up to then.
 pub fn what_is_left_is_durable()
     ensures now { WhatIsLeftIsDurable }
     ensures playing { WhatIsLeftPlayingIsDurable }
