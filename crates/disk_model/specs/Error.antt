@@ -1,5 +1,5 @@
 -- The numbers of refusals, and where an error comes from.
-use Rattle.std.specs.Prelude.{◌≡◌, ◌≢◌, ◌⊎◌, ℕ, ◌<◌, ◌≤◌, Option, Some, None, Result, IfErr}
+use Rattle.std.specs.Prelude.{◌≡◌, ◌≢◌, ◌⊎◌, ℕ, ◌<◌, ◌≤◌, Option, Some, None, Result, IfErr, OnOk}
 use Rattle.disk_model.specs.declared.error.DiskError.{DiskError}
 use Rattle.disk_model.specs.declared.error.DiskError.TheVariants.{Memory, ReadFault, WriteFault, SyncFault, Stopped}
 
@@ -15,8 +15,10 @@ number_of Stopped = None
 abbrev pub MayTell : DiskError → DiskError → Type 0
 MayTell fault e = (e ≡ Memory) ⊎ (e ≡ Stopped) ⊎ (e ≡ fault)
 
--- a call with this fault tells no other, and any error but `Memory` only where the disk has failed since
+-- A call with this fault tells no other, and any error but `Memory` only where the disk has failed since. One that is
+-- done leaves the count of failures as it was.
 pub record HasCause {T : Type 0} (fault : DiskError) (before now : ℕ) (result : Result T DiskError) : Type 0 where
   pub later : before ≤ now
+  pub done : OnOk result (now ≡ before)
   pub told : IfErr result (MayTell fault)
   pub failed : IfErr result (λ e. e ≢ Memory → before < now)

@@ -48,14 +48,15 @@ pub trait Disk {
         ensures cause { HasCause DiskError.ReadFault (failures self.old) (failures self.new) result };
 
     /// Writes over what is there. Until a sync, a stop may leave any bytes in the range.
-    /// 102 `WriteFault`: a read gives what it gave, and a stop may leave any bytes in the range all the same.
+    /// 102 `WriteFault`: some of it may be written, so a read may give any bytes in the range, and a stop may leave any.
     /// 100 `Memory`: nothing changed.
     fn write_at(&mut self, at: u64, bytes: &[u8]) -> Result<(), DiskError>
         requires { at + length bytes.now ≤ size self.old }
         ensures size { size self.new ≡ size self.old }
         ensures gives { keeps_model → OnOk result (Holds (gives self.old) at bytes.now (gives self.new)) }
-        ensures failed { keeps_model → OnErr result (gives self.new ≡ gives self.old) }
+        ensures failed { keeps_model → OnErr result (Torn at (length bytes.now) (gives self.old) (gives self.new)) }
         ensures leaves { keeps_model → Follows (Torn at (length bytes.now)) (may_leave_now self.old) (may_leave_now self.new) }
+        ensures unwritten { keeps_model → IsErrOf result DiskError.Memory → gives self.new ≡ gives self.old }
         ensures memory { keeps_model → IsErrOf result DiskError.Memory → NothingNew (may_leave_now self.old) (may_leave_now self.new) }
         ensures time { keeps_model → Elapses (moment self.old) (moment self.new)
             (may_have_left_since self.old) (may_have_left_since self.new) (may_leave_now self.new) }

@@ -1,72 +1,163 @@
 // A file of fixed length. No contract can say what a file holds, so its premise is one that nobody proves.
-ghost use Rattle.std.specs.Prelude.{◌≡◌, ◌+◌, ◌-◌, ◌<◌, ◌≤◌, ◌^◌, length, IfOk, if◌then◌else◌, is_ok};
+ghost use Rattle.std.specs.Prelude.{◌≡◌, ◌+◌, ◌-◌, ◌<◌, ◌≤◌, ◌^◌, false, None, length, IfOk, OnOk, OnErr, if◌then◌else◌, is_ok};
 
 use crate::{Disk, DiskError};
 use std::fs::{File, Files, OpenOptions};
-use std::io;
+use std::io::{self, ErrorKind};
+use std::os::fd::AsRawFd;
 use std::os::unix::fs::FileExt;
+use std::path::Path;
 
-/// A file of fixed length, as a disk. A call allocates nothing. 100 `Memory` comes only where 2^64 - 1 failures have
-/// been counted, and nothing is done then.
+/// The bytes that `create` writes at once.
+const CHUNK: usize = 4_096;
+
+/// A regular file of fixed length, as a disk. A call allocates nothing. 100 `Memory` comes only where 2^64 - 1
+/// failures have been counted, and nothing is done then.
+///
+/// After a write or a sync that failed, each later write and sync fails too, with its own fault, and isn't made: a
+/// sync of the system that failed once is told as done the next time, though its bytes are lost. A read goes on
+/// working. Only opening the file again ends this.
+///
+/// A value holds the file's exclusive lock for as long as it lives. The lock is advisory: it keeps out who asks for
+/// it, as `open` and `create` do, in this process or another.
 #[derive(Drop)]
 pub struct FileDisk {
     file: File,
     len: u64,
     failures: u64,
+    broken: bool,
+    last_error: Option<i32>,
 }
 
 impl FileDisk {
-    ghost use Rattle.disk_model.specs.File.{file_len, file_failures};
+    ghost use Rattle.std.specs.Prelude.{IfErr, not};
+    ghost use Rattle.std.specs.IoError.{raw_os_error};
+    ghost use Rattle.disk_model.specs.File.{file_len, file_failures, file_is_broken, file_last_error, IsNewlyOpened};
 
-    /// Opens a file that is there, as long as it is now. Each error is the system's.
+    /// Opens a regular file that is there, as long as it is now. Each error is the system's, but for `InvalidInput`
+    /// at what is no regular file; `WouldBlock` comes where another value holds its lock.
+    ///
+    /// What an earlier process left in the system's cache is made durable before the first read, and dropped from
+    /// there where the system does so: after a sync that failed, the cache may hold bytes that the disk hasn't.
     pub fn open<R: Files<File = File>>(rt: &R, path: &str) -> io::Result<Self>
-        ensures failures { IfOk result (λ disk. file_failures disk ≡ 0) }
+        ensures { IfOk result IsNewlyOpened }
     {
         let file = OpenOptions::new().read(true).write(true).open(rt, path)?;
+        if !file.metadata()?.is_file() {
+            return Err(io::Error::new(ErrorKind::InvalidInput, "not a regular file"));
+        }
+        file.try_lock()?;
+        file.sync_all()?;
+        // Advice: where the system doesn't follow it, the file is read as it is cached.
+        let _ = libc::posix_fadvise(file.as_raw_fd(), 0, 0, libc::POSIX_FADV_DONTNEED);
         let len = file.metadata()?.len();
-        Ok(FileDisk {
-            file,
-            len,
-            failures: 0,
-        })
+        Ok(FileDisk::new(file, len))
     }
 
-    /// Makes a new file of `len` zeros, which is durable. A file that is there already is an error; each is the system's.
+    /// Makes a new file of `len` zeros, which is durable, and so is its name in its folder. Its bytes are written, so
+    /// that no later write finds the device full. A file that is there already is an error; each is the system's.
+    /// After an error the file may be there, shorter.
     pub fn create<R: Files<File = File>>(rt: &R, path: &str, len: u64) -> io::Result<Self>
         ensures len { IfOk result (λ disk. file_len disk ≡ len) }
-        ensures failures { IfOk result (λ disk. file_failures disk ≡ 0) }
+        ensures new { IfOk result IsNewlyOpened }
     {
         let file = File::create_new(rt, path)?;
-        file.set_len(len)?;
+        file.try_lock()?;
+        write_zeros(&file, len)?;
         file.sync_all()?;
-        Ok(FileDisk {
+        File::open(rt, folder_of(path))?.sync_all()?;
+        Ok(FileDisk::new(file, len))
+    }
+
+    /// The system's number of the error of the last call that failed, for a log. None before the first failure, and
+    /// where the system named none, as at the end of a file that was cut. A call that isn't made since an earlier one
+    /// failed leaves it.
+    pub fn last_error(&self) -> Option<i32>
+        ensures { result ≡ file_last_error self.now }
+    {
+        self.last_error
+    }
+
+    // The disk that a file is, which the caller has locked.
+    pub(crate) fn new(file: File, len: u64) -> Self
+        ensures len { file_len result ≡ len }
+        ensures new { IsNewlyOpened result }
+    {
+        FileDisk {
             file,
             len,
             failures: 0,
-        })
+            broken: false,
+            last_error: None,
+        }
     }
 
-    // What a call of the system comes to: an error is counted, and told as this fault.
+    // What a call of the system comes to: an error is noted and counted, and told as this fault.
     fn settle(&mut self, done: io::Result<()>, fault: DiskError) -> Result<(), DiskError>
         requires { self.old.failures < 2 ^ 64 - 1 }
         ensures told { result ≡ (if is_ok done then Ok tt else Err fault) }
         ensures len { file_len self.new ≡ file_len self.old }
         ensures failures { file_failures self.new ≡ (if is_ok done then file_failures self.old else file_failures self.old + 1) }
+        ensures broken { file_is_broken self.new ≡ file_is_broken self.old }
+        ensures kept { OnOk done (file_last_error self.new ≡ file_last_error self.old) }
+        ensures noted { IfErr done (λ e. file_last_error self.new ≡ raw_os_error e) }
     {
         match done {
             Ok(()) => Ok(()),
-            Err(_) => {
-                self.failures += 1;
-                Err(fault)
+            Err(error) => {
+                self.last_error = error.raw_os_error();
+                self.fail(fault)
             }
         }
+    }
+
+    // What a write or a sync of the system comes to: after an error no other is made.
+    fn latch(&mut self, done: io::Result<()>, fault: DiskError) -> Result<(), DiskError>
+        requires { self.old.failures < 2 ^ 64 - 1 }
+        ensures told { result ≡ (if is_ok done then Ok tt else Err fault) }
+        ensures len { file_len self.new ≡ file_len self.old }
+        ensures failures { file_failures self.new ≡ (if is_ok done then file_failures self.old else file_failures self.old + 1) }
+        ensures broken { file_is_broken self.new ≡ not (is_ok done) }
+    {
+        self.broken = done.is_err();
+        self.settle(done, fault)
+    }
+
+    // A failure, told as this fault.
+    fn fail(&mut self, fault: DiskError) -> Result<(), DiskError>
+        requires { self.old.failures < 2 ^ 64 - 1 }
+        ensures told { result ≡ Err fault }
+        ensures counted { self.new ≡ record self.old { failures = self.old.failures + 1 } }
+    {
+        self.failures += 1;
+        Err(fault)
+    }
+}
+
+// Writes this many zeros from the file's beginning on.
+fn write_zeros(file: &File, len: u64) -> io::Result<()> {
+    let zeros = [0; CHUNK];
+    let mut at = 0;
+    while at < len {
+        let n = (len - at).min(CHUNK as u64);
+        file.write_all_at(&zeros[..n as usize], at)?;
+        at += n;
+    }
+    Ok(())
+}
+
+// The folder that a file of this path lies in.
+fn folder_of(path: &str) -> &str {
+    match Path::new(path).parent() {
+        Some(folder) if !folder.as_str().is_empty() => folder.as_str(),
+        _ => ".",
     }
 }
 
 impl Disk for FileDisk {
-    ghost use Rattle.std.specs.Prelude.{◌≡◌, ◌+◌, ◌-◌, ◌^◌, ◌≤◌, [], length, OnOk, IsErrOf};
+    ghost use Rattle.std.specs.Prelude.{◌≡◌, ◌⊎◌, ◌↔◌, ◌+◌, ◌-◌, ◌^◌, ◌≤◌, [], length, IsTrue, IsErr, OnOk, IsErrOf};
     ghost use Rattle.disk_model.specs.Error.{HasCause};
-    ghost use Rattle.disk_model.specs.File.{file_len, file_failures};
+    ghost use Rattle.disk_model.specs.File.{file_len, file_failures, file_is_broken};
 
     ghost keeps_model = { ⊥ };
 
@@ -100,8 +191,9 @@ impl Disk for FileDisk {
         requires { at + length bytes.old ≤ file_len self.old }
         ensures size { file_len self.new ≡ file_len self.old }
         ensures counted { OnOk result (file_failures self.new ≡ file_failures self.old) }
-        ensures memory { IsErrOf result DiskError.Memory → file_failures self.new ≡ 2 ^ 64 - 1 }
+        ensures memory { IsErrOf result DiskError.Memory ↔ (file_failures self.old ≡ 2 ^ 64 - 1) }
         ensures cause { HasCause DiskError.ReadFault (file_failures self.old) (file_failures self.new) result }
+        ensures latch { file_is_broken self.new ≡ file_is_broken self.old }
     {
         if self.failures == u64::MAX {
             return Err(DiskError::Memory);
@@ -114,26 +206,36 @@ impl Disk for FileDisk {
         requires { at + length bytes.now ≤ file_len self.old }
         ensures size { file_len self.new ≡ file_len self.old }
         ensures counted { OnOk result (file_failures self.new ≡ file_failures self.old) }
-        ensures memory { IsErrOf result DiskError.Memory → file_failures self.new ≡ 2 ^ 64 - 1 }
+        ensures memory { IsErrOf result DiskError.Memory ↔ (file_failures self.old ≡ 2 ^ 64 - 1) }
         ensures cause { HasCause DiskError.WriteFault (file_failures self.old) (file_failures self.new) result }
+        ensures latched { IsTrue (file_is_broken self.old) → IsErr result }
+        ensures latch { IsTrue (file_is_broken self.new) ↔ (IsTrue (file_is_broken self.old) ⊎ IsErrOf result DiskError.WriteFault) }
     {
         if self.failures == u64::MAX {
             return Err(DiskError::Memory);
         }
+        if self.broken {
+            return self.fail(DiskError::WriteFault);
+        }
         let done = self.file.write_all_at(bytes, at);
-        self.settle(done, DiskError::WriteFault)
+        self.latch(done, DiskError::WriteFault)
     }
 
     fn sync(&mut self) -> Result<(), DiskError>
         ensures size { file_len self.new ≡ file_len self.old }
         ensures counted { OnOk result (file_failures self.new ≡ file_failures self.old) }
-        ensures memory { IsErrOf result DiskError.Memory → file_failures self.new ≡ 2 ^ 64 - 1 }
+        ensures memory { IsErrOf result DiskError.Memory ↔ (file_failures self.old ≡ 2 ^ 64 - 1) }
         ensures cause { HasCause DiskError.SyncFault (file_failures self.old) (file_failures self.new) result }
+        ensures latched { IsTrue (file_is_broken self.old) → IsErr result }
+        ensures latch { IsTrue (file_is_broken self.new) ↔ (IsTrue (file_is_broken self.old) ⊎ IsErrOf result DiskError.SyncFault) }
     {
         if self.failures == u64::MAX {
             return Err(DiskError::Memory);
         }
+        if self.broken {
+            return self.fail(DiskError::SyncFault);
+        }
         let done = self.file.sync_data();
-        self.settle(done, DiskError::SyncFault)
+        self.latch(done, DiskError::SyncFault)
     }
 }

@@ -20,4 +20,6 @@ pub use part::Part;
 pub use script::{Event, Script};
 
 #[cfg(test)]
+mod file_tests;
+#[cfg(test)]
 mod tests;

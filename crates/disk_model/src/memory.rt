@@ -237,7 +237,10 @@ impl Disk for MemDisk {
         requires { at + length bytes.now ≤ size_of self.old }
         ensures size { size_of self.new ≡ size_of self.old }
         ensures gives { OnOk result (Holds (given_of self.old) at bytes.now (given_of self.new)) }
-        ensures failed { OnErr result (given_of self.new ≡ given_of self.old) }
+        ensures failed { OnErr result (Torn at (length bytes.now) (given_of self.old) (given_of self.new)) }
+        // What a read gives is never torn here: a write that isn't done leaves it as it was.
+        ensures exact { OnErr result (given_of self.new ≡ given_of self.old) }
+        ensures unwritten { IsErrOf result DiskError.Memory → given_of self.new ≡ given_of self.old }
         ensures leaves { Follows (Torn at (length bytes.now)) (may_be_left self.old) (may_be_left self.new) }
         ensures time { Elapses (moment_of self.old) (moment_of self.new)
             (left_since self.old) (left_since self.new) (may_be_left self.new) }

@@ -73,9 +73,11 @@ impl Part {
         requires range { at + length bytes.now ≤ self.len }
         ensures size { D.size disk.new ≡ D.size disk.old }
         ensures gives { D.keeps_model → OnOk result (Holds (inside self (D.gives disk.old)) at bytes.now (inside self (D.gives disk.new))) }
-        ensures failed { D.keeps_model → OnErr result (D.gives disk.new ≡ D.gives disk.old) }
+        ensures failed { D.keeps_model → OnErr result (Torn at (length bytes.now)
+            (inside self (D.gives disk.old)) (inside self (D.gives disk.new))) }
         ensures leaves { D.keeps_model → Follows (Torn at (length bytes.now))
             (LeftInside self (D.may_leave_now disk.old)) (LeftInside self (D.may_leave_now disk.new)) }
+        ensures unwritten { D.keeps_model → IsErrOf result DiskError.Memory → D.gives disk.new ≡ D.gives disk.old }
         ensures memory { D.keeps_model → IsErrOf result DiskError.Memory → NothingNew (D.may_leave_now disk.old) (D.may_leave_now disk.new) }
 
         ensures frame { D.keeps_model → TouchesOnly D.gives D.may_leave_now D.moment D.may_have_left_since self disk.old disk.new }

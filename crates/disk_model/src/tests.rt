@@ -3,9 +3,7 @@ ghost use Rattle.std.specs.Prelude.{◌≡◌, ◌+◌, ◌≤◌, length, OnOk}
 ghost use Rattle.disk_model.specs.Disk.{LeavesOnly, Only, Torn};
 
 use super::*;
-use std::fs::OpenOptions;
 use std::test::Fail;
-use std::{fs, process};
 
 // Writes, syncs and reads back. A stop at any moment of it leaves all but the range as it was.
 fn write_through<D: Disk>(
@@ -195,32 +193,6 @@ fn parts(rt: HostRuntime) -> Result<(), Fail> {
     assert_eq!(rt; part.read(&mut disk, 0, &mut back), DONE);
     assert_eq!(rt; back, [0, 8]);
     assert_eq!(rt; disk.bytes(), [1, 2, 0, 8, 9, 0].as_slice());
-    Ok(())
-}
-
-#[test]
-fn a_file(rt: HostRuntime) -> Result<(), Fail> {
-    let alloc = rt.alloc();
-    let path = format!(in alloc; "/tmp/disk_model.{}", process::id(rt.process()))?;
-    let mut disk = FileDisk::create(&rt, path.as_str(), 6)?;
-    let mut back = [9; 3];
-    if disk.len() >= 6 {
-        assert_eq!(rt; disk.read(2, &mut back), DONE);
-        assert_eq!(rt; back, [0; 3]);
-        assert_eq!(rt; disk.write_at(3, &[1, 2, 3]), DONE);
-        assert_eq!(rt; disk.sync(), DONE);
-    }
-    let mut again = FileDisk::open(&rt, path.as_str())?;
-    assert_eq!(rt; again.len(), 6);
-    if again.len() >= 6 {
-        assert_eq!(rt; again.read(3, &mut back), DONE);
-        assert_eq!(rt; back, [1, 2, 3]);
-        // The file is cut behind the disk's back: no short read is told as a whole one.
-        let file = OpenOptions::new().write(true).open(&rt, path.as_str())?;
-        file.set_len(4)?;
-        assert_eq!(rt; again.read(3, &mut back), Err(DiskError::ReadFault));
-    }
-    fs::remove_file(&rt, path.as_str())?;
     Ok(())
 }
 

@@ -1,10 +1,9 @@
 ghost use Rattle.std.specs.Prelude.{◌≡◌, ◌≢◌, ℕ, ◌<◌, ◌≤◌, length, max, IsTrue, false};
-ghost use Rattle.flush_barrier.specs.Board.{Words, raised, posted, counted_in, counted_out, gauge_in};
+ghost use Rattle.flush_barrier.specs.Board.{raised, posted, counted_in, counted_out, gauge_in};
 ghost use Rattle.flush_barrier.specs.Mask.{counts, with_slot, without_slot};
-ghost use Rattle.flush_barrier.specs.declared.evidence.TheConstants.Front.{GREATEST};
 
 use crate::evidence::{Crew, Front, Gauge};
-use gate_journal::{Slot, Synced};
+use gate_journal::{MAX_NUMBER, Slot, Synced};
 use std::marker::Model;
 
 /// The ten numbers that a chain shares: the committed front, the mask of counted slots, and the
@@ -17,6 +16,10 @@ pub struct Board {
 }
 
 impl Model for Board {
+    ghost use Rattle.std.specs.Prelude.{◌≤◌};
+    ghost use Rattle.flush_barrier.specs.Board.{Words};
+    ghost use Rattle.gate_journal.specs.declared.batch.TheConstants.{MAX_NUMBER};
+
     ghost Value = { Words };
 
     ghost view = { λ board. record {
@@ -25,7 +28,7 @@ impl Model for Board {
       gauges = board.gauges;
     } };
 
-    ghost invariant = { λ board. board.front ≤ GREATEST };
+    ghost invariant = { λ board. board.front ≤ MAX_NUMBER };
 }
 
 impl Board {
@@ -35,7 +38,7 @@ impl Board {
     /// A board that opens with these numbers, the front at most 2^63 - 1. Bit `s` of `mask` is set where slot `s` is counted,
     /// and `gauges` has the durable front of each slot. It takes no memory.
     pub fn new(front: u64, mask: u8, gauges: [u64; Board::SLOTS]) -> Board
-        requires { front ≤ Front.GREATEST }
+        requires { front ≤ MAX_NUMBER }
         ensures front { result.front ≡ front }
         ensures mask { result.mask ≡ mask }
         ensures gauges { result.gauges ≡ gauges }
@@ -50,7 +53,7 @@ impl Board {
 
     /// Raises the committed front to `n`, at most 2^63 - 1, if it is below, and answers the front that is there then.
     pub fn raise(&mut self, n: u64) -> Front
-        requires { n ≤ Front.GREATEST }
+        requires { n ≤ MAX_NUMBER }
         ensures words { self.new ≡ raised self.old n }
         ensures front { result ≡ max self.old.front n }
     {

@@ -1,10 +1,9 @@
 //! What the board's calls find. Nothing else makes these values.
 ghost use Rattle.std.specs.Prelude.{◌≡◌, ℕ, ◌≤◌};
 ghost use Rattle.flush_barrier.specs.Board.{FoundGauge, FoundMask};
-ghost use Rattle.flush_barrier.specs.declared.evidence.TheConstants.Front.{GREATEST};
 ghost use Rattle.flush_barrier.specs.Mask.{counts};
 
-use gate_journal::Slot;
+use gate_journal::{MAX_NUMBER, Slot};
 use std::marker::Model;
 
 /// A committed front that was found on a board: that many writes are committed, and stay so.
@@ -14,23 +13,23 @@ pub struct Front {
 }
 
 impl Model for Front {
+    ghost use Rattle.std.specs.Prelude.{ℕ, ◌≤◌};
+    ghost use Rattle.gate_journal.specs.declared.batch.TheConstants.{MAX_NUMBER};
+
     ghost Value = { ℕ };
 
     ghost view = { λ front. front.number };
 
-    ghost invariant = { λ front. front.number ≤ GREATEST };
+    ghost invariant = { λ front. front.number ≤ MAX_NUMBER };
 
     ghost inverse = { λ n. record { number = n } };
 }
 
 impl Front {
-    /// The greatest front, 2^63 - 1.
-    pub const GREATEST: u64 = u64::MAX >> 1;
-
-    /// The number of the last committed write, 0 before the first.
+    /// The number of the last committed write, 0 before the first, at most 2^63 - 1.
     pub fn number(self) -> u64
         ensures number { result ≡ self }
-        ensures within { result ≤ Front.GREATEST }
+        ensures within { result ≤ MAX_NUMBER }
     {
         self.number
     }

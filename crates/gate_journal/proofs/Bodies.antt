@@ -3,7 +3,7 @@ use Rattle.std.proofs.Common.{◌≡◌, ℕ, ◌+◌, ◌^◌, ◌<◌, ◌≤�
 use Rattle.std.specs.List.{flat_map}
 use Rattle.byteorder.specs.Endian.{big_bytes}
 use Rattle.gate_journal.specs.declared.batch.Image.{Image}
-use Rattle.gate_journal.specs.declared.batch.TheConstants.{MAX_FRONT}
+use Rattle.gate_journal.specs.declared.batch.TheConstants.{MAX_NUMBER}
 use Rattle.gate_journal.specs.Batch.{AreImages, Batch, IsBatch, IsDamaged, IsWhole, batch_size, batch_spelling, image_spelling, spellings}
 use Rattle.gate_journal.specs.Reading.{HasNoBatch, Stands}
 use Rattle.gate_journal.proofs.ImageLists.{length-le_blocks}
@@ -23,7 +23,7 @@ module _ (blocks before : ℕ) (area : List ℕ) (len at : ℕ) (is_len : length
     -- the header of a batch passes the tests
     pub record Passes : Type 0 where
       pub rises : before < f
-      pub limit : f ≤ MAX_FRONT
+      pub limit : f ≤ MAX_NUMBER
       pub some : 0 < n
       pub few : n ≤ blocks
       pub fits : at + batch_size n + 1 ≤ len

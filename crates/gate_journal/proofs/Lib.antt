@@ -1,8 +1,13 @@
 mod Appending
 mod Batches
 mod Bodies
+mod Clearing
+mod Entries
 mod ImageLists
 mod Lists
+mod Loading
+mod PairSteps
+mod Pairs
 mod Readings
 mod Runs
 mod Spellings

@@ -23,3 +23,9 @@ same_refusal (Ok v) e d and of = absurd and
 same_refusal {E = E} (Err y) e d and of =
     let told : y ≡ d = cc in
     ap (λ (z : E). Err z) (sym and ∙ told)
+
+-- an error is the same one, whatever its `Ok` would have held
+pub of_any_kind : {T U E : Type 0} (e d : E) → IsErrOf {T = T} (Err e) d → IsErrOf {T = U} (Err e) d
+of_any_kind {E = E} e d is =
+    let told : e ≡ d = cc in
+    ap (λ (z : E). Err z) told

@@ -7,7 +7,7 @@ use Rattle.disk_model.specs.declared.part.Part.{Part}
 use Rattle.gate_journal.specs.Runs.{WasTorn}
 
 -- what might have been left, torn
-abbrev Tears : Part → ℕ → ℕ → (List ℕ → Type 0) → List ℕ → Type 0
+abbrev pub Tears : Part → ℕ → ℕ → (List ℕ → Type 0) → List ℕ → Type 0
 Tears part at n left y = (x : List ℕ) × LeftInside part left x × Torn at n x y
 
 module _ {D : Type 0} {moment : D → ℕ} {left_since : D → ℕ → List ℕ → Type 0} (part : Part) (at n : ℕ) (left : List ℕ → Type 0) where

@@ -9,7 +9,7 @@ use Rattle.gate_journal.specs.Batch.{Batch, IsWhole, IsBatch, image_spelling, ba
 use Rattle.gate_journal.proofs.Lists.{same_halves}
 
 -- a number is what its bytes make
-numbers_apart : (n x y : ℕ) (r s : List ℕ) → x < 256 ^ n → y < 256 ^ n → big_bytes n x ++ r ≡ big_bytes n y ++ s → (x ≡ y) × (r ≡ s)
+pub numbers_apart : (n x y : ℕ) (r s : List ℕ) → x < 256 ^ n → y < 256 ^ n → big_bytes n x ++ r ≡ big_bytes n y ++ s → (x ≡ y) × (r ≡ s)
 numbers_apart n x y r s fits fits' e =
     let same = sym (big_number-reads_back n x r fits) ∙ ap (big_from 0 n) e ∙ big_number-reads_back n y s fits' in
     (same, (same_halves (big_bytes n x) r (big_bytes n y) s (length-bytes_high_first n x ∙ sym (length-bytes_high_first n y)) e).1)

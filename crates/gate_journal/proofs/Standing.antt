@@ -1,12 +1,14 @@
 -- Bytes that stand between two places of an area.
-use Rattle.std.proofs.Common.{◌≡◌, ℕ, ◌+◌, ◌-◌, ◌<◌, ◌≤◌, List, ◌++◌, length, get_or, take, drop, inl, inr, sym, ◌∙◌, ap, subst, arith, append_assoc, take-append-drop}
+use Rattle.std.proofs.Common.{◌≡◌, ℕ, ◌+◌, ◌-◌, ◌<◌, ◌≤◌, List, ◌++◌, length, get_or, take, drop, inl, inr, refl, sym, ◌∙◌, ap, subst, arith, append_assoc, take-append-drop}
 use Rattle.std.specs.List.{slice_range}
 use Rattle.std.proofs.lemmas.List.{drop-drop, length-take, length-take-le, get_or-take, get_or-drop, get_or_past, length-drop}
 use Rattle.std.proofs.lemmas.Bool.{cases_lt}
 use Rattle.std.proofs.lemmas.Nat.{be_bytes_4, be_bytes_8}
 use Rattle.byteorder.specs.Endian.{big_bytes, big_from}
 use Rattle.byteorder.specs.Numbers.{big_from-take}
+use Rattle.disk_model.specs.Disk.{Holds}
 use Rattle.disk_model.specs.Part.{inside}
+use Rattle.disk_model.specs.Writes.{drop-put, length-put, slice-put}
 use Rattle.disk_model.specs.declared.part.Part.{Part}
 use Rattle.gate_journal.specs.Reading.{Stands}
 
@@ -37,16 +39,39 @@ IsBytes-take n bytes fits i =
       | inr le ↦ subst (λ (x : ℕ). x < 256) (sym (get_or_past (take n bytes) i 0 (omega (arith, length-take n bytes)))) (omega arith)
     ]
 
+-- a number, and what is behind it
+pub number_is : (w : ℕ) → IsWidth w → (bytes : List ℕ) → w ≤ length bytes → ((i : ℕ) → get_or bytes i 0 < 256) → (x : ℕ) → x ≡ big_from 0 w bytes → bytes ≡ big_bytes w x ++ drop w bytes
+number_is w width bytes len fits x is =
+    let front : big_bytes w x ≡ take w bytes =
+    ap (big_bytes w) (is ∙ sym (big_from-take 0 w w bytes (omega arith))) ∙ width.back (take w bytes) (length-take-le w bytes len) (IsBytes-take w bytes fits) in
+    sym (ap (λ (l : List ℕ). l ++ drop w bytes) front ∙ take-append-drop w bytes)
+
 -- two numbers
 pub header_is : (w m : ℕ) → IsWidth w → IsWidth m → (bytes : List ℕ) → length bytes ≡ w + m → ((i : ℕ) → get_or bytes i 0 < 256) → (x y : ℕ) → x ≡ big_from 0 w bytes → y ≡ big_from 0 m (take m (drop w bytes))
     → bytes ≡ big_bytes w x ++ big_bytes m y
 header_is w m first second bytes len fits x y is is' =
-    let front : big_bytes w x ≡ take w bytes =
-    ap (big_bytes w) (is ∙ sym (big_from-take 0 w w bytes (omega arith))) ∙ first.back (take w bytes) (length-take-le w bytes (omega arith)) (IsBytes-take w bytes fits) in
     let back : big_bytes m y ≡ drop w bytes =
     ap (big_bytes m) (is' ∙ big_from-take 0 m m (drop w bytes) (omega arith))
     ∙ second.back (drop w bytes) (omega (arith, length-drop w bytes)) (λ i. subst (λ (z : ℕ). z < 256) (sym (get_or-drop w bytes i 0)) (fits (w + i))) in
-    sym (ap (λ (l : List ℕ). l ++ big_bytes m y) front ∙ ap (λ (l : List ℕ). take w bytes ++ l) back ∙ take-append-drop w bytes)
+    number_is w first bytes (omega arith) fits x is ∙ ap (λ (l : List ℕ). big_bytes w x ++ l) (sym back)
+
+-- what was put in its place stands there
+pub stands_put : (area : List ℕ) (at : ℕ) (bytes new : List ℕ) → at + length bytes ≤ length area → Holds area at bytes new → Stands new at (at + length bytes) bytes
+stands_put area at bytes new fits holds =
+    stands_slice new at (length bytes) (length bytes) bytes refl
+    (sym (ap (λ (l : List ℕ). slice_range l at (at + length bytes)) holds ∙ slice-put area at bytes fits))
+
+-- bytes, and what is put right before them
+pub stands_before : (area mid new : List ℕ) (at : ℕ) (front bytes : List ℕ) → at + length front + length bytes ≤ length area → Holds area (at + length front) bytes mid → Holds mid at front new
+    → Stands new at (at + length front + length bytes) (front ++ bytes)
+stands_before area mid new at front bytes fits behind before =
+    let long : length mid ≡ length area = ap (λ (l : List ℕ). length l) behind ∙ length-put area (at + length front) bytes fits in
+    let same : drop (at + length front) new ≡ drop (at + length front) mid = ap (λ (l : List ℕ). drop (at + length front) l) before ∙ drop-put mid at front (omega arith) in
+    let rest : (c : List ℕ) → drop (length bytes) (drop (at + length front) c) ≡ drop (at + length front + length bytes) c = λ c. drop-drop (length bytes) (at + length front) c in
+    let there : Stands new (at + length front) (at + length front + length bytes) bytes =
+    same ∙ stands_put area (at + length front) bytes mid fits behind
+    ∙ ap (λ (l : List ℕ). bytes ++ l) (sym (rest mid) ∙ ap (λ (l : List ℕ). drop (length bytes) l) (sym same) ∙ rest new) in
+    stands_then new at (at + length front) (at + length front + length bytes) front bytes (stands_put mid at front new (omega arith) before) there
 
 -- a part within a disk has its length
 pub length-inside : (part : Part) (c : List ℕ) (size : ℕ) → length c ≡ size → part.start + part.len ≤ size → length (inside part c) ≡ part.len

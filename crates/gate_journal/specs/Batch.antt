@@ -3,7 +3,7 @@ use Rattle.std.specs.Prelude.{◌≡◌, ◌≢◌, ◌⊎◌, ℕ, ◌+◌, ◌
 use Rattle.std.specs.List.{flat_map}
 use Rattle.byteorder.specs.Endian.{big_bytes}
 use Rattle.gate_journal.specs.declared.batch.Image.{Image}
-use Rattle.gate_journal.specs.declared.batch.TheConstants.{MAX_FRONT}
+use Rattle.gate_journal.specs.declared.batch.TheConstants.{MAX_NUMBER}
 
 -- the front after a batch, and its images
 pub record Batch : Type 0 where
@@ -44,7 +44,7 @@ pub record IsWhole (image : Image) : Type 0 where
 -- a batch of the volume that may stand behind a batch of the front before
 pub record IsBatch (blocks before : ℕ) (batch : Batch) : Type 0 where
   pub rises : before < batch.front
-  pub limit : batch.front ≤ MAX_FRONT
+  pub limit : batch.front ≤ MAX_NUMBER
   pub images : AreImages blocks batch.images
   pub count : length batch.images < 2 ^ 32
   pub whole : All IsWhole batch.images

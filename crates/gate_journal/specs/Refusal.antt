@@ -1,5 +1,5 @@
 -- The numbers of the refusals, and where they come from.
-use Rattle.std.specs.Prelude.{◌≢◌, ℕ, ◌<◌, ◌≤◌, Option, Some, Result, IfErr}
+use Rattle.std.specs.Prelude.{◌≡◌, ◌≢◌, ℕ, ◌<◌, ◌≤◌, Option, Some, Result, IfErr, OnOk}
 use Rattle.disk_model.specs.Error as disk
 use Rattle.disk_model.specs.declared.error.DiskError.TheVariants as faults
 use Rattle.gate_journal.specs.declared.refusal.Refusal.{Refusal}
@@ -29,6 +29,19 @@ IsOfAppending Damaged = ⊥
 IsOfAppending (Device error) = error ≢ faults.ReadFault
 IsOfAppending _ = Unit {0}
 
+-- what a store may be refused with
+abbrev pub IsOfStoring : Refusal → Type 0
+IsOfStoring Full = Unit {0}
+IsOfStoring Broken = Unit {0}
+IsOfStoring (Device error) = error ≢ faults.ReadFault
+IsOfStoring _ = ⊥
+
+-- what a load may be refused with
+abbrev pub IsOfLoading : Refusal → Type 0
+IsOfLoading Memory = Unit {0}
+IsOfLoading (Device error) = error ≢ faults.WriteFault
+IsOfLoading _ = ⊥
+
 -- what a call may be refused with that only reads
 abbrev pub IsOfReading : Refusal → Type 0
 IsOfReading Memory = Unit {0}
@@ -48,7 +61,8 @@ abbrev pub IsCaused : ℕ → ℕ → Refusal → Type 0
 IsCaused before now (Device error) = error ≢ faults.Memory → before < now
 IsCaused before now _ = Unit {0}
 
--- the disk's failures don't fall, and a refusal of the device comes of one
+-- The disk's failures don't fall; a call that is done met none, and a refusal of the device comes of one.
 pub record HasCause {T : Type 0} (before now : ℕ) (result : Result T Refusal) : Type 0 where
   pub later : before ≤ now
+  pub done : OnOk result (now ≡ before)
   pub failed : IfErr result (IsCaused before now)

@@ -1,8 +1,7 @@
-ghost use Rattle.std.specs.Prelude.{◌≡◌, ◌≢◌, ◌++◌, ◌+◌, ◌^◌, ◌<◌, ◌≤◌, ◌↔◌, ℕ, length, All, AllPairs, Any, IfOk, OnOk, IsTrue};
+ghost use Rattle.std.specs.Prelude.{◌≡◌, ◌≢◌, ◌++◌, ◌+◌, ◌^◌, ◌<◌, ◌≤◌, ◌↔◌, ℕ, length, All, AllPairs, IfOk, OnOk, IsTrue};
 ghost use Rattle.byteorder.specs.Endian.{big_bytes};
 ghost use Rattle.gate_journal.specs.Batch.{AreImages, IsWhole, batch_size, spelling_behind_gate};
 
-use byteorder::{BigEndian, ByteOrder};
 use std::alloc::{AllocError, Global};
 use std::marker::Model;
 
@@ -15,8 +14,11 @@ pub const BATCH_HEADER: u64 = 13;
 /// The bytes of an image with its block's number.
 pub const IMAGE_RECORD: u64 = 4_100;
 
-/// The greatest front: what is above it isn't a front.
-pub const MAX_FRONT: u64 = u64::MAX >> 1;
+/// How many blocks a volume can have.
+pub const MAX_BLOCKS: u32 = 65_536;
+
+/// The greatest number of a write, and so of a front, of a ticket, an epoch or a store.
+pub const MAX_NUMBER: u64 = u64::MAX >> 1;
 
 /// A gate that shows no batch behind it.
 pub const CLOSED: u8 = 0;
@@ -82,28 +84,26 @@ pub(crate) fn room_behind(end: u64, len: u64) -> u64
 
 /// Whether images are a batch of a volume of so many blocks.
 pub(crate) fn are_images(blocks: u32, images: &[Image]) -> bool
+    requires { blocks ≤ MAX_BLOCKS }
     ensures { IsTrue result ↔ AreImages blocks images.now }
 {
     !images.is_empty() && images.iter().all(|image| image.block < blocks) && has_each_once(images)
 }
 
-/// Whether no block stands twice.
+/// Whether no block stands twice, in one pass. The blocks are those of a volume.
 fn has_each_once(images: &[Image]) -> bool
+    requires { All (λ image. image.block < MAX_BLOCKS) images.now }
     ensures { IsTrue result ↔ AllPairs (λ a b. a.block ≢ b.block) images.now }
 {
-    for (i, image) in images.iter().enumerate() {
-        if has_block(&images[..i], image.block) {
+    let mut seen = [false; MAX_BLOCKS as usize];
+    for image in images {
+        let block = image.block as usize;
+        if seen[block] {
             return false;
         }
+        seen[block] = true;
     }
     true
-}
-
-/// Whether a block is among the images'.
-fn has_block(images: &[Image], block: u32) -> bool
-    ensures { IsTrue result ↔ Any (λ image. image.block ≡ block) images.now }
-{
-    images.iter().any(|image| image.block == block)
 }
 
 /// The bytes of a batch behind its gate, and the closed gate behind the batch.
@@ -118,30 +118,12 @@ pub(crate) fn spelled_behind_gate(
     ensures whole { OnOk result (All IsWhole images.now) }
 {
     let mut bytes = Vec::new(alloc);
-    put_u64(&mut bytes, front)?;
-    put_u32(&mut bytes, images.len() as u32)?;
+    bytes.extend_from_slice(&front.to_be_bytes())?;
+    bytes.extend_from_slice(&(images.len() as u32).to_be_bytes())?;
     for image in images {
-        put_u32(&mut bytes, image.block)?;
+        bytes.extend_from_slice(&image.block.to_be_bytes())?;
         bytes.extend_from_slice(&image.bytes)?;
     }
     bytes.push(CLOSED)?;
     Ok(bytes)
-}
-
-/// Puts a number of four bytes at the end.
-fn put_u32(bytes: &mut Vec<u8>, number: u32) -> Result<(), AllocError>
-    ensures { OnOk result (bytes.new.items ≡ bytes.old.items ++ big_bytes 4 number) }
-{
-    let mut spelled = [0; 4];
-    BigEndian::write_u32(&mut spelled, number);
-    bytes.extend_from_slice(&spelled)
-}
-
-/// Puts a number of eight bytes at the end.
-fn put_u64(bytes: &mut Vec<u8>, number: u64) -> Result<(), AllocError>
-    ensures { OnOk result (bytes.new.items ≡ bytes.old.items ++ big_bytes 8 number) }
-{
-    let mut spelled = [0; 8];
-    BigEndian::write_u64(&mut spelled, number);
-    bytes.extend_from_slice(&spelled)
 }

@@ -17,11 +17,13 @@ pub(crate) fn write_durably<D: Disk>(
     requires range { at + length bytes.now ≤ part.len }
     ensures size { D.size disk.new ≡ D.size disk.old }
     ensures gives { D.keeps_model → OnOk result (Holds (inside part (D.gives disk.old)) at bytes.now (inside part (D.gives disk.new))) }
+    ensures whole { D.keeps_model → OnOk result (Only (D.gives disk.new) (D.may_leave_now disk.new)) }
     ensures durable { D.keeps_model → OnOk result (Only (inside part (D.gives disk.new)) (LeftInside part (D.may_leave_now disk.new))) }
     ensures any_moment { D.keeps_model → LeavesOnly D.moment D.may_have_left_since disk.old disk.new
         (WasTorn part at (length bytes.now) (D.may_leave_now disk.old)) }
     ensures frame { D.keeps_model → TouchesOnly D.gives D.may_leave_now D.moment D.may_have_left_since part disk.old disk.new }
     ensures later { D.failures disk.old ≤ D.failures disk.new }
+    ensures done { OnOk result (D.failures disk.new ≡ D.failures disk.old) }
     ensures told { IfErr result (λ e. e ≢ DiskError.ReadFault) }
     ensures cause { IfErr result (λ e. e ≢ DiskError.Memory → D.failures disk.old < D.failures disk.new) }
 {

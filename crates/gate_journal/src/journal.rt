@@ -1,19 +1,20 @@
 ghost use Rattle.std.specs.Prelude.{◌≡◌, ◌≢◌, ◌+◌, ◌-◌, ◌*◌, ◌^◌, ◌<◌, ◌≤◌, ◌↔◌, ℕ, List, [], ◌∷◌, ◌++◌, true, false, length, max, IfOk, IfErr, OnOk, OnErr, IsErrOf, IsTrue};
-ghost use Rattle.disk_model.specs.Disk.{LeavesOnly};
+ghost use Rattle.disk_model.specs.Disk.{LeavesOnly, Only};
 ghost use Rattle.disk_model.specs.Part.{inside, TouchesOnly};
-ghost use Rattle.gate_journal.specs.Batch.{AreBatches, AreImages, Batch, HoldsBatches, HoldsOldOrNew, IsDamaged};
+ghost use Rattle.gate_journal.specs.Batch.{AreBatches, AreImages, Batch, HoldsBatches, HoldsOldOrNew, IsDamaged, batch_spelling, last_front};
+ghost use Rattle.gate_journal.specs.Reading.{Stands};
 ghost use Rattle.gate_journal.specs.Refusal.{HasCause, IsOfAppending, IsOfDevice, IsOfOpening, IsOfReading, IsOfWriting};
 ghost use Rattle.gate_journal.specs.Runs.{OnlyReads, WasTorn};
 
 use crate::batch::{
-    BATCH_HEADER, Batch, CLOSED, IMAGE_RECORD, Image, MAX_FRONT, OPEN, are_images, room_behind,
-    spelled_behind_gate,
+    BATCH_HEADER, Batch, CLOSED, IMAGE_RECORD, Image, MAX_BLOCKS, MAX_NUMBER, OPEN, are_images,
+    room_behind, spelled_behind_gate,
 };
 use crate::durable::write_durably;
 use crate::refusal::Refusal;
 use crate::slot::Slot;
 use crate::synced::Synced;
-use crate::walking::{find_end, read_batches};
+use crate::walking::read_batches;
 use disk_model::{Disk, DiskError, Part};
 use std::alloc::Global;
 use std::marker::Model;
@@ -34,20 +35,21 @@ pub struct Journal {
 impl Model for Journal {
     ghost use Rattle.std.specs.Prelude.{◌+◌, ◌≤◌, ◌<◌, ◌^◌};
     ghost use Rattle.gate_journal.specs.Journal.{State};
+    ghost use Rattle.gate_journal.specs.declared.batch.TheConstants.{MAX_BLOCKS};
 
     ghost Value = { State };
 
     ghost view = { λ j. record { part = j.part; slot = j.slot; blocks = j.blocks; before = j.before; front = j.front; end = j.end; broken = j.broken } };
 
-    ghost invariant = { λ j. (j.end + 1 ≤ j.part.len) × (j.part.len < 2 ^ 32) };
+    ghost invariant = { λ j. (j.end + 1 ≤ j.part.len) × (j.part.len < 2 ^ 32) × (j.blocks ≤ MAX_BLOCKS) };
 }
 
 impl Journal {
     ghost use Rattle.gate_journal.specs.Journal.{Fits, IsSettled, IsSpelled, IsTooMuch, appended};
 
-    /// An empty journal in a part of a disk, of 1 byte to 2^32 - 1, for the blocks 0 to `blocks - 1` of the member at the
-    /// slot; the first batch will have a front above `front`. The part lies within the disk. It writes a closed gate and
-    /// syncs.
+    /// An empty journal in a part of a disk, of 1 byte to 2^32 - 1, for the blocks 0 to `blocks - 1`, at most 65,536, of
+    /// the member at the slot; the first batch will have a front above `front`. The part lies within the disk. It writes a
+    /// closed gate and syncs; after it the whole disk is durable.
     ///
     /// It is refused by the device alone. Then, and until it is done, the part holds what it held but for its first byte.
     pub fn create<D: Disk>(
@@ -59,9 +61,12 @@ impl Journal {
     ) -> Result<Journal, Refusal>
         requires room { 1 ≤ part.len }
         requires small { part.len < 2 ^ 32 }
+        requires volume { blocks ≤ MAX_BLOCKS }
         requires on_disk { part.start + part.len ≤ D.size disk.old }
         ensures journal { IfOk result (λ j. j ≡ record { part = part; slot = slot; blocks = blocks; before = front; front = front; end = 0; broken = false }) }
         ensures settled { D.keeps_model → IfOk result (λ j. IsSettled j [] (D.gives disk.new) (D.may_leave_now disk.new)) }
+        ensures bytes { D.keeps_model → OnOk result (Stands (inside part (D.gives disk.new)) 0 1 (CLOSED ∷ [])) }
+        ensures whole { D.keeps_model → OnOk result (Only (D.gives disk.new) (D.may_leave_now disk.new)) }
         ensures any_moment { D.keeps_model → LeavesOnly D.moment D.may_have_left_since disk.old disk.new
             (WasTorn part 0 1 (D.may_leave_now disk.old)) }
         ensures frame { D.keeps_model → TouchesOnly D.gives D.may_leave_now D.moment D.may_have_left_since part disk.old disk.new }
@@ -81,9 +86,9 @@ impl Journal {
         })
     }
 
-    /// The journal in a part of a disk, of at most 2^32 - 1 bytes, which may be any, for the blocks 0 to `blocks - 1` of
-    /// the member at the slot; `front` is the one before the first batch. The part lies within the disk. It syncs, and then
-    /// reads.
+    /// The journal in a part of a disk, of at most 2^32 - 1 bytes, which may be any, with its batches, for the blocks 0 to
+    /// `blocks - 1`, at most 65,536, of the member at the slot; `front` is the one before the first batch. The part lies
+    /// within the disk. It syncs, and then reads; after it the whole disk is durable.
     ///
     /// 123 `Damaged` exactly where the part holds no batches: an open gate isn't followed by a batch of the volume, of a
     /// front above the last one's, with a byte behind it. 100 `Memory`, and what the device refuses. All leave the part
@@ -95,15 +100,19 @@ impl Journal {
         slot: Slot,
         blocks: u32,
         front: u64,
-    ) -> Result<Journal, Refusal>
+    ) -> Result<(Journal, Vec<Batch>), Refusal>
         requires small { part.len < 2 ^ 32 }
+        requires volume { blocks ≤ MAX_BLOCKS }
         requires on_disk { part.start + part.len ≤ D.size disk.old }
 
-        ensures journal { IfOk result (λ j. j ≡ record { part = part; slot = slot; blocks = blocks; before = front; front = j.front; end = j.end; broken = false }) }
-        ensures settled { D.keeps_model → IfOk result (λ j. (batches : List Batch) × IsSettled j batches (D.gives disk.new) (D.may_leave_now disk.new)) }
-        ensures fronts { IfOk result (λ j. (front ≤ j.front) × (j.front ≤ max front MAX_FRONT)) }
+        ensures journal { IfOk result (λ r. r.0 ≡ record { part = part; slot = slot; blocks = blocks; before = front; front = last_front front r.1.items; end = r.0.end; broken = false }) }
+        ensures are { IfOk result (λ r. AreBatches blocks front r.1.items) }
+        ensures batches { D.keeps_model → IfOk result (λ r. HoldsBatches blocks front r.1.items (inside part (D.gives disk.old))) }
+        ensures settled { D.keeps_model → IfOk result (λ r. IsSettled r.0 r.1.items (D.gives disk.new) (D.may_leave_now disk.new)) }
+        ensures fronts { IfOk result (λ r. (front ≤ r.0.front) × (r.0.front ≤ max front MAX_NUMBER)) }
         ensures damaged { D.keeps_model → IsErrOf result Refusal.Damaged → IsDamaged blocks front (inside part (D.gives disk.old)) }
 
+        ensures whole { D.keeps_model → OnOk result (Only (D.gives disk.new) (D.may_leave_now disk.new)) }
         ensures reads { D.keeps_model → OnlyReads D.gives D.may_leave_now D.moment D.may_have_left_since disk.old disk.new }
         ensures frame { D.keeps_model → TouchesOnly D.gives D.may_leave_now D.moment D.may_have_left_since part disk.old disk.new }
         ensures size { D.size disk.new ≡ D.size disk.old }
@@ -114,8 +123,8 @@ impl Journal {
         if part.is_empty() {
             return Err(Refusal::Damaged);
         }
-        let place = find_end(alloc, part, blocks, disk, front)?;
-        Ok(Journal {
+        let (batches, place) = read_batches(alloc, part, blocks, disk, front)?;
+        let journal = Journal {
             part,
             slot,
             blocks,
@@ -123,7 +132,8 @@ impl Journal {
             front: place.front,
             end: place.end,
             broken: false,
-        })
+        };
+        Ok((journal, batches))
     }
 
     /// The part of the disk that it stands in.
@@ -164,7 +174,7 @@ impl Journal {
     }
 
     /// Appends a batch by four device calls: the batch behind its closed gate, with the closed gate of the next one;
-    /// a sync; the opened gate; a sync. The receipt is of the batch's front, which is above the last one and at most
+    /// a sync; the opened gate; a sync. After it the whole disk is durable. The receipt is of the batch's front, which is above the last one and at most
     /// 2^63 - 1; its images are at least one, each of a block of the volume, no block twice. The journal's part lies within
     /// the disk.
     ///
@@ -181,13 +191,18 @@ impl Journal {
         requires on_disk { self.old.part.start + self.old.part.len ≤ D.size disk.old }
         requires images { AreImages self.old.blocks images.now }
         requires rises { self.old.front < front }
-        requires limit { front ≤ MAX_FRONT }
+        requires limit { front ≤ MAX_NUMBER }
 
         ensures receipt { IfOk result (λ receipt. receipt ≡ record { slot = self.old.slot; front = front }) }
         ensures ok { OnOk result (self.new ≡ appended self.old front (length images.now)) }
         ensures settled { D.keeps_model → (batches : List Batch)
             → IsSettled self.old batches (D.gives disk.old) (D.may_leave_now disk.old)
             → OnOk result (IsSettled self.new (batches ++ record { front = front; images = images.now } ∷ []) (D.gives disk.new) (D.may_leave_now disk.new)) }
+
+        // Behind the last batch stand the new one, its gate open, and a closed gate.
+        ensures bytes { D.keeps_model → OnOk result (Stands (inside self.old.part (D.gives disk.new)) self.old.end (self.new.end + 1)
+            (batch_spelling (record { front = front; images = images.now }) ++ CLOSED ∷ [])) }
+        ensures whole { D.keeps_model → OnOk result (Only (D.gives disk.new) (D.may_leave_now disk.new)) }
 
         // A stop at any moment of the call leaves the batches from before it, with the new one or without.
         ensures any_moment { D.keeps_model → (batches : List Batch)
@@ -251,11 +266,13 @@ impl Journal {
         if self.is_broken() {
             return Err(Refusal::Broken);
         }
-        let found = read_batches(alloc, self.part, self.blocks, disk, self.before);
-        if let Err(refusal) = &found {
-            self.broken = refusal.is_of_device();
+        match read_batches(alloc, self.part, self.blocks, disk, self.before) {
+            Ok((batches, _)) => Ok(batches),
+            Err(refusal) => {
+                self.broken = refusal.is_of_device();
+                Err(refusal)
+            }
         }
-        found
     }
 
     /// The four device calls of `append`.
@@ -269,10 +286,13 @@ impl Journal {
             → IsSettled self.now batches (D.gives disk.old) (D.may_leave_now disk.old) → IsSpelled self.now batch body.now
             → LeavesOnly D.moment D.may_have_left_since disk.old disk.new
             (λ c. HoldsOldOrNew self.now.blocks self.now.before batches batch (inside self.now.part c)) }
+        ensures bytes { D.keeps_model → OnOk result (Stands (inside self.now.part (D.gives disk.new)) self.now.end (self.now.end + 1 + length body.now) (OPEN ∷ body.now)) }
+        ensures whole { D.keeps_model → OnOk result (Only (D.gives disk.new) (D.may_leave_now disk.new)) }
         ensures frame { D.keeps_model → TouchesOnly D.gives D.may_leave_now D.moment D.may_have_left_since self.now.part disk.old disk.new }
         ensures size { D.size disk.new ≡ D.size disk.old }
         ensures told { IfErr result (λ e. e ≢ DiskError.ReadFault) }
         ensures later { D.failures disk.old ≤ D.failures disk.new }
+        ensures done { OnOk result (D.failures disk.new ≡ D.failures disk.old) }
         ensures cause { IfErr result (λ e. e ≢ DiskError.Memory → D.failures disk.old < D.failures disk.new) }
     {
         write_durably(self.part, disk, self.end + 1, body)?;

@@ -10,12 +10,16 @@ ghost use Rattle.gate_journal.specs.Refusal.{HasCause, IsOfReading};
 ghost use Rattle.gate_journal.specs.Runs.{OnlyReads};
 
 use crate::batch::{
-    BATCH_HEADER, Batch, IMAGE_RECORD, IMAGE_SIZE, Image, MAX_FRONT, OPEN, are_images, room_behind,
+    BATCH_HEADER, Batch, IMAGE_RECORD, IMAGE_SIZE, Image, MAX_BLOCKS, MAX_NUMBER, OPEN, are_images,
+    room_behind,
 };
 use crate::refusal::Refusal;
 use byteorder::{BigEndian, ByteOrder};
 use disk_model::{Disk, Part};
 use std::alloc::Global;
+
+/// The bytes of an image with its block's number, which one call reads.
+const RECORD_SIZE: usize = IMAGE_RECORD as usize;
 
 /// What a batch begins with, behind its gate.
 #[derive(Clone, Copy)]
@@ -25,7 +29,7 @@ struct Header {
 }
 
 /// Reads some of a part's bytes, from `at` on.
-fn read_array<D: Disk, const N: usize>(
+pub(crate) fn read_array<D: Disk, const N: usize>(
     part: Part,
     disk: &mut D,
     at: u64,
@@ -89,10 +93,11 @@ fn read_image<D: Disk>(part: Part, disk: &mut D, at: u64) -> Result<Image, Refus
     ensures undamaged { IsErrOf result Refusal.Damaged → ⊥ }
     ensures cause { HasCause (D.failures disk.old) (D.failures disk.new) result }
 {
-    let block: [u8; 4] = read_array(part, disk, at)?;
-    let bytes: [u8; IMAGE_SIZE] = read_array(part, disk, at + 4)?;
+    let record: [u8; RECORD_SIZE] = read_array(part, disk, at)?;
+    let mut bytes = [0; IMAGE_SIZE];
+    bytes.copy_from_slice(&record[4..]);
     Ok(Image {
-        block: BigEndian::read_u32(&block),
+        block: BigEndian::read_u32(&record),
         bytes,
     })
 }
@@ -127,10 +132,10 @@ fn read_images<D: Disk>(
 impl Header {
     /// Whether it may be the next batch's, behind which there is room for so many images.
     fn is_possible(self, blocks: u32, before: u64, room: u64) -> bool
-        ensures { IsTrue result ↔ ((before < self.front) × (self.front ≤ MAX_FRONT) × (0 < self.count) × (self.count ≤ blocks) × (self.count ≤ room)) }
+        ensures { IsTrue result ↔ ((before < self.front) × (self.front ≤ MAX_NUMBER) × (0 < self.count) × (self.count ≤ blocks) × (self.count ≤ room)) }
     {
         self.front > before
-            && self.front <= MAX_FRONT
+            && self.front <= MAX_NUMBER
             && self.count > 0
             && self.count <= blocks
             && u64::from(self.count) <= room
@@ -148,6 +153,7 @@ fn read_body<D: Disk>(
 ) -> Result<Batch, Refusal>
     requires on_disk { part.start + part.len ≤ D.size disk.old }
     requires range { at + 1 ≤ part.len }
+    requires volume { blocks ≤ MAX_BLOCKS }
     ensures next { IfOk result (IsBatch blocks before) }
     ensures batch { D.keeps_model → IfOk result (λ batch.
         1 ∷ drop (at + 1) (inside part (D.gives disk.old)) ≡ batch_spelling batch ++ drop (at + batch_size (length batch.images)) (inside part (D.gives disk.old))) }
@@ -184,6 +190,7 @@ pub(crate) fn read_batch<D: Disk>(
 ) -> Result<Option<Batch>, Refusal>
     requires on_disk { part.start + part.len ≤ D.size disk.old }
     requires range { at + 1 ≤ part.len }
+    requires volume { blocks ≤ MAX_BLOCKS }
     ensures next { IfOk result (λ found. IfSome found (IsBatch blocks before)) }
     ensures found { D.keeps_model → IfOk result (IsFound blocks before (inside part (D.gives disk.old)) at) }
     ensures within { IfOk result (λ found. IfSome found (λ batch. at + batch_size (length batch.images) + 1 ≤ part.len)) }

@@ -1,6 +1,6 @@
-ghost use Rattle.std.specs.Prelude.{◌≡◌, ℕ};
-ghost use Rattle.gate_journal.specs.Receipt.{Receipt};
+ghost use Rattle.std.specs.Prelude.{◌≡◌, ◌≤◌};
 
+use crate::batch::MAX_NUMBER;
 use crate::slot::Slot;
 use std::marker::Model;
 
@@ -13,14 +13,21 @@ pub struct Synced {
 }
 
 impl Model for Synced {
+    ghost use Rattle.std.specs.Prelude.{◌≤◌};
+    ghost use Rattle.gate_journal.specs.Receipt.{Receipt};
+    ghost use Rattle.gate_journal.specs.declared.batch.TheConstants.{MAX_NUMBER};
+
     ghost Value = { Receipt };
 
     ghost view = { λ s. record { slot = s.slot; front = s.front } };
+
+    ghost invariant = { λ s. s.front ≤ MAX_NUMBER };
 }
 
 impl Synced {
     /// Made behind the sync that follows an opened gate, and nowhere else.
     pub(crate) fn new(slot: Slot, front: u64) -> Synced
+        requires { front ≤ MAX_NUMBER }
         ensures slot { result.slot ≡ slot }
         ensures front { result.front ≡ front }
     {
@@ -34,9 +41,10 @@ impl Synced {
         self.slot
     }
 
-    /// The number of the last write that the disk holds.
+    /// The number of the last write that the disk holds, at most 2^63 - 1.
     pub fn front(&self) -> u64
-        ensures { result ≡ self.now.front }
+        ensures front { result ≡ self.now.front }
+        ensures limit { result ≤ MAX_NUMBER }
     {
         self.front
     }

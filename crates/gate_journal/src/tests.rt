@@ -27,7 +27,7 @@ fn append<D: Disk>(
     ensures part { journal.new.part ≡ journal.old.part }
     ensures size { D.size disk.new ≡ D.size disk.old }
 {
-    assert!(rt; journal.are_images(images) && journal.front() < front && front <= MAX_FRONT);
+    assert!(rt; journal.are_images(images) && journal.front() < front && front <= MAX_NUMBER);
     journal.append(alloc, disk, front, images)
 }
 
@@ -68,8 +68,7 @@ fn found_after(
     assert_eq!(rt; again.err(), Some(Refusal::Broken));
     disk.cut(cut);
 
-    let mut opened = Journal::open(alloc, &mut disk, part, slot, 4, 6)?;
-    let batches = opened.read_all(alloc, &mut disk)?;
+    let (_, batches) = Journal::open(alloc, &mut disk, part, slot, 4, 6)?;
     let wanted = [(9, image(0, 7)), (11, image(3, 8))];
     for (batch, (front, image)) in batches.iter().zip(wanted) {
         assert_eq!(rt; batch.front(), front);
@@ -119,12 +118,12 @@ fn faults(rt: HostRuntime) -> Result<(), Fail> {
         );
         assert_eq!(rt; disk.calls(), 2 + call);
     }
-    for call in 1..=5 {
+    for call in 1..=4 {
         let mut disk = MemDisk::new(alloc, TWO, Script::new(alloc))?;
         let mut journal = Journal::create(&mut disk, part, slot, 1, 0)?;
         append(&rt, alloc, &mut journal, &mut disk, 1, &[image(0, 1)])?;
         assert_eq!(rt; journal.read_all(alloc, &mut disk)?.len(), 1);
-        assert_eq!(rt; disk.calls(), 11);
+        assert_eq!(rt; disk.calls(), 10);
         disk.arm(Event::FailAt { call })?;
         let told = journal.read_all(alloc, &mut disk).err();
         assert_eq!(rt; told, Some(Refusal::Device(DiskError::ReadFault)), "{call}");
@@ -151,11 +150,10 @@ fn opened(alloc: Global, area: u32, bytes: &[u8]) -> Result<Result<u64, Refusal>
     let mut disk = MemDisk::new(alloc, u64::from(area), Script::new(alloc))?;
     disk.write_at(0, &bytes[..bytes.len().min(area as usize)])?;
     let slot = Slot::new(0).ok_or("a slot")?;
-    let journal = match Journal::open(alloc, &mut disk, part, slot, 4, 6) {
-        Ok(journal) => journal,
-        Err(refusal) => return Ok(Err(refusal)),
-    };
-    Ok(Ok(journal.front()))
+    match Journal::open(alloc, &mut disk, part, slot, 4, 6) {
+        Ok((journal, _)) => Ok(Ok(journal.front())),
+        Err(refusal) => Ok(Err(refusal)),
+    }
 }
 
 // A first batch of the front 7 with block 1, and a second: its front, its count and its blocks; the area's length; and
@@ -223,7 +221,7 @@ fn full(rt: HostRuntime) -> Result<(), Fail> {
             alloc,
             &mut journal,
             &mut disk,
-            MAX_FRONT,
+            MAX_NUMBER,
             &[image(0, 1)],
         );
         assert_eq!(rt; first.err(), told, "{area}");

@@ -1,12 +1,11 @@
 // From batch to batch through a part of a disk.
-ghost use Rattle.std.specs.Prelude.{◌≡◌, ◌+◌, ◌^◌, ◌<◌, ◌≤◌, List, length, max, IfOk, IfErr, IsErrOf};
+ghost use Rattle.std.specs.Prelude.{◌≡◌, ◌+◌, ◌^◌, ◌<◌, ◌≤◌, length, max, IfOk, IfErr, IsErrOf};
 ghost use Rattle.disk_model.specs.Part.{inside};
-ghost use Rattle.gate_journal.specs.Batch.{AreBatches, Batch, HoldsBatches, IsDamaged, batch_size};
-ghost use Rattle.gate_journal.specs.Reading.{Begins};
+ghost use Rattle.gate_journal.specs.Batch.{AreBatches, HoldsBatches, IsDamaged, batch_size, last_front, spellings};
 ghost use Rattle.gate_journal.specs.Refusal.{HasCause, IsOfReading};
 ghost use Rattle.gate_journal.specs.Runs.{OnlyReads};
 
-use crate::batch::{BATCH_HEADER, Batch, IMAGE_RECORD, MAX_FRONT};
+use crate::batch::{BATCH_HEADER, Batch, IMAGE_RECORD, MAX_BLOCKS, MAX_NUMBER};
 use crate::reading::read_batch;
 use crate::refusal::Refusal;
 use disk_model::{Disk, Part};
@@ -33,49 +32,23 @@ impl Place {
     }
 }
 
-/// Finds the place behind the last batch. It keeps no batch.
-pub(crate) fn find_end<D: Disk>(
-    alloc: Global,
-    part: Part,
-    blocks: u32,
-    disk: &mut D,
-    before: u64,
-) -> Result<Place, Refusal>
-    requires on_disk { part.start + part.len ≤ D.size disk.old }
-    requires room { 1 ≤ part.len }
-    ensures held { D.keeps_model → IfOk result (λ place. (batches : List Batch)
-        × Begins blocks before batches (inside part (D.gives disk.old)) place.end place.front
-        × HoldsBatches blocks before batches (inside part (D.gives disk.old))) }
-    ensures within { IfOk result (λ place. place.end + 1 ≤ part.len) }
-    ensures fronts { IfOk result (λ place. (before ≤ place.front) × (place.front ≤ max before MAX_FRONT)) }
-    ensures damaged { D.keeps_model → IsErrOf result Refusal.Damaged → IsDamaged blocks before (inside part (D.gives disk.old)) }
-    ensures reads { D.keeps_model → OnlyReads D.gives D.may_leave_now D.moment D.may_have_left_since disk.old disk.new }
-    ensures size { D.size disk.new ≡ D.size disk.old }
-    ensures told { IfErr result IsOfReading }
-    ensures cause { HasCause (D.failures disk.old) (D.failures disk.new) result }
-{
-    let mut place = Place {
-        end: 0,
-        front: before,
-    };
-    while let Some(batch) = read_batch(alloc, part, blocks, disk, place.end, place.front)? {
-        place = place.behind(&batch);
-    }
-    Ok(place)
-}
-
-/// Reads all batches.
+/// Reads all batches, and tells the place behind them.
 pub(crate) fn read_batches<D: Disk>(
     alloc: Global,
     part: Part,
     blocks: u32,
     disk: &mut D,
     before: u64,
-) -> Result<Vec<Batch>, Refusal>
+) -> Result<(Vec<Batch>, Place), Refusal>
     requires on_disk { part.start + part.len ≤ D.size disk.old }
     requires room { 1 ≤ part.len }
-    ensures are { IfOk result (λ batches. AreBatches blocks before batches.items) }
-    ensures held { D.keeps_model → IfOk result (λ batches. HoldsBatches blocks before batches.items (inside part (D.gives disk.old))) }
+    requires volume { blocks ≤ MAX_BLOCKS }
+    ensures are { IfOk result (λ r. AreBatches blocks before r.0.items) }
+    ensures held { D.keeps_model → IfOk result (λ r. HoldsBatches blocks before r.0.items (inside part (D.gives disk.old))) }
+    ensures end { D.keeps_model → IfOk result (λ r. r.1.end ≡ length (spellings r.0.items)) }
+    ensures front { IfOk result (λ r. r.1.front ≡ last_front before r.0.items) }
+    ensures within { IfOk result (λ r. r.1.end + 1 ≤ part.len) }
+    ensures fronts { IfOk result (λ r. (before ≤ r.1.front) × (r.1.front ≤ max before MAX_NUMBER)) }
     ensures damaged { D.keeps_model → IsErrOf result Refusal.Damaged → IsDamaged blocks before (inside part (D.gives disk.old)) }
     ensures reads { D.keeps_model → OnlyReads D.gives D.may_leave_now D.moment D.may_have_left_since disk.old disk.new }
     ensures size { D.size disk.new ≡ D.size disk.old }
@@ -91,5 +64,5 @@ pub(crate) fn read_batches<D: Disk>(
         place = place.behind(&batch);
         batches.push(batch)?;
     }
-    Ok(batches)
+    Ok((batches, place))
 }

@@ -1,5 +1,6 @@
 //! The machine of the one volume beside a world: whatever the world does, the machine has to be allowed to do.
 use byteorder::{BigEndian, ByteOrder};
+use bytes::Bytes;
 use disk_model::MemDisk;
 use flush_barrier::SessionId;
 use gate_journal::Slot;
@@ -103,7 +104,7 @@ impl Fields {
     }
 
     /// What the machine is asked, where the volume answers it.
-    fn request(&self, kind: Kind, payload: Vec<u8>) -> Option<Request> {
+    fn request(&self, kind: Kind, payload: Bytes) -> Option<Request> {
         match kind {
             Kind::Read { .. } => Some(Request::read(self.offset, u64::from(self.length))),
             Kind::Write => Some(Request::write(Write::new(self.offset, payload))),
@@ -164,7 +165,7 @@ impl Client {
         &mut self,
         alloc: Global,
         geometry: &Geometry,
-    ) -> Result<Option<(Fields, Vec<u8>)>, AllocError> {
+    ) -> Result<Option<(Fields, Bytes)>, AllocError> {
         if self.left || !self.negotiated {
             return Ok(None);
         }
@@ -176,7 +177,7 @@ impl Client {
         if self.left || self.input.len() < REQUEST || self.input.len() - REQUEST < payload {
             return Ok(None);
         }
-        let bytes = self.input[REQUEST..REQUEST + payload].to_vec(alloc)?;
+        let bytes = Bytes::copy_from_slice(alloc, &self.input[REQUEST..REQUEST + payload])?;
         pass_over(&mut self.input, REQUEST + payload);
         Ok(Some((fields, bytes)))
     }

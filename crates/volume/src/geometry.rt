@@ -19,7 +19,7 @@ pub const MAX_MAX_PAYLOAD: u32 = 1_048_576;
 const BATCH_OVERHEAD: u32 = 14;
 
 /// An image in a journal area: a block's number and its bytes.
-const IMAGE_SIZE: u32 = 4_100;
+const IMAGE_RECORD: u32 = 4_100;
 
 /// The least journal area, in bytes, for requests of up to `max_payload` bytes: a batch of each block that such a
 /// write can touch, and a closed gate. `max_payload` is at most 1,048,576.
@@ -27,7 +27,7 @@ pub fn least_area(max_payload: u32) -> u32
     requires { max_payload ≤ MAX_MAX_PAYLOAD }
     ensures { result ≡ least_area_of max_payload }
 {
-    BATCH_OVERHEAD + IMAGE_SIZE * (max_payload / BLOCK_SIZE as u32 + 1)
+    BATCH_OVERHEAD + IMAGE_RECORD * (max_payload / BLOCK_SIZE as u32 + 1)
 }
 
 /// The sizes of a volume and of its members' disks, all within the limits.

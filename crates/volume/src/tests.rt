@@ -1,5 +1,6 @@
 // The numbers that the definitions came from, worked out by hand.
 use super::*;
+use bytes::Bytes;
 use std::process::Abort;
 use std::test::Fail;
 
@@ -121,7 +122,8 @@ fn refusals_in_words(rt: HostRuntime) -> Result<(), Fail> {
 // Five bytes over the end of block 1.
 #[test]
 fn patches(rt: HostRuntime) -> Result<(), Fail> {
-    let write = Write::new(8_189, vec![in rt.alloc(); 1, 2, 3, 4, 5]?);
+    let payload = Bytes::copy_from_slice(rt.alloc(), &[1, 2, 3, 4, 5])?;
+    let write = Write::new(8_189, payload);
     assert_eq!(rt; (write.offset(), write.payload().len()), (8_189, 5));
     for (block, front, back) in [
         (0, [9, 9, 9], [9, 9, 9]),

@@ -1,13 +1,15 @@
 ghost use Rattle.std.specs.Prelude.{◌≡◌, ℕ, ◌+◌, ◌*◌, ◌≤◌, ◌<◌, ◌^◌, List, length};
 
 use crate::geometry::BLOCK_SIZE;
+use bytes::Bytes;
+use std::alloc::AllocError;
 use std::marker::Model;
 
-/// A write of the volume: bytes, and the place of the first of them.
+/// A write of the volume: bytes, and the place of the first of them. A clone shares the bytes.
 #[derive(Debug, Drop)]
 pub struct Write {
     offset: u64,
-    payload: Vec<u8>,
+    payload: Bytes,
 }
 
 impl Model for Write {
@@ -15,14 +17,14 @@ impl Model for Write {
 
     ghost Value = { Placed };
 
-    ghost view = { λ w. record { offset = w.offset; bytes = w.payload.items } };
+    ghost view = { λ w. record { offset = w.offset; bytes = w.payload } };
 }
 
 impl Write {
     /// A write of the payload from the byte `offset` of the volume on.
-    pub fn new(offset: u64, payload: Vec<u8>) -> Write
+    pub fn new(offset: u64, payload: Bytes) -> Write
         ensures offset { result.offset ≡ offset }
-        ensures bytes { result.bytes ≡ payload.items }
+        ensures bytes { result.bytes ≡ payload }
     {
         Write { offset, payload }
     }
@@ -39,6 +41,17 @@ impl Write {
         ensures { result.now ≡ self.now.bytes }
     {
         &self.payload
+    }
+}
+
+impl Clone for Write {
+    ghost is_clone = { λ w copy. copy ≡ w };
+
+    fn clone(&self) -> Result<Write, AllocError> {
+        Ok(Write {
+            offset: self.offset,
+            payload: self.payload.clone()?,
+        })
     }
 }
 

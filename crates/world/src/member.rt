@@ -11,15 +11,13 @@ ghost use Rattle.world.specs.Writes.{IsInside};
 use crate::blocks::{self, Block};
 use crate::commit::Commit;
 use crate::waiting::{Token, Waiting};
+use bytes::Bytes;
 use disk_model::{Disk, Part};
 use flush_barrier::{ErrorCode, Floor, Front, Reply};
-use gate_journal::{Batch, Journal, Refusal, Slot, Synced};
+use gate_journal::{Batch, Journal, MAX_NUMBER, Refusal, Slot, Synced};
 use std::alloc::{AllocError, Global};
 use std::collections::VecDeque;
 use volume::{BLOCK_SIZE, Geometry, Write};
-
-/// The greatest number of a write, and of a ticket.
-pub(crate) const GREATEST: u64 = u64::MAX >> 1;
 
 /// A write on its way to the head, under its member's ticket.
 #[derive(Debug, Drop)]
@@ -207,9 +205,14 @@ impl Member {
     }
 
     /// Sends a write to the head under the next ticket, and keeps its token.
-    pub(crate) fn submit(&mut self, token: Token, write: Write) -> Result<(), (Token, Unsubmitted)>
-        requires { IsInside (fronts_of self.old).size write }
-        ensures ok { OnOk result (contents_of self.new ≡ submitted write (contents_of self.old)) }
+    pub(crate) fn submit(
+        &mut self,
+        token: Token,
+        offset: u64,
+        payload: Vec<u8>,
+    ) -> Result<(), (Token, Unsubmitted)>
+        requires { IsInside (fronts_of self.old).size (record { offset = offset; bytes = payload.items }) }
+        ensures ok { OnOk result (contents_of self.new ≡ submitted (record { offset = offset; bytes = payload.items }) (contents_of self.old)) }
         ensures err { OnErr result (contents_of self.new ≡ contents_of self.old) }
         ensures waits { OnOk result (waiting_of self.new ≡ waiting_of self.old
             ++ record { ticket = (contents_of self.old).ticket; number = None; token = token } ∷ []) }
@@ -224,15 +227,21 @@ impl Member {
         ensures stored { stored_of self.new ≡ stored_of self.old }
     {
         self.kept = None;
-        if self.next_ticket > GREATEST {
+        if self.next_ticket > MAX_NUMBER {
             return Err((token, Unsubmitted::LastTicket));
         }
         if self.waiting.reserve(1).is_err() || self.submits.reserve(1).is_err() {
             return Err((token, Unsubmitted::Memory));
         }
+        let Ok(payload) = Bytes::from_vec(payload) else {
+            return Err((token, Unsubmitted::Memory));
+        };
         let ticket = self.next_ticket;
         self.next_ticket += 1;
-        self.submits.push_back_reserved(Submit { ticket, write });
+        self.submits.push_back_reserved(Submit {
+            ticket,
+            write: Write::new(offset, payload),
+        });
         self.waiting.push_reserved(Waiting {
             ticket,
             number: None,
@@ -252,7 +261,7 @@ impl Member {
     pub(crate) fn is_at_greatest(&self) -> bool
         ensures { IsTrue result ↔ ((fronts_of self.now).applied ≡ 9223372036854775807) }
     {
-        self.applied() == GREATEST
+        self.applied() == MAX_NUMBER
     }
 
     /// Takes the write at the front of its submit link, numbers it and applies it. Where memory runs out, the write
@@ -546,7 +555,5 @@ fn read_journal<D: Disk>(
     ensures size { D.size disk.new ≡ D.size disk.old }
 {
     let area = Part::new(0, u64::from(geometry.area));
-    let mut journal = Journal::open(alloc, disk, area, slot, geometry.blocks, 0)?;
-    let batches = journal.read_all(alloc, disk)?;
-    Ok((journal, batches))
+    Journal::open(alloc, disk, area, slot, geometry.blocks, 0)
 }

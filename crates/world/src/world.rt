@@ -21,7 +21,7 @@ use gate_journal::{Refusal as JournalRefusal, Slot};
 use nbd_session::{Demand, LIMIT_IN_FLIGHT, Session};
 use std::alloc::Global;
 use std::collections::VecDeque;
-use volume::{Geometry, Write};
+use volume::Geometry;
 
 /// The number of the refusal for want of memory.
 const MEMORY: u16 = 100;
@@ -455,14 +455,14 @@ impl<D: Disk + Drop> World<D> {
                     offset,
                     payload,
                 },
-            ) => self.take_write(Token::Write(token), Write::new(offset, payload)),
+            ) => self.take_write(Token::Write(token), offset, payload),
             Some(
                 Demand::Fua {
                     token,
                     offset,
                     payload,
                 },
-            ) => self.take_write(Token::Fua(token), Write::new(offset, payload)),
+            ) => self.take_write(Token::Fua(token), offset, payload),
         }
         Outcome::Taken
     }
@@ -490,18 +490,18 @@ impl<D: Disk + Drop> World<D> {
 
     /// Submits a write.
     #[tactic(auto, using(crate::proofs::Lists::list_steps))]
-    fn take_write(&mut self, token: Token, write: Write)
-        requires { IsWriteInside (4096 * self.old.geometry.blocks) write }
+    fn take_write(&mut self, token: Token, offset: u64, payload: Vec<u8>)
+        requires { IsWriteInside (4096 * self.old.geometry.blocks) (record { offset = offset; bytes = payload.items }) }
         ensures clients { vec_len self.new.clients ≡ vec_len self.old.clients }
         ensures taken { (events : List ClientEvent) × MatchBool self.old.member.stopped
             (Tells (unsubmitted (Failed ErrorCode.Io) token) (seen self.old) (seen self.new) events)
-            (TakesWrite token write (seen self.old) (seen self.new) events) }
+            (TakesWrite token (record { offset = offset; bytes = payload.items }) (seen self.old) (seen self.new) events) }
         ensures disk { on_disk self.new ≡ on_disk self.old }
     {
         if self.member.stopped {
             return self.refuse(token, ErrorCode::Io);
         }
-        match self.member.submit(token, write) {
+        match self.member.submit(token, offset, payload) {
             Ok(()) => {}
             Err((token, Unsubmitted::Memory)) => self.refuse(token, ErrorCode::NoMemory),
             Err((token, Unsubmitted::LastTicket)) => {

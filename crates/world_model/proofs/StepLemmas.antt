@@ -126,10 +126,3 @@ is_read (Read offset len) range is = tt
 is_read (Write write) range is = absurd cc
 is_read (Fua write) range is = absurd cc
 is_read Flush range is = absurd cc
-
--- writes with the same parts
-pub same_write : (v w : Placed) → v.offset ≡ w.offset → v.bytes ≡ w.bytes → v ≡ w
-same_write v w offset bytes =
-    let with_offset : ℕ → Placed = λ x. record v { offset = x } in
-    let with_bytes : List ℕ → Placed = λ x. record w { bytes = x } in
-    ap with_offset offset ∙ ap with_bytes bytes

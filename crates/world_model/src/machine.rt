@@ -96,8 +96,7 @@ impl Machine {
         if !is_untaken(&self.taken, name) {
             return Ok(false);
         }
-        let payload = write.payload().to_vec(self.alloc)?;
-        let write = Write::new(write.offset(), payload);
+        let write = write.clone()?;
         self.taken.push(TakenWrite::new(name, write))?;
         Ok(true)
     }

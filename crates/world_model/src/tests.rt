@@ -1,5 +1,6 @@
 // One run through all the steps, worked out by hand, and steps that may not be taken.
 use super::*;
+use bytes::Bytes;
 use flush_barrier::SessionId;
 use std::alloc::Global;
 use std::process::Abort;
@@ -55,7 +56,7 @@ fn answer_read(
 
 // Three bytes at 2.
 fn a_plain_write(rt: &impl Abort, alloc: Global, machine: &mut Machine) -> Result<(), Fail> {
-    let first = Write::new(2, vec![in alloc; 1, 2, 3]?);
+    let first = Write::new(2, Bytes::from_vec(vec![in alloc; 1, 2, 3]?)?);
     let first = send(rt, machine, ONE, 70, Request::write(first))?;
     assert_eq!(rt; first, 0);
     assert!(rt; !answer_write(rt, machine, first, 1), "before it is taken");
@@ -71,7 +72,7 @@ fn a_plain_write(rt: &impl Abort, alloc: Global, machine: &mut Machine) -> Resul
 // Over them two at 4, with FUA.
 fn a_write_with_fua(rt: &impl Abort, alloc: Global, machine: &mut Machine) -> Result<(), Fail> {
     let read = send(rt, machine, TWO, 70, Request::read(1, 6))?;
-    let second = Write::new(4, vec![in alloc; 4, 5]?);
+    let second = Write::new(4, Bytes::from_vec(vec![in alloc; 4, 5]?)?);
     let second = send(rt, machine, ONE, 71, Request::fua(second))?;
     assert!(rt; machine.take(second)?);
     assert_eq!(rt; answer_read(rt, machine, read, 0)?, None, "below its mark");
@@ -86,7 +87,7 @@ fn a_write_with_fua(rt: &impl Abort, alloc: Global, machine: &mut Machine) -> Re
 
 // One at 0, which a restart loses.
 fn a_restart(rt: &impl Abort, alloc: Global, machine: &mut Machine) -> Result<(), Fail> {
-    let third = Write::new(0, vec![in alloc; 9]?);
+    let third = Write::new(0, Bytes::from_vec(vec![in alloc; 9]?)?);
     let third = send(rt, machine, TWO, 71, Request::write(third))?;
     assert!(rt; machine.take(third)?);
     assert!(rt; !machine.restart(1), "below what is owed");
@@ -115,13 +116,13 @@ fn all_steps(rt: HostRuntime) -> Result<(), Fail> {
 fn a_flush(rt: HostRuntime) -> Result<(), Fail> {
     let alloc = rt.alloc();
     let mut machine = Machine::new(alloc);
-    let early = Write::new(0, vec![in alloc; 1]?);
+    let early = Write::new(0, Bytes::from_vec(vec![in alloc; 1]?)?);
     let early = send(&rt, &mut machine, ONE, 1, Request::write(early))?;
     assert!(rt; machine.take(early)?);
     assert!(rt; answer_write(&rt, &mut machine, early, 1));
     let flush = send(&rt, &mut machine, ONE, 2, Request::flush())?;
     assert!(rt; !machine.take(flush)?, "no write");
-    let late = Write::new(1, vec![in alloc; 2]?);
+    let late = Write::new(1, Bytes::from_vec(vec![in alloc; 2]?)?);
     let late = send(&rt, &mut machine, ONE, 3, Request::write(late))?;
     assert!(rt; machine.take(late)?);
     assert!(rt; refuse(&rt, &mut machine, late));

@@ -1,7 +1,6 @@
-use Rattle.std.proofs.Common.{◌≢◌, take}
-use Rattle.std.specs.Prelude.{AllPairs}
+use Rattle.gate_journal.proofs.ImageLists.{IsMarked}
 use Rattle.gate_journal.proofs.batch.has_each_once.Given as goal
 
--- none so far stands twice
-abbrev pub invariant-loop-i : goal.invariant-loop-i
-invariant-loop-i l = AllPairs (λ a b. a.block ≢ b.block) (take l.i l.images)
+-- none so far stands twice, and the table marks just their blocks
+abbrev pub invariant-loop-image : goal.invariant-loop-image
+invariant-loop-image l = IsMarked l.images l.image-index l.seen

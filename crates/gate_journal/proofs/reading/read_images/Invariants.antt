@@ -14,5 +14,5 @@ invariant-loop-index g l = record {
   count : length l.images.items ≡ l.index;
   whole : All IsWhole l.images.items;
   size : g.D.Disk.size l.disk ≡ g.D.Disk.size l.fn.disk;
-  later : g.D.Disk.failures l.fn.disk ≤ g.D.Disk.failures l.disk;
+  done : g.D.Disk.failures l.disk ≡ g.D.Disk.failures l.fn.disk;
 }

@@ -22,6 +22,7 @@ loop-batches-preserved g c =
     let old = c.loop-batches.batches.items in
     let batch = c.in-Some.batch in
     let behind = c.behind-place.result in
+    let next = next_of c.args.blocks place.front batch c.in_ok-batch.field-0 c.in-Some.is c.in_ok-batch.ensures.next in
     record {
       begins = λ keeps.
           begins_found c.args.blocks c.args.before old (inside part (g.D.Disk.gives c.args.disk.now)) (inside part (g.D.Disk.gives c.loop-batches.disk)) place.end place.front (c.loop-batches.invariant.begins keeps)
@@ -29,8 +30,12 @@ loop-batches-preserved g c =
           c.push.new.self.items behind.end behind.front c.in_ok-push.ensures.items c.behind-place.ensures.end c.behind-place.ensures.front;
       reads = λ keeps. reads_then (c.loop-batches.invariant.reads keeps) (c.in_ok-batch.ensures.reads keeps);
       within = grind (arith, common_steps);
-      are = are_more c.args.blocks c.args.before old place.front c.loop-batches.invariant.are batch (next_of c.args.blocks place.front batch c.in_ok-batch.field-0 c.in-Some.is c.in_ok-batch.ensures.next)
+      are = are_more c.args.blocks c.args.before old place.front c.loop-batches.invariant.are batch next
           c.push.new.self.items behind.front c.in_ok-push.ensures.items c.behind-place.ensures.front;
       size = grind (arith, common_steps);
-      later = grind (arith, common_steps);
+      fronts = (
+        omega (arith, next.rises, c.loop-batches.invariant.fronts.0, c.behind-place.ensures.front),
+        omega (arith, next.limit, c.behind-place.ensures.front),
+      );
+      done = grind (arith, common_steps);
     }

@@ -1,5 +1,6 @@
-use Rattle.std.proofs.Common.{◌≡◌, ◌+◌, ◌-◌, ◌≤◌}
+use Rattle.std.proofs.Common.{◌≡◌, ◌+◌, ◌-◌, ◌≤◌, max}
 use Rattle.disk_model.specs.Part.{inside}
+use Rattle.gate_journal.specs.declared.batch.TheConstants.{MAX_NUMBER}
 use Rattle.gate_journal.specs.Batch.{AreBatches, last_front}
 use Rattle.gate_journal.specs.Reading.{Begins}
 use Rattle.gate_journal.specs.Runs.{OnlyReads}
@@ -13,7 +14,8 @@ invariant-loop-batches g l = record {
   within : l.place.end + 1 ≤ l.part.len;
   are : AreBatches l.blocks l.before l.batches.items × (l.place.front ≡ last_front l.before l.batches.items);
   size : g.D.Disk.size l.disk ≡ g.D.Disk.size l.fn.disk;
-  later : g.D.Disk.failures l.fn.disk ≤ g.D.Disk.failures l.disk;
+  fronts : (l.before ≤ l.place.front) × (l.place.front ≤ max l.before MAX_NUMBER);
+  done : g.D.Disk.failures l.disk ≡ g.D.Disk.failures l.fn.disk;
 }
 
 abbrev pub decreases-loop-batches : goal.decreases-loop-batches

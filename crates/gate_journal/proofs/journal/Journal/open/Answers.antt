@@ -6,11 +6,11 @@ use Rattle.gate_journal.proofs.Lists.{same_refusal}
 use Rattle.gate_journal.proofs.journal.Journal.open.Goals as goal
 
 pub returns-then-is_empty-clause-damaged : goal.returns-then-is_empty-clause-damaged
-returns-then-is_empty-clause-damaged g c = λ keeps is batches holds.
+returns-then-is_empty-clause-damaged g c = λ keeps is found holds.
     let part = c.args.part in
-    omega (arith, ap length holds.spelled, length-append (spellings batches) (holds.gate ∷ holds.rest), length-take part.len (drop part.start (g.D.Disk.gives c.args.disk.now)), c.if-is_empty.ensures.0 refl)
+    omega (arith, ap length holds.spelled, length-append (spellings found) (holds.gate ∷ holds.rest), length-take part.len (drop part.start (g.D.Disk.gives c.args.disk.now)), c.if-is_empty.ensures.0 refl)
 
-pub returns-in_err-place-clause-damaged : goal.returns-in_err-place-clause-damaged
-returns-in_err-place-clause-damaged g c = λ keeps is.
-    let told = same_refusal c.from_residual-in_err-place.result c.in_err-place.field-0.0 Damaged c.from_residual-in_err-place.ensures.1 is in
-    subst (λ (b : List ℕ). IsDamaged c.args.blocks c.args.front (inside c.args.part b)) (c.sync.ensures.gives keeps) (c.in_err-place.ensures.damaged keeps told)
+pub returns-in_err-batches-clause-damaged : goal.returns-in_err-batches-clause-damaged
+returns-in_err-batches-clause-damaged g c = λ keeps is.
+    let told = same_refusal c.from_residual-in_err-batches.result c.in_err-batches.field-0.0 Damaged c.from_residual-in_err-batches.ensures.1 is in
+    subst (λ (b : List ℕ). IsDamaged c.args.blocks c.args.front (inside c.args.part b)) (c.sync.ensures.gives keeps) (c.in_err-batches.ensures.damaged keeps told)

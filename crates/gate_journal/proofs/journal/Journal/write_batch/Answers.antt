@@ -1,12 +1,16 @@
-use Rattle.std.proofs.Common.{◌++◌, ◌∷◌, [], OnOk, length, subst}
+use Rattle.std.proofs.Common.{◌+◌, ◌≤◌, ◌++◌, ◌∷◌, [], OnOk, length, ap, subst, arith}
+use Rattle.std.proofs.lemmas.Result.{on_ok_weaker}
 use Rattle.gate_journal.proofs.Lists.{on_ok_both}
 use Rattle.disk_model.specs.Disk.{LeavesOnly}
 use Rattle.disk_model.specs.Frames.{touches_then}
 use Rattle.disk_model.specs.Moments.{then_run}
 use Rattle.disk_model.specs.Part.{inside, TouchesOnly}
 use Rattle.gate_journal.specs.Batch.{HoldsOldOrNew}
+use Rattle.disk_model.specs.declared.part.Part.{Part}
+use Rattle.gate_journal.specs.Reading.{Stands}
 use Rattle.gate_journal.specs.Journal.{State, IsSettled, IsSpelled, appended}
 use Rattle.gate_journal.proofs.Batches.{behind_gate, at_gate, settled_new}
+use Rattle.gate_journal.proofs.Standing.{length-inside, stands_before}
 use Rattle.gate_journal.proofs.journal.Journal.write_batch.Goals as goal
 
 pub returns-in_err-write_durably-clause-any_moment : goal.returns-in_err-write_durably-clause-any_moment
@@ -41,3 +45,21 @@ pub returns-clause-frame : goal.returns-clause-frame
 returns-clause-frame g c = λ keeps.
     subst (λ (s : State). TouchesOnly g.D.Disk.gives g.D.Disk.may_leave_now g.D.Disk.moment g.D.Disk.may_have_left_since s.part c.args.disk.now c.write_durably-2.new.disk) c.self.view_is
     (touches_then (c.write_durably.ensures.frame keeps) (c.write_durably-2.ensures.frame keeps))
+
+pub returns-clause-bytes : goal.returns-clause-bytes
+returns-clause-bytes g c = λ keeps.
+    let disk = g.D.Disk in
+    let i = c.self.inside in
+    let body = c.args.body.now in
+    let from = c.args.disk.now in
+    let mid = c.write_durably.new.disk in
+    let last = c.write_durably-2.new.disk in
+    let part_is = ap (λ (s : State). s.part) c.self.view_is in
+    let end_is = ap (λ (s : State). s.end) c.self.view_is in
+    let within : i.part.start + i.part.len ≤ disk.size from = omega (arith, c.requires.on_disk, ap (λ (p : Part). p.start) part_is, ap (λ (p : Part). p.len) part_is) in
+    let long = length-inside i.part (disk.gives from) (disk.size from) (g.met.D.Disk.gives_size keeps from) within in
+    let fits : i.end + 1 + length body ≤ length (inside i.part (disk.gives from)) = omega (arith, long, c.requires.fits, end_is, ap (λ (p : Part). p.len) part_is) in
+    subst (λ (s : State). OnOk c.write_durably-2.result (Stands (inside s.part (disk.gives last)) s.end (s.end + 1 + length body) (1 ∷ body))) c.self.view_is
+    (on_ok_weaker c.write_durably-2.result
+    (stands_before (inside i.part (disk.gives from)) (inside i.part (disk.gives mid)) (inside i.part (disk.gives last)) i.end (1 ∷ []) body fits (c.in_ok-write_durably.ensures.gives keeps))
+    (c.write_durably-2.ensures.gives keeps))

@@ -36,6 +36,6 @@ returns-in-Err-default-LastTicket-clause-taken g c =
     let m = c.args.self.now.member in
     let submit = c.in-Err-default-LastTicket.ensures in
     let last : 9223372036854775807 < (contents_of m).ticket = submit.last_ticket.0 c.in-Err-default-LastTicket.field-0-1-is in
-    running m.stopped (λ events. Tells (unsubmitted (Failed Io) c.args.token) old new events) (λ events. TakesWrite c.args.token c.args.write old new events) c.if-self.false
-    (no_ticket old (seen c.stop.new.self) new m c.submit.new.self c.args.token c.in-Err-default-LastTicket.token c.args.write submit.token last
+    running m.stopped (λ events. Tells (unsubmitted (Failed Io) c.args.token) old new events) (λ events. TakesWrite c.args.token (record { offset = c.args.offset; bytes = c.args.payload.items }) old new events) c.if-self.false
+    (no_ticket old (seen c.stop.new.self) new m c.submit.new.self c.args.token c.in-Err-default-LastTicket.token (record { offset = c.args.offset; bytes = c.args.payload.items }) submit.token last
     submit.fronts submit.err submit.waiting submit.kept submit.rest c.stop.ensures.stopped c.refuse-in-Err-default-LastTicket.ensures.told)

@@ -1,8 +1,8 @@
-use Rattle.std.proofs.Common.{◌≡◌, false, ◌++◌, ◌∷◌, [], refl, sym, ◌∙◌, ap}
+use Rattle.std.proofs.Common.{◌≡◌, false, ◌++◌, ◌∷◌, [], refl, sym, ◌∙◌, ap, rules}
 use Rattle.std.proofs.lemmas.Bool.{false≢true}
 use Rattle.volume.specs.Writes.{Placed}
 use Rattle.world_model.specs.Machine.{State, Taken}
-use Rattle.world_model.proofs.StepLemmas.{same_state, same_write, tried_take, tried_take_not}
+use Rattle.world_model.proofs.StepLemmas.{same_state, tried_take, tried_take_not}
 use Rattle.world_model.proofs.machine.Machine.take.Goals as goal
 
 pub returns-then-not-is_untaken-clause-step : goal.returns-then-not-is_untaken-clause-step
@@ -17,9 +17,7 @@ pub returns-clause-step : goal.returns-clause-step
 returns-clause-step c =
     let same_sent = c.deref.ensures.value ∙ ap (λ (s : State). s.sent) c.self.view_is in
     let same_taken = c.deref-2.ensures.value ∙ ap (λ (s : State). s.taken) c.self.view_is in
-    let bytes : c.in_ok-payload.payload.items ≡ c.in-Some-written.write.now.bytes = c.in_ok-payload.ensures.items_if_clones_equal (λ x y same. same) ∙ c.payload.ensures in
-    let same : c.new-write.result ≡ c.in-Some-written.write.now =
-    same_write _ _ (c.new-write.ensures.offset ∙ c.offset.ensures) (c.new-write.ensures.bytes ∙ bytes) in
+    let same : c.in_ok-write.write ≡ c.in-Some-written.write.now = search rules in
     let with_write : Placed → Taken = λ w. record { name = c.args.name; write = w; answered = false } in
     tried_take c.args.self.now c.args.name c.deref.result.now c.deref-2.result.now same_sent same_taken
     c.in-Some.asked.now c.request.result.now c.in-Some-written.write.now c.request.ensures (sym c.in-Some.ensures) (sym c.in-Some-written.ensures)

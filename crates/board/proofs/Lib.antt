@@ -1,0 +1,10 @@
+pub mod Beginning
+pub mod FloorLemmas
+pub mod Fronts
+pub mod Growth
+pub mod Keeping
+pub mod MaskLemmas
+pub mod Masks
+pub mod Reading
+pub mod Receipts
+pub mod Telling

@@ -1,0 +1,2 @@
+mod MemberLists
+mod Spellings

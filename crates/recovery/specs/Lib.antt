@@ -1,0 +1,3 @@
+pub mod Candidate
+pub mod Choice
+pub mod Refusal

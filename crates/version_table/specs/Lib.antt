@@ -1,0 +1,5 @@
+pub mod Held
+pub mod Laws
+pub mod Marks
+pub mod Refusal
+pub mod Table
