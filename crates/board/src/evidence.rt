@@ -3,7 +3,7 @@ ghost use Rattle.std.specs.Prelude.{◌≡◌, ◌≤◌};
 ghost use Rattle.board.specs.Mask.{counts};
 
 use crate::seat::Seat;
-use gate_journal::Slot;
+use gate_journal::{MAX_NUMBER, Slot};
 use std::marker::Model;
 use std::snapshot::Snapshot;
 
@@ -32,7 +32,7 @@ impl Model for Front {
 
 impl Front {
     /// The greatest front, 2^63 - 1.
-    pub const GREATEST: u64 = u64::MAX >> 1;
+    pub const GREATEST: u64 = MAX_NUMBER;
 
     /// The front with this number that the seat found.
     pub(crate) fn found(seat: &Seat, number: u64) -> Front

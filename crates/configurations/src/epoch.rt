@@ -1,5 +1,6 @@
 ghost use Rattle.std.specs.Prelude.{◌≡◌, ℕ, ◌^◌, ◌<◌, ◌↔◌, IsSome, IfSome};
 
+use gate_journal::MAX_NUMBER;
 use std::marker::Model;
 
 /// The number of a configuration, at most 2^63 - 1. Formatting begins with 1.
@@ -20,7 +21,7 @@ impl Model for Epoch {
 
 impl Epoch {
     /// The greatest number of an epoch.
-    pub const MAX: u64 = u64::MAX >> 1;
+    pub const MAX: u64 = MAX_NUMBER;
 
     /// The epoch with this number, or `None` above 2^63 - 1.
     pub fn new(number: u64) -> Option<Epoch>

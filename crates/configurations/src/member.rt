@@ -1,6 +1,6 @@
 ghost use Rattle.std.specs.Prelude.{◌≡◌, ℕ, ◌^◌, ◌<◌, ◌↔◌, IsSome, IfSome};
 
-use gate_journal::Slot;
+use gate_journal::{MAX_NUMBER, Slot};
 use std::marker::Model;
 
 /// Which of the disks that had a slot in turn is meant, at most 2^63 - 1: 1 for a disk that was formatted, and else
@@ -22,7 +22,7 @@ impl Model for Incarnation {
 
 impl Incarnation {
     /// The greatest number of an incarnation.
-    pub const MAX: u64 = u64::MAX >> 1;
+    pub const MAX: u64 = MAX_NUMBER;
 
     /// The incarnation with this number, or `None` above 2^63 - 1.
     pub fn new(number: u64) -> Option<Incarnation>
