@@ -150,10 +150,11 @@ fn opened(alloc: Global, area: u32, bytes: &[u8]) -> Result<Result<u64, Refusal>
     let mut disk = MemDisk::new(alloc, u64::from(area), Script::new(alloc))?;
     disk.write_at(0, &bytes[..bytes.len().min(area as usize)])?;
     let slot = Slot::new(0).ok_or("a slot")?;
-    match Journal::open(alloc, &mut disk, part, slot, 4, 6) {
-        Ok((journal, _)) => Ok(Ok(journal.front())),
-        Err(refusal) => Ok(Err(refusal)),
-    }
+    let (journal, _batches) = match Journal::open(alloc, &mut disk, part, slot, 4, 6) {
+        Ok(opened) => opened,
+        Err(refusal) => return Ok(Err(refusal)),
+    };
+    Ok(Ok(journal.front()))
 }
 
 // A first batch of the front 7 with block 1, and a second: its front, its count and its blocks; the area's length; and
