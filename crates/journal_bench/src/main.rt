@@ -18,7 +18,7 @@ use std::time::Instant;
 const HEAD: u64 = 13;
 
 /// The bytes of an image with its block's number.
-const RECORD: u64 = IMAGE_SIZE as u64 + 4;
+const IMAGE_RECORD: u64 = IMAGE_SIZE as u64 + 4;
 
 /// The images without a word.
 const FEW: u32 = 16;
@@ -48,7 +48,7 @@ fn main(rt: HostRuntime) -> anyhow::Result<()> {
 fn area_of(count: u32) -> u64
     ensures { result ≡ 4100 * count + 14 }
 {
-    HEAD + RECORD * u64::from(count) + 1
+    HEAD + IMAGE_RECORD * u64::from(count) + 1
 }
 
 /// A disk that is such an area.
@@ -72,7 +72,7 @@ fn write_images(disk: &mut MemDisk, count: u32) -> Result<(), DiskError>
     ensures { size_of disk.new ≡ size_of disk.old }
 {
     for index in 0..count {
-        let at = HEAD + RECORD * u64::from(index);
+        let at = HEAD + IMAGE_RECORD * u64::from(index);
         disk.write_at(at, &(count - 1 - index).to_be_bytes())?;
     }
     Ok(())
