@@ -1,2 +1,4 @@
 mod MemberLists
+mod Openings
 mod Spellings
+mod Stores

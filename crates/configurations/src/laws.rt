@@ -1,9 +1,19 @@
-//! A law of spellings, for callers that argue about bytes. The function does nothing.
+//! Laws of spellings and of what a part holds, for callers that argue about bytes. The functions do nothing.
 
-ghost use Rattle.std.specs.Prelude.{◌≡◌};
+ghost use Rattle.std.specs.Prelude.{◌≡◌, ℕ, List};
 ghost use Rattle.configurations.specs.Record.{IsRecord, Record, record_spelling};
+ghost use Rattle.configurations.specs.Store.{HoldsRecord};
+
+use gate_journal::pair_readings_are_one;
 
 /// No two records have one spelling.
 pub fn spellings_differ()
     ensures { (some other : Record) → IsRecord some → IsRecord other → record_spelling some ≡ record_spelling other → some ≡ other }
 {}
+
+/// The bytes of a pair hold one record at most.
+pub fn records_are_one()
+    ensures { (some other : Record) (bytes : List ℕ) → HoldsRecord some bytes → HoldsRecord other bytes → some ≡ other }
+{
+    pair_readings_are_one();
+}

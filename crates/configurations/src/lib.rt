@@ -1,7 +1,9 @@
-//! Configurations: which members a chain has, in which epoch, and the bytes that record it.
+//! Configurations: which members a chain has, in which epoch, and the bytes and the disk that record it.
 //!
 //! Its contract for the layers above: a record's bytes are one spelling, which no other record has, and what is read
-//! from bytes is exactly the record that they spell.
+//! from bytes is exactly the record that they spell. While a store is settled, a stop at any moment of a call leaves its
+//! part of the disk with the old record or the new; after Ok it is settled with the new one. `open` finds exactly the
+//! record that a part holds, of which there is one at most.
 //! When an epoch ends, and who is told, is left to those layers.
 #![tactic(auto)]
 
@@ -11,12 +13,16 @@ mod member;
 mod reading;
 mod record;
 mod refusal;
+mod store;
 
 pub use epoch::Epoch;
-pub use laws::spellings_differ;
+pub use laws::{records_are_one, spellings_differ};
 pub use member::{Incarnation, Member};
 pub use record::{MAX_MEMBERS, Record};
 pub use refusal::Refusal;
+pub use store::ConfigStore;
 
+#[cfg(test)]
+mod store_tests;
 #[cfg(test)]
 mod tests;

@@ -13,7 +13,7 @@ fn member(slot: u8, incarnation: u64) -> Result<Member, Fail> {
 }
 
 // The record of an epoch and of members by their numbers.
-fn record(alloc: Global, epoch: u64, chain: &[(u8, u64)]) -> Result<Record, Fail> {
+pub(crate) fn record(alloc: Global, epoch: u64, chain: &[(u8, u64)]) -> Result<Record, Fail> {
     let mut members = Vec::new(alloc);
     for (slot, incarnation) in chain {
         members.push(member(*slot, *incarnation)?)?;
@@ -91,7 +91,7 @@ fn bad_members(rt: HostRuntime) -> Result<(), Fail> {
             Refusal::BadMembers.number(),
             Refusal::BadMembers.to_string(alloc)?.as_str()
         ),
-        (163, "163 BadMembers")
+        (Some(163), "163 BadMembers")
     );
     assert_eq!(rt;
         (Epoch::new(1 << 63), Incarnation::new(1 << 63)),

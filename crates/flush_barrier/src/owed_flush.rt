@@ -2,12 +2,12 @@ ghost use Rattle.std.specs.Prelude.{◌≡◌, ◌≤◌, ◌↔◌, [], Some, N
 ghost use Rattle.flush_barrier.specs.Owed.{OwedAt};
 ghost use Rattle.flush_barrier.specs.Reply.{Answers};
 
-use crate::board::Board;
+use crate::board_name::BoardName;
+use crate::debt::Debt;
 use crate::error_code::ErrorCode;
-use crate::evidence::Front;
-use crate::floor::Floor;
 use crate::reply::Reply;
 use crate::session_id::SessionId;
+use board::{Floor, Front};
 use std::alloc::Global;
 use std::marker::Model;
 
@@ -15,8 +15,7 @@ use std::marker::Model;
 #[must_use]
 #[derive(Debug)]
 pub struct OwedFlush {
-    session: SessionId,
-    cookie: u64,
+    debt: Debt,
     number: Option<u64>,
 }
 
@@ -24,22 +23,23 @@ impl Model for OwedFlush {
     ghost Value = { OwedAt };
 
     ghost view = { λ token. record {
-      session = token.session;
-      cookie = token.cookie;
+      session = token.debt.session;
+      cookie = token.debt.cookie;
+      board = token.debt.board;
       number = token.number;
     } };
 }
 
 impl OwedFlush {
     /// The token of a FLUSH that came by this session, at a member of the board's chain.
-    pub fn new(_board: &Board, session: SessionId, cookie: u64) -> OwedFlush
+    pub fn new(board: &BoardName, session: SessionId, cookie: u64) -> OwedFlush
         ensures session { result.session ≡ session }
         ensures cookie { result.cookie ≡ cookie }
+        ensures board { result.board ≡ board.now }
         ensures number { result.number ≡ None }
     {
         OwedFlush {
-            session,
-            cookie,
+            debt: Debt::new(board, session, cookie),
             number: None,
         }
     }
@@ -48,21 +48,22 @@ impl OwedFlush {
     pub fn session(&self) -> SessionId
         ensures { result ≡ self.now.session }
     {
-        self.session
+        self.debt.session()
     }
 
     /// The request's cookie.
     pub fn cookie(&self) -> u64
         ensures { result ≡ self.now.cookie }
     {
-        self.cookie
+        self.debt.cookie()
     }
 
-    /// Binds the token to a front, once: the first that was looked up after its request was taken, which is the caller's to
-    /// know.
+    /// Binds the token to a front of its board, once: the first that was looked up after its request was taken, which is the
+    /// caller's to know.
     pub fn bind(&mut self, front: &Front)
-        requires { IsNone self.old.number }
-        ensures { self.new ≡ record self.old { number = Some front.now } }
+        requires of_board { front.now.board ≡ self.old.board }
+        requires unbound { IsNone self.old.number }
+        ensures { self.new ≡ record self.old { number = Some front.now.number } }
     {
         self.number = Some(front.number());
     }
@@ -74,52 +75,41 @@ impl OwedFlush {
         self.number
     }
 
-    /// Whether the number is known and the floor reaches it, so that `settle` may be called.
+    /// Whether the number is known and the floor reaches it, so that the token may be settled by it, where it is a floor of
+    /// the token's board.
     pub fn is_paid_by(&self, floor: &Floor) -> bool
-        ensures { IsTrue result ↔ IsSomeAnd self.now.number (λ n. n ≤ floor.now) }
+        ensures { IsTrue result ↔ IsSomeAnd self.now.number (λ n. n ≤ floor.now.front) }
     {
         self.numbered().is_some_and(|n| n <= floor.front())
     }
 
-    /// The reply that the writes up to the number are on every disk that counts. The allocator only
-    /// makes the empty payload.
+    /// The reply that the writes up to the number are on every disk that counts. The allocator only makes the empty payload.
     pub fn settle(self, alloc: Global, floor: &Floor) -> Reply
-        requires { IsSomeAnd self.number (λ n. n ≤ floor.now) }
+        requires of_board { floor.now.board ≡ self.board }
+        requires paid { IsSomeAnd self.number (λ n. n ≤ floor.now.front) }
         ensures { Answers self.session self.cookie None [] result }
     {
-        self.into_reply(None, Vec::new(alloc))
+        let _by = floor;
+        self.into_debt().into_reply(None, Vec::new(alloc))
     }
 
     /// The reply that refuses the request. The allocator only makes the empty payload.
     pub fn refuse(self, alloc: Global, code: ErrorCode) -> Reply
         ensures { Answers self.session self.cookie (Some code) [] result }
     {
-        self.into_reply(Some(code), Vec::new(alloc))
+        self.into_debt().into_reply(Some(code), Vec::new(alloc))
     }
 
     /// Ends the token without a reply, since its session is gone.
     pub fn abandon(self) {
-        let OwedFlush {
-            session: _,
-            cookie: _,
-            number: _,
-        } = self;
+        self.into_debt().abandon();
     }
 
-    /// The one reply of the token.
-    fn into_reply(self, error: Option<ErrorCode>, payload: Vec<u8>) -> Reply
-        ensures { Answers self.session self.cookie error payload.items result }
+    /// What the token owes, whatever its number.
+    fn into_debt(self) -> Debt
+        ensures { result ≡ record { session = self.session; cookie = self.cookie; board = self.board } }
     {
-        let OwedFlush {
-            session,
-            cookie,
-            number: _,
-        } = self;
-        Reply {
-            session,
-            cookie,
-            error,
-            payload,
-        }
+        let OwedFlush { debt, number: _ } = self;
+        debt
     }
 }

@@ -2,21 +2,20 @@ ghost use Rattle.std.specs.Prelude.{◌≡◌, ◌≤◌, ◌↔◌, [], Some, N
 ghost use Rattle.flush_barrier.specs.Owed.{OwedAt};
 ghost use Rattle.flush_barrier.specs.Reply.{Answers};
 
-use crate::board::Board;
+use crate::board_name::BoardName;
+use crate::debt::Debt;
 use crate::error_code::ErrorCode;
-use crate::floor::Floor;
 use crate::reply::Reply;
 use crate::session_id::SessionId;
+use board::Floor;
 use std::alloc::Global;
 use std::marker::Model;
 
-/// The reply that is owed to a WRITE with FUA. It has no `Drop`: it is settled, refused or
-/// abandoned, once.
+/// The reply that is owed to a WRITE with FUA. It has no `Drop`: it is settled, refused or abandoned, once.
 #[must_use]
 #[derive(Debug)]
 pub struct OwedFua {
-    session: SessionId,
-    cookie: u64,
+    debt: Debt,
     number: Option<u64>,
 }
 
@@ -24,22 +23,23 @@ impl Model for OwedFua {
     ghost Value = { OwedAt };
 
     ghost view = { λ token. record {
-      session = token.session;
-      cookie = token.cookie;
+      session = token.debt.session;
+      cookie = token.debt.cookie;
+      board = token.debt.board;
       number = token.number;
     } };
 }
 
 impl OwedFua {
     /// The token of a WRITE with FUA that came by this session, at a member of the board's chain.
-    pub fn new(_board: &Board, session: SessionId, cookie: u64) -> OwedFua
+    pub fn new(board: &BoardName, session: SessionId, cookie: u64) -> OwedFua
         ensures session { result.session ≡ session }
         ensures cookie { result.cookie ≡ cookie }
+        ensures board { result.board ≡ board.now }
         ensures number { result.number ≡ None }
     {
         OwedFua {
-            session,
-            cookie,
+            debt: Debt::new(board, session, cookie),
             number: None,
         }
     }
@@ -48,14 +48,14 @@ impl OwedFua {
     pub fn session(&self) -> SessionId
         ensures { result ≡ self.now.session }
     {
-        self.session
+        self.debt.session()
     }
 
     /// The request's cookie.
     pub fn cookie(&self) -> u64
         ensures { result ≡ self.now.cookie }
     {
-        self.cookie
+        self.debt.cookie()
     }
 
     /// Binds the token to the number of its write, once.
@@ -73,52 +73,41 @@ impl OwedFua {
         self.number
     }
 
-    /// Whether the number is known and the floor reaches it, so that `settle` may be called.
+    /// Whether the number is known and the floor reaches it, so that the token may be settled by it, where it is a floor of
+    /// the token's board.
     pub fn is_paid_by(&self, floor: &Floor) -> bool
-        ensures { IsTrue result ↔ IsSomeAnd self.now.number (λ n. n ≤ floor.now) }
+        ensures { IsTrue result ↔ IsSomeAnd self.now.number (λ n. n ≤ floor.now.front) }
     {
         self.numbered().is_some_and(|n| n <= floor.front())
     }
 
-    /// The reply that the write is on every disk that counts. The allocator only makes the empty
-    /// payload.
+    /// The reply that the write is on every disk that counts. The allocator only makes the empty payload.
     pub fn settle(self, alloc: Global, floor: &Floor) -> Reply
-        requires { IsSomeAnd self.number (λ n. n ≤ floor.now) }
+        requires of_board { floor.now.board ≡ self.board }
+        requires paid { IsSomeAnd self.number (λ n. n ≤ floor.now.front) }
         ensures { Answers self.session self.cookie None [] result }
     {
-        self.into_reply(None, Vec::new(alloc))
+        let _by = floor;
+        self.into_debt().into_reply(None, Vec::new(alloc))
     }
 
     /// The reply that refuses the request. The allocator only makes the empty payload.
     pub fn refuse(self, alloc: Global, code: ErrorCode) -> Reply
         ensures { Answers self.session self.cookie (Some code) [] result }
     {
-        self.into_reply(Some(code), Vec::new(alloc))
+        self.into_debt().into_reply(Some(code), Vec::new(alloc))
     }
 
     /// Ends the token without a reply, since its session is gone.
     pub fn abandon(self) {
-        let OwedFua {
-            session: _,
-            cookie: _,
-            number: _,
-        } = self;
+        self.into_debt().abandon();
     }
 
-    /// The one reply of the token.
-    fn into_reply(self, error: Option<ErrorCode>, payload: Vec<u8>) -> Reply
-        ensures { Answers self.session self.cookie error payload.items result }
+    /// What the token owes, whatever its number.
+    fn into_debt(self) -> Debt
+        ensures { result ≡ record { session = self.session; cookie = self.cookie; board = self.board } }
     {
-        let OwedFua {
-            session,
-            cookie,
-            number: _,
-        } = self;
-        Reply {
-            session,
-            cookie,
-            error,
-            payload,
-        }
+        let OwedFua { debt, number: _ } = self;
+        debt
     }
 }

@@ -2,7 +2,8 @@ ghost use Rattle.std.specs.Prelude.{◌≡◌, [], Some, None};
 ghost use Rattle.flush_barrier.specs.Owed.{Owed};
 ghost use Rattle.flush_barrier.specs.Reply.{Answers};
 
-use crate::board::Board;
+use crate::board_name::BoardName;
+use crate::debt::Debt;
 use crate::error_code::ErrorCode;
 use crate::reply::Reply;
 use crate::session_id::SessionId;
@@ -13,71 +14,65 @@ use std::marker::Model;
 #[must_use]
 #[derive(Debug)]
 pub struct OwedRead {
-    session: SessionId,
-    cookie: u64,
+    debt: Debt,
 }
 
 impl Model for OwedRead {
     ghost Value = { Owed };
 
-    ghost view = { λ token. record { session = token.session; cookie = token.cookie } };
+    ghost view = { λ token. token.debt };
 }
 
 impl OwedRead {
     /// The token of a READ that came by this session, at a member of the board's chain.
-    pub fn new(_board: &Board, session: SessionId, cookie: u64) -> OwedRead
+    pub fn new(board: &BoardName, session: SessionId, cookie: u64) -> OwedRead
         ensures session { result.session ≡ session }
         ensures cookie { result.cookie ≡ cookie }
+        ensures board { result.board ≡ board.now }
     {
-        OwedRead { session, cookie }
+        OwedRead {
+            debt: Debt::new(board, session, cookie),
+        }
     }
 
     /// The session that the request came by.
     pub fn session(&self) -> SessionId
         ensures { result ≡ self.now.session }
     {
-        self.session
+        self.debt.session()
     }
 
     /// The request's cookie.
     pub fn cookie(&self) -> u64
         ensures { result ≡ self.now.cookie }
     {
-        self.cookie
+        self.debt.cookie()
     }
 
     /// The reply with the bytes that were read.
     pub fn settle(self, payload: Vec<u8>) -> Reply
         ensures { Answers self.session self.cookie None payload.items result }
     {
-        self.into_reply(None, payload)
+        self.into_debt().into_reply(None, payload)
     }
 
     /// The reply that refuses the request. The allocator only makes the empty payload.
     pub fn refuse(self, alloc: Global, code: ErrorCode) -> Reply
         ensures { Answers self.session self.cookie (Some code) [] result }
     {
-        self.into_reply(Some(code), Vec::new(alloc))
+        self.into_debt().into_reply(Some(code), Vec::new(alloc))
     }
 
     /// Ends the token without a reply, since its session is gone.
     pub fn abandon(self) {
-        let OwedRead {
-            session: _,
-            cookie: _,
-        } = self;
+        self.into_debt().abandon();
     }
 
-    /// The one reply of the token.
-    fn into_reply(self, error: Option<ErrorCode>, payload: Vec<u8>) -> Reply
-        ensures { Answers self.session self.cookie error payload.items result }
+    /// What the token owes.
+    fn into_debt(self) -> Debt
+        ensures { result ≡ self }
     {
-        let OwedRead { session, cookie } = self;
-        Reply {
-            session,
-            cookie,
-            error,
-            payload,
-        }
+        let OwedRead { debt } = self;
+        debt
     }
 }

@@ -1,5 +1,6 @@
 -- What a demand asks of the volume, and whose reply it owes.
 use Rattle.std.specs.Prelude.{◌≡◌, ℕ, ◌+◌, ◌<◌, ◌≤◌, None, List, length, ⊤}
+use Rattle.board.specs.Seats.{BoardId}
 use Rattle.flush_barrier.specs.declared.session_id.SessionId.{SessionId}
 use Rattle.nbd_session.specs.declared.demand.Demand.{Demand}
 use Rattle.nbd_session.specs.declared.demand.Demand.TheVariants as demands
@@ -62,6 +63,12 @@ abbrev pub session_of : Demand → SessionId
 session_of (demands.Read token offset len) = token.session
 session_of (demands.Write token offset payload) = token.session
 session_of (demands.Fua token offset payload) = token.session
+
+-- the board whose chain owes the reply
+abbrev pub board_of : Demand → BoardId
+board_of (demands.Read token offset len) = token.board
+board_of (demands.Write token offset payload) = token.board
+board_of (demands.Fua token offset payload) = token.board
 
 -- the range has at least one byte, and lies inside a volume of this size
 abbrev pub IsInside : ℕ → Demand → Type 0

@@ -2,7 +2,7 @@
 use Rattle.std.specs.Prelude.{ℕ, ◌-◌, Bool, false, nat_lt, Option, Some, None, List, ◌++◌, if◌then◌else◌}
 use Rattle.flush_barrier.specs.declared.error_code.ErrorCode.{ErrorCode}
 use Rattle.flush_barrier.specs.declared.error_code.ErrorCode.TheVariants.{Io, NoMemory}
-use Rattle.flush_barrier.specs.declared.reply.Reply.{Reply}
+use Rattle.flush_barrier.specs.Reply.{GivenReply}
 use Rattle.nbd_codec.specs.declared.replies.NbdError.{NbdError}
 use Rattle.nbd_codec.specs.declared.replies.NbdError.TheVariants as errors
 use Rattle.nbd_codec.specs.Reply.{PlainReply, Done, Refused, spelling}
@@ -26,8 +26,8 @@ seen_with cookie bytes None = Done cookie bytes
 seen_with cookie bytes (Some code) = Refused cookie (error_of code)
 
 -- the reply to a demand on the wire
-abbrev pub reply_seen : Reply → PlainReply
-reply_seen reply = seen_with reply.cookie reply.payload.items reply.error
+abbrev pub reply_seen : GivenReply → PlainReply
+reply_seen reply = seen_with reply.cookie reply.payload reply.error
 
 -- a reply is owed, and goes out: the session hasn't ended
 abbrev pub is_owed : Phase → ℕ → Bool

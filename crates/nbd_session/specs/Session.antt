@@ -1,6 +1,7 @@
 -- What contracts see of a session, and how it goes through its input.
 use Rattle.std.specs.Prelude.{◌≡◌, ◌⊎◌, ℕ, ◌+◌, ◌-◌, suc, zero, Bool, true, false, Option, Some, None, List, [], ◌++◌, drop, length, nat_lt, if◌then◌else◌}
 use Rattle.std.specs.Option.{option_to_list}
+use Rattle.board.specs.Seats.{BoardId}
 use Rattle.flush_barrier.specs.declared.session_id.SessionId.{SessionId}
 use Rattle.nbd_session.specs.declared.session.TheConstants.{LIMIT_IN_FLIGHT}
 use Rattle.nbd_session.specs.declared.negotiation.Export.{Export}
@@ -8,9 +9,10 @@ use Rattle.nbd_session.specs.declared.phase.Phase.{Phase}
 use Rattle.nbd_session.specs.Demand.{Asked}
 use Rattle.nbd_session.specs.Turn.{Turned, is_over, phase_after, turn_in}
 
--- a session at an export: how far it has come, how many of its demands are owed a reply, the input that it hasn't
+-- a session of a board's chain, at an export: how far it has come, how many of its demands are owed a reply, the input that it hasn't
 -- taken, and the bytes that wait to go out
 pub record State : Type 0 where
+  pub board : BoardId
   pub id : SessionId
   pub export : Export
   pub phase : Phase
@@ -114,6 +116,7 @@ taken_from session taken asked = record {
 
 -- more waits to go out, and nothing else changed but the phase
 pub record Grows (old new : State) : Type 0 where
+  pub board : new.board ≡ old.board
   pub id : new.id ≡ old.id
   pub export : new.export ≡ old.export
   pub in_flight : new.in_flight ≡ old.in_flight

@@ -1,6 +1,6 @@
 ghost use Rattle.std.specs.Prelude.{◌≡◌};
 
-use flush_barrier::{Board, OwedFua, OwedRead, OwedWrite, SessionId};
+use flush_barrier::{BoardName, OwedFua, OwedRead, OwedWrite, SessionId};
 
 /// A request of the volume, with the token of the reply that is owed to it. It has no `Drop`: the token is settled,
 /// refused or abandoned.
@@ -46,12 +46,13 @@ pub(crate) enum WantedKind {
 }
 
 impl Wanted {
-    ghost use Rattle.nbd_session.specs.Demand.{IsUnnumbered, asked_by, session_of, wanted_view};
+    ghost use Rattle.nbd_session.specs.Demand.{IsUnnumbered, asked_by, board_of, session_of, wanted_view};
 
     /// The demand, with a token of the board.
-    pub(crate) fn into_demand(self, board: &Board, session: SessionId) -> Demand
+    pub(crate) fn into_demand(self, board: &BoardName, session: SessionId) -> Demand
         ensures asked { asked_by result ≡ wanted_view self }
         ensures session { session_of result ≡ session }
+        ensures board { board_of result ≡ board.now }
         ensures unnumbered { IsUnnumbered result }
     {
         let Wanted {

@@ -2,8 +2,8 @@
 //!
 //! Its contract for the layer above: in whatever pieces a client's text comes, the session asks of the volume and puts
 //! out the same, and what it puts out is lawful by Negotiation and Transcript for all that came in. Demands lie inside
-//! the volume and carry tokens of their session; every other request is answered here; a refused call leaves the session
-//! as it was. What becomes of a demand is left to the layer above, which hands the token's reply back.
+//! the volume and carry tokens of their session and its board; every other request is answered here; a refused call leaves
+//! the session as it was. What becomes of a demand is left to the layer above, which hands the token's reply back.
 #![tactic(auto)]
 
 mod demand;

@@ -2,7 +2,7 @@ ghost use Rattle.std.specs.Prelude.{◌≡◌, ◌+◌, ◌<◌, ◌≤◌, ◌�
 ghost use Rattle.std.specs.Option.{option_to_list};
 ghost use Rattle.nbd_codec.specs.Handshake.{greeting_spelling};
 ghost use Rattle.nbd_codec.specs.Reply.{spelling, reply_view};
-ghost use Rattle.nbd_session.specs.Demand.{IsUnnumbered, IsAskedInside, IsInside, asked_by, session_of, wanted_view};
+ghost use Rattle.nbd_session.specs.Demand.{IsUnnumbered, IsAskedInside, IsInside, asked_by, board_of, session_of, wanted_view};
 ghost use Rattle.nbd_session.specs.Lawful.{History, NeedsMore, Stands, fed_and_asked, handed_out, most_kept, nothing, replied};
 ghost use Rattle.nbd_session.specs.Replies.{answered, error_of, reply_seen};
 ghost use Rattle.nbd_session.specs.Session.{Feeds, Settles};
@@ -16,7 +16,8 @@ use crate::phase::Phase;
 use crate::refusal::Refusal;
 use crate::transmission::request_turn;
 use crate::turn::Turn;
-use flush_barrier::{Board, ErrorCode, Reply, SessionId};
+use board::Board;
+use flush_barrier::{BoardName, ErrorCode, Reply, SessionId};
 use nbd_codec::{NbdError, SimpleReply, greeting, write_reply};
 use std::alloc::{AllocError, Global};
 use std::marker::Model;
@@ -29,6 +30,7 @@ pub const LIMIT_IN_FLIGHT: usize = 1;
 #[derive(Debug, Drop)]
 pub struct Session {
     alloc: Global,
+    board: BoardName,
     id: SessionId,
     export: Export,
     phase: Phase,
@@ -45,7 +47,7 @@ impl Model for Session {
 
     ghost Value = { State };
 
-    ghost view = { λ s. record { id = s.id; export = s.export; phase = s.phase; in_flight = s.in_flight; kept = s.kept.items; output = s.output.items } };
+    ghost view = { λ s. record { board = s.board; id = s.id; export = s.export; phase = s.phase; in_flight = s.in_flight; kept = s.kept.items; output = s.output.items } };
 
     ghost invariant = { λ s. (s.in_flight ≤ 1) × IsPhase s.phase × AreBytes s.kept.items };
 }
@@ -53,19 +55,21 @@ impl Model for Session {
 impl Session {
     ghost use Rattle.nbd_session.specs.Session.{Grows, Reaches, State, course_of, left_to_take, limit_in_flight, step, taken_from};
 
-    /// A session at an export of `size` bytes that takes payloads of up to `max_payload` bytes. The greeting waits to
-    /// go out.
+    /// A session at a member of the board's chain, with an export of `size` bytes that takes payloads of up to
+    /// `max_payload` bytes. The greeting waits to go out.
     pub fn new(
         alloc: Global,
+        board: &Board,
         id: SessionId,
         size: u64,
         max_payload: u32,
     ) -> Result<Session, AllocError>
-        ensures session { IfOk result (λ s. s ≡ record { id = id; export = record { size = size; max_payload = max_payload }; phase = Greeted; in_flight = 0; kept = []; output = greeting_spelling }) }
+        ensures session { IfOk result (λ s. s ≡ record { board = board.now; id = id; export = record { size = size; max_payload = max_payload }; phase = Greeted; in_flight = 0; kept = []; output = greeting_spelling }) }
         ensures lawful { IfOk result (λ s. Stands s nothing) }
     {
         Ok(Session {
             alloc,
+            board: BoardName::of(board),
             id,
             export: Export { size, max_payload },
             phase: Phase::Greeted,
@@ -76,11 +80,11 @@ impl Session {
     }
 
     /// Takes the next piece of the client's bytes, and goes on with what was kept: answers the demands that are whole
-    /// now, up to the limit in flight, with tokens of the board. Further input is kept.
+    /// now, up to the limit in flight, with tokens of its board. Further input is kept.
     ///
     /// 100 `Memory`: nothing of the piece was taken, and no token was made. 201 `SessionOver`: the session takes no
     /// more input. Either leaves the session as it was.
-    pub fn feed(&mut self, board: &Board, piece: &[u8]) -> Result<Vec<Demand>, Refusal>
+    pub fn feed(&mut self, piece: &[u8]) -> Result<Vec<Demand>, Refusal>
         ensures over { IsErrOf result Refusal.SessionOver ↔ (is_over self.old.phase ≡ true) }
         ensures err { OnErr result (self.new ≡ self.old) }
         ensures feeds { IfOk result (λ demands. Feeds self.old piece.now self.new (map asked_by demands.items)) }
@@ -93,8 +97,10 @@ impl Session {
         ensures reaches { IfOk result (λ demands. Reaches self.old piece.now self.new (map asked_by demands.items)) }
         ensures export { self.new.export ≡ self.old.export }
         ensures id { self.new.id ≡ self.old.id }
+        ensures board { self.new.board ≡ self.old.board }
         ensures inside { IfOk result (λ demands. All (IsInside self.old.export.size) demands.items) }
         ensures whose { IfOk result (λ demands. All (λ demand. session_of demand ≡ self.old.id) demands.items) }
+        ensures of_board { IfOk result (λ demands. All (λ demand. board_of demand ≡ self.old.board) demands.items) }
         ensures unnumbered { IfOk result (λ demands. All IsUnnumbered demands.items) }
         ensures in_flight { IfOk result (λ demands. self.new.in_flight ≡ self.old.in_flight + length demands.items) }
         ensures limit { self.new.in_flight ≤ LIMIT_IN_FLIGHT }
@@ -106,7 +112,7 @@ impl Session {
         requests_are_held();
         let mut demands = Vec::with_capacity(self.alloc, LIMIT_IN_FLIGHT)?;
         match self.take(piece) {
-            Ok(Some(wanted)) => demands.push_reserved(wanted.into_demand(board, self.id)),
+            Ok(Some(wanted)) => demands.push_reserved(wanted.into_demand(&self.board, self.id)),
             Ok(None) => {}
             Err(error) => {
                 demands.destroy_empty();
@@ -127,9 +133,10 @@ impl Session {
         ensures over { self.old.phase ≡ Over → IsOk result }
         ensures export { self.new.export ≡ self.old.export }
         ensures id { self.new.id ≡ self.old.id }
+        ensures board { self.new.board ≡ self.old.board }
     {
-        if self.phase != Phase::Over && self.in_flight > 0 {
-            self.put_out_reply(reply)?;
+        if self.phase != Phase::Over && self.in_flight > 0 && self.put_out_reply(&reply).is_err() {
+            return Err(reply);
         }
         self.in_flight = self.in_flight.saturating_sub(1);
         self.end_if_left();
@@ -174,6 +181,7 @@ impl Session {
         ensures feeds { IfOk result (λ wanted. Feeds self.old piece.now self.new (option_to_list (asked_view wanted))) }
         ensures export { self.new.export ≡ self.old.export }
         ensures id { self.new.id ≡ self.old.id }
+        ensures board { self.new.board ≡ self.old.board }
         ensures inside { IfOk result (λ wanted. IfSome wanted (λ w. IsAskedInside self.old.export.size (wanted_view w))) }
         ensures in_flight { IfOk result (λ wanted. self.new.in_flight ≡ self.old.in_flight + length (option_to_list wanted)) }
     {
@@ -270,41 +278,25 @@ impl Session {
         }
     }
 
-    /// Puts a reply to a demand out. Where memory runs out, it comes back and all is as it was.
-    fn put_out_reply(&mut self, reply: Reply) -> Result<(), Reply>
-        ensures ok { OnOk result (self.new ≡ record self.old { output = self.old.output ++ spelling (reply_seen reply) }) }
-        ensures back { IfErr result (λ r. r ≡ reply) }
+    /// Puts a reply to a demand out, or leaves all as it was: first what the client reads of it without a payload, and
+    /// behind that the bytes.
+    fn put_out_reply(&mut self, reply: &Reply) -> Result<(), AllocError>
+        ensures ok { OnOk result (self.new ≡ record self.old { output = self.old.output ++ spelling (reply_seen reply.now) }) }
         ensures err { OnErr result (self.new ≡ self.old) }
     {
-        let Reply {
-            session,
-            cookie,
-            error,
-            payload,
-        } = reply;
-        let (outcome, dropped) = match error {
-            None => (Ok(payload), Vec::new(self.alloc)),
-            Some(code) => (Err(nbd_error(code)), payload),
+        let (outcome, payload) = match reply.error() {
+            None => (Ok(Vec::new(self.alloc)), reply.payload()),
+            Some(code) => (Err(nbd_error(code)), b"".as_slice()),
         };
-        let simple = SimpleReply { cookie, outcome };
-        if self.put_out(&simple).is_ok() {
-            return Ok(());
+        let cookie = reply.cookie();
+        let head = write_reply(self.alloc, &SimpleReply { cookie, outcome })?;
+        let before = self.output.len();
+        self.output.extend_from_slice(&head)?;
+        let put = self.output.extend_from_slice(payload);
+        if put.is_err() {
+            self.output.truncate(before);
         }
-        Err(Reply {
-            session,
-            cookie,
-            error,
-            payload: simple.outcome.unwrap_or(dropped),
-        })
-    }
-
-    /// Puts a reply out, or leaves all as it was.
-    fn put_out(&mut self, reply: &SimpleReply) -> Result<(), AllocError>
-        ensures ok { OnOk result (self.new ≡ record self.old { output = self.old.output ++ spelling (reply_view reply.now) }) }
-        ensures err { OnErr result (self.new ≡ self.old) }
-    {
-        let bytes = write_reply(self.alloc, reply)?;
-        self.output.extend_from_slice(&bytes)
+        put
     }
 
     /// A session that its client left ends once no reply is owed.

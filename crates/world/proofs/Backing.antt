@@ -3,9 +3,8 @@ use Rattle.std.proofs.Common.{◌≡◌, ◌⊎◌, ℕ, zero, suc, ◌+◌, ◌
 use Rattle.std.specs.Prelude.{slice_index, slice_set}
 use Rattle.std.proofs.lemmas.List.{length-set}
 use Rattle.std.proofs.lemmas.Option.{same_Some}
-use Rattle.flush_barrier.specs.Board.{FoundGauge, Words, gauge_in, posted}
-use Rattle.flush_barrier.specs.Floor.{least_of}
-use Rattle.flush_barrier.specs.Mask.{counts, slots_below}
+use Rattle.world.specs.LoneBoard.{FoundGauge, Words, gauge_in, least_of, posted}
+use Rattle.board.specs.Mask.{counts, slots_below}
 use Rattle.gate_journal.specs.Receipt.{Receipt}
 use Rattle.world.specs.OneVolume.{IsBacked, IsBackedCrew}
 use Rattle.world.specs.Seen.{SeenMuster}

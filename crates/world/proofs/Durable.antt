@@ -103,7 +103,7 @@ demand_goes (demands.Write token offset payload) old mid new events goes takes =
 demand_goes (demands.Fua token offset payload) old mid new events goes takes = write_goes (tokens.Fua token) (record { offset = offset; bytes = payload.items }) old mid new events goes takes
 
 pub does_goes : (step : Step) (old new : Seen) (events : List ClientEvent) → ends_commit step ≡ false → IsOrdered old → Does old step new events → GoesOn old new
-does_goes (steps.Connect id slot) old new events other ordered (is, unseen) = is_then old _ new is (as_it_was old _ refl refl refl refl (λ now. now))
+does_goes (steps.Connect id slot) old new events other ordered (board, is, unseen) = is_then old _ new is (as_it_was old _ refl refl refl refl (λ now. now))
 does_goes (steps.Bytes id piece) old new events other ordered (at, made, clients, place, feeds, is) = is_then old _ new is (as_it_was old _ refl refl refl refl (λ now. now))
 does_goes (steps.End id) old new events other ordered (at, clients, place, changes, is, unseen) = is_then old _ new is (as_it_was old _ refl refl refl refl (λ now. now))
 does_goes (steps.Take slot) old new events other ordered (d, rest, is, takes) = go old.member.stopped takes

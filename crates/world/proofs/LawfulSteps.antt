@@ -3,7 +3,8 @@ use Rattle.std.proofs.Common.{◌≡◌, ◌⊎◌, ℕ, Bool, true, false, eqb,
 use Rattle.std.specs.Prelude.{◌≢◌, ◌==◌, if◌then◌else◌, MatchBool, nat_lt, take_while}
 use Rattle.std.specs.List.{insert}
 use Rattle.std.proofs.lemmas.Bool.{cond-true, cond-false, eq-eqb, ne_eqb}
-use Rattle.flush_barrier.specs.Floor.{least_of}
+use Rattle.world.specs.LoneBoard.{least_of}
+use Rattle.board.specs.Seats.{BoardId}
 use Rattle.flush_barrier.specs.declared.error_code.ErrorCode.TheVariants.{Io, NoMemory}
 use Rattle.flush_barrier.specs.declared.session_id.SessionId.{SessionId}
 use Rattle.nbd_session.specs.Demand.{Asked, asked_by}
@@ -32,17 +33,17 @@ use Rattle.world_model.specs.View.{sent_event}
 
 -- ---- clients
 
-connected_goes : (id : SessionId) (size max_payload : ℕ) (h : History) → h ≡ nothing → Goes (connected id size max_payload).session h
-connected_goes id size max_payload h none =
-    let first : Goes (connected id size max_payload).session nothing = inl (refl, refl, record { asked = refl; replies = refl; none_owed = refl }) in
-    subst (Goes (connected id size max_payload).session) (sym none) first
+connected_goes : (board : BoardId) (id : SessionId) (size max_payload : ℕ) (h : History) → h ≡ nothing → Goes (connected board id size max_payload).session h
+connected_goes board id size max_payload h none =
+    let first : Goes (connected board id size max_payload).session nothing = inl (refl, refl, record { asked = refl; replies = refl; none_owed = refl }) in
+    subst (Goes (connected board id size max_payload).session) (sym none) first
 
 connects_go : (id : SessionId) (old new : Seen) (events : List ClientEvent) (h : SessionId → History) → place_of id old.clients ≡ None → Connects id old new events → Go old.clients h → Tell new.clients h events
-connects_go id old new events h free (is, unseen) go =
+connects_go id old new events h free (board, is, unseen) go =
     let at = length (take_while (λ (client : Client). nat_lt client.id.0 id.0) old.clients) in
-    let client = connected id old.member.fronts.size old.max_payload in
+    let client = connected board id old.member.fronts.size old.max_payload in
     let absent : Absent id.0 old.clients = place_absent id old.clients free in
-    let all : Go (insert old.clients at client) h = go_insert h old.clients at client absent (connected_goes id old.member.fronts.size old.max_payload (h id) (go.none id absent)) go in
+    let all : Go (insert old.clients at client) h = go_insert h old.clients at client absent (connected_goes board id old.member.fronts.size old.max_payload (h id) (go.none id absent)) go in
     tell_same (insert old.clients at client) new.clients h events all (ap (λ (w : Seen). w.clients) is) unseen
 
 ends_go : SessionLaws → (id : SessionId) (old new : Seen) (events : List ClientEvent) (h : SessionId → History) → EndsSession id old new events → Go old.clients h → Tell new.clients h events

@@ -12,6 +12,7 @@ mod Lists
 mod MusterSteps
 mod OneVolume
 mod Outgoing
+mod OwnTokens
 mod Playing
 mod Refusals
 mod Replaying
@@ -20,4 +21,5 @@ mod Sending
 mod Settling
 mod VolumeLaws
 mod VolumeSteps
+mod WordSteps
 mod Zips

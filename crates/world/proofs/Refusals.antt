@@ -3,7 +3,7 @@ use Rattle.std.proofs.Common.{◌≡◌, ◌⊎◌, ℕ, zero, suc, ◌<◌, Boo
 use Rattle.std.specs.Prelude.{All, MatchBool, MatchOption}
 use Rattle.std.proofs.lemmas.List.Elements.{All-append, All-cons, All-nil}
 use Rattle.flush_barrier.specs.declared.error_code.ErrorCode.TheVariants.{Io, NoMemory}
-use Rattle.flush_barrier.specs.Floor.{least_of}
+use Rattle.world.specs.LoneBoard.{least_of}
 use Rattle.nbd_session.specs.Demand.{Asked}
 use Rattle.nbd_session.specs.Replies.{is_owed}
 use Rattle.nbd_session.specs.declared.demand.Demand.{Demand}
@@ -109,7 +109,7 @@ all_sent by [] = All-nil IsNotRefused
 all_sent by (a ∷ rest) = All-cons IsNotRefused (sent_event (by a)) (map (λ asked. sent_event (by asked)) rest) tt (all_sent by rest)
 
 fares : (step : Step) (old new : Seen) (events : List ClientEvent) → Does old step new events → Fares (MayStop old step) old new events
-fares (steps.Connect id slot) old new events (is, unseen) = stays ⊥ old new events (ap (λ (w : Seen). w.member.stopped) is) (no_events events unseen)
+fares (steps.Connect id slot) old new events (board, is, unseen) = stays ⊥ old new events (ap (λ (w : Seen). w.member.stopped) is) (no_events events unseen)
 fares (steps.Bytes id piece) old new events (at, made, clients, place, (client, changed, got, takes, set_is), is) =
     stays ⊥ old new events (ap (λ (w : Seen). w.member.stopped) is)
     (subst (All IsNotRefused) (sym takes.sends.1) (all_sent (held_by client.session.id) takes.sends.0.more))

@@ -4,7 +4,7 @@ use Rattle.std.specs.Prelude.{find, IsSomeAnd, MatchOption, slice_get, is_some, 
 use Rattle.std.proofs.lemmas.Bool.{cases_Bool}
 use Rattle.flush_barrier.specs.declared.error_code.ErrorCode.{ErrorCode}
 use Rattle.flush_barrier.specs.declared.error_code.ErrorCode.TheVariants.{Io}
-use Rattle.flush_barrier.specs.declared.reply.Reply.{Reply}
+use Rattle.flush_barrier.specs.Reply.{GivenReply}
 use Rattle.nbd_session.specs.Replies.{answered, is_owed, reply_seen, seen_with}
 use Rattle.nbd_session.specs.Session.{State}
 use Rattle.world.specs.Member.{Rest, contents_of, fronts_of, rest_of, waiting_of}
@@ -25,27 +25,27 @@ replied_is session cookie None bytes = refl
 replied_is session cookie (Some code) bytes = refl
 
 -- a session that has answered took the reply
-pub takes_reply : (reply : Reply) (old : Client) (session : State) → session ≡ answered old.session (reply_seen reply)
+pub takes_reply : (reply : GivenReply) (old : Client) (session : State) → session ≡ answered old.session (reply_seen reply)
     → (events : List ClientEvent) × TakesReply (told_by reply) old (record old { session = session }) events
 takes_reply reply old session is = (
   if is_owed old.session.phase old.session.in_flight then event_of (told_by reply) ∷ [] else [],
-  inl (ap (λ (s : State). record old { session = s }) (is ∙ replied_is old.session reply.cookie reply.error reply.payload.items), refl),
+  inl (ap (λ (s : State). record old { session = s }) (is ∙ replied_is old.session reply.cookie reply.error reply.payload), refl),
 )
 
 -- what it tells is what the token's holder is told
-told_token : (w : Waiting) (error : Option ErrorCode) (reply : Reply) → IsReplyTo w.token error reply → told_by reply ≡ token_told (outcome_of error []) w
+told_token : (w : Waiting) (error : Option ErrorCode) (reply : GivenReply) → IsReplyTo w.token error reply → told_by reply ≡ token_told (outcome_of error []) w
 told_token w error reply is = rw (is.to_session, is.under_cookie, is.with_error, is.with_bytes) refl
 
 -- the first token that passes, and what its holder is told
-pub told_first : (found : Option Waiting) (error : Option ErrorCode) (reply : Reply) → MatchOption found (Some reply ≡ None) (λ w. IsSomeAnd (Some reply) (IsReplyTo w.token error))
+pub told_first : (found : Option Waiting) (error : Option ErrorCode) (reply : GivenReply) → MatchOption found (Some reply ≡ None) (λ w. IsSomeAnd (Some reply) (IsReplyTo w.token error))
     → (w : Waiting) × (found ≡ Some w) × (told_by reply ≡ token_told (outcome_of error []) w)
 told_first None error reply is = absurd (cc)
 told_first (Some w) error reply is = (w, refl, told_token w error reply is)
 
 -- none is left that passes
-pub none_left : (found : Option Waiting) (error : Option ErrorCode) (result : Option Reply) → MatchOption found (result ≡ None) (λ w. IsSomeAnd result (IsReplyTo w.token error)) → result ≡ None → found ≡ None
+pub none_left : (found : Option Waiting) (error : Option ErrorCode) (result : Option GivenReply) → MatchOption found (result ≡ None) (λ w. IsSomeAnd result (IsReplyTo w.token error)) → result ≡ None → found ≡ None
 none_left None error result is none = refl
-none_left (Some w) error result is none = absurd (subst (λ (r : Option Reply). IsSomeAnd r (IsReplyTo w.token error)) none is)
+none_left (Some w) error result is none = absurd (subst (λ (r : Option GivenReply). IsSomeAnd r (IsReplyTo w.token error)) none is)
 
 -- ---- the first of all
 
@@ -120,7 +120,7 @@ seen_left : (m left : Member) (waiting : List Waiting) → fronts_of left ≡ fr
 seen_left m left waiting fronts contents kept rest is = cc (ap (λ (r : Rest). r.committing) rest, ap (λ (r : Rest). r.receipt) rest, ap (λ (r : Rest). r.stopped) rest)
 
 -- the first token that passes is answered
-pub reply_settles : (passes at : Waiting → Bool) → at ≡ passes → (error : Option ErrorCode) (old now new : Seen) (m left : Member) (reply : Reply)
+pub reply_settles : (passes at : Waiting → Bool) → at ≡ passes → (error : Option ErrorCode) (old now new : Seen) (m left : Member) (reply : GivenReply)
     → SettlesTo passes (outcome_of error []) old (record now { member = seen_member m })
     → fronts_of left ≡ fronts_of m → contents_of left ≡ contents_of m → left.kept ≡ m.kept → rest_of left ≡ rest_of m
     → waiting_of left ≡ without_first at (waiting_of m)
@@ -134,7 +134,7 @@ reply_settles passes at same error old now new m left reply so_far fronts conten
     (ap (λ (p : Waiting → Bool). find p (waiting_of m)) (sym same) ∙ first.1) first.2 told.1
 
 -- there is none
-pub none_settles : (passes at : Waiting → Bool) → at ≡ passes → (error : Option ErrorCode) (old now : Seen) (m left : Member) (result : Option Reply)
+pub none_settles : (passes at : Waiting → Bool) → at ≡ passes → (error : Option ErrorCode) (old now : Seen) (m left : Member) (result : Option GivenReply)
     → SettlesTo passes (outcome_of error []) old (record now { member = seen_member m })
     → fronts_of left ≡ fronts_of m → contents_of left ≡ contents_of m → left.kept ≡ m.kept → rest_of left ≡ rest_of m
     → waiting_of left ≡ without_first at (waiting_of m)

@@ -6,9 +6,9 @@ use Rattle.std.proofs.lemmas.Bool.{cases_Bool, leb-true}
 use Rattle.std.proofs.lemmas.List.{append-nil, map-append, map_push}
 use Rattle.std.proofs.lemmas.List.Elements.{All-append, All-head, All-tail}
 use Rattle.std.proofs.lemmas.Option.{same_Some}
-use Rattle.flush_barrier.specs.Board.{FoundGauge, gauge_in, posted}
+use Rattle.world.specs.LoneBoard.{FoundGauge, gauge_in, least_of, posted}
+use Rattle.board.specs.Seats.{BoardId}
 use Rattle.flush_barrier.specs.Owed.{OwedAt}
-use Rattle.flush_barrier.specs.Floor.{least_of}
 use Rattle.flush_barrier.specs.declared.error_code.ErrorCode.{ErrorCode}
 use Rattle.flush_barrier.specs.declared.error_code.ErrorCode.TheVariants.{Io, NoMemory}
 use Rattle.flush_barrier.specs.declared.session_id.SessionId.{SessionId}
@@ -185,16 +185,16 @@ still old new events kept next keeps in_use size stays unseen = record {
   shows = subst (Shows old.member.fronts.size (view_of old kept) (view_of new next)) (sym unseen) (shows_stay old.member.fronts.size (view_of old kept) (view_of new next) stays);
 }
 
-connected_keeps : (id : SessionId) (size max_payload : ℕ) → Keeps (connected id size max_payload) []
-connected_keeps id size max_payload = record { asked = []; own = refl; holds = greeted_holds_none id (record { size = size; max_payload = max_payload }); seen = refl }
+connected_keeps : (board : BoardId) (id : SessionId) (size max_payload : ℕ) → Keeps (connected board id size max_payload) []
+connected_keeps board id size max_payload = record { asked = []; own = refl; holds = greeted_holds_none board id (record { size = size; max_payload = max_payload }); seen = refl }
 
 pub connects_follow : (id : SessionId) (old new : Seen) (events : List ClientEvent) (kept : List (List Held)) → IsInUse old → AllZip Keeps old.clients kept → Connects id old new events → Follows old kept new events
-connects_follow id old new events kept in_use keeps (is, unseen) =
+connects_follow id old new events kept in_use keeps (board, is, unseen) =
     let at = length (take_while (λ (client : Client). nat_lt client.id.0 id.0) old.clients) in
-    let client = connected id old.member.fronts.size old.max_payload in
+    let client = connected board id old.member.fronts.size old.max_payload in
     let next : Seen = record old { clients = insert old.clients at client } in
     subst (λ (w : Seen). Follows old kept w events) (sym is)
-    (still old next events kept (insert kept at []) (zip_insert Keeps old.clients kept at client [] keeps (connected_keeps id old.member.fronts.size old.max_payload))
+    (still old next events kept (insert kept at []) (zip_insert Keeps old.clients kept at client [] keeps (connected_keeps board id old.member.fronts.size old.max_payload))
     (record { looked = in_use.looked; crew = in_use.crew; kept = in_use.kept; unnumbered = in_use.unnumbered; backed = in_use.backed }) refl (connects old.member.fronts.size (view_of old kept) at) unseen)
 
 pub ends_follow : (id : SessionId) (old new : Seen) (events : List ClientEvent) (kept : List (List Held)) → IsInUse old → AllZip Keeps old.clients kept → EndsSession id old new events → Follows old kept new events

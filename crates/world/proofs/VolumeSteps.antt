@@ -5,7 +5,7 @@ use Rattle.std.specs.List.{AllZip}
 use Rattle.std.proofs.lemmas.Bool.{cases_Bool, cond-true, cond-false}
 use Rattle.std.proofs.lemmas.List.{append-nil, map-append}
 use Rattle.std.proofs.lemmas.Option.{same_Some}
-use Rattle.flush_barrier.specs.Board.{Words}
+use Rattle.world.specs.LoneBoard.{Words}
 use Rattle.gate_journal.specs.Receipt.{Receipt}
 use Rattle.flush_barrier.specs.declared.error_code.ErrorCode.TheVariants.{Io}
 use Rattle.nbd_session.specs.Demand.{Asked, IsUnnumbered}

@@ -3,6 +3,7 @@ pub mod Commit
 pub mod DiskMeaning
 pub mod Fault
 pub mod Lawful
+pub mod LoneBoard
 pub mod Member
 pub mod Muster
 pub mod OnDisk

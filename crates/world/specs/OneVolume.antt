@@ -2,7 +2,7 @@
 use Rattle.std.specs.Prelude.{◌≡◌, ◌⊎◌, ℕ, ◌*◌, ◌≤◌, Option, List, [], ◌∷◌, length, map, All, slice_index}
 use Rattle.std.specs.List.{AllZip}
 use Rattle.std.specs.Option.{ForSome}
-use Rattle.flush_barrier.specs.Board.{FoundGauge, Words}
+use Rattle.world.specs.LoneBoard.{FoundGauge, Words}
 use Rattle.gate_journal.specs.Receipt.{Receipt}
 use Rattle.nbd_session.specs.Demand.{Asked, IsUnnumbered}
 use Rattle.nbd_session.specs.Session.{Holds}

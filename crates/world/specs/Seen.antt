@@ -2,7 +2,7 @@
 use Rattle.std.specs.Prelude.{ℕ, ◌*◌, Bool, false, Option, None, List, [], replicate, is_some}
 use Rattle.std.specs.Option.{option_map}
 use Rattle.disk_model.specs.declared.disk.Disk.{Ghosts}
-use Rattle.flush_barrier.specs.Board.{FoundGauge, FoundMask, Words}
+use Rattle.world.specs.LoneBoard.{FoundGauge, FoundMask, Words, gauges_of, mask_of}
 use Rattle.gate_journal.specs.Receipt.{Receipt}
 use Rattle.nbd_session.specs.declared.demand.Demand.{Demand}
 use Rattle.world.specs.Member.{Contents, Fronts, contents_of, fronts_of, waiting_of}
@@ -42,7 +42,7 @@ pub record SeenMuster : Type 0 where
   pub next : ℕ
 
 abbrev pub seen_muster : Muster → SeenMuster
-seen_muster muster = record { crew = muster.crew; gauges = muster.gauges; next = muster.next }
+seen_muster muster = record { crew = mask_of muster.crew; gauges = gauges_of muster.gauges; next = muster.next }
 
 -- a world: the board, the member, the front that was looked up last and the crew behind it, the demands that aren't taken
 -- yet, oldest first, the clients by session number, and how long a payload may be
@@ -57,9 +57,9 @@ pub record Seen : Type 0 where
 
 abbrev pub seen : {D : Type 0} → {g : Ghosts D} → World D g → Seen
 seen w = record {
-  board = w.board;
+  board = w.board.words;
   member = seen_member w.member;
-  looked = w.looked;
+  looked = option_map (λ front. front.number) w.looked;
   muster = option_map seen_muster w.muster;
   demands = w.demands.items;
   clients = w.clients.items;

@@ -1,9 +1,9 @@
 -- What each step of a world of one member does.
 use Rattle.std.specs.Prelude.{◌≡◌, ◌⊎◌, ℕ, ◌+◌, ◌-◌, ◌<◌, ◌≤◌, Bool, true, false, Some, None, List, [], ◌∷◌, ◌++◌, length, map, take, drop, fold, max, All, IsTrue, MatchBool, nat_lt, take_while}
 use Rattle.std.specs.List.{insert}
-use Rattle.flush_barrier.specs.Board.{gauge_in, posted, raised}
-use Rattle.flush_barrier.specs.Floor.{least_of}
-use Rattle.flush_barrier.specs.Mask.{counts, slots_below}
+use Rattle.world.specs.LoneBoard.{gauge_in, least_of, posted, raised}
+use Rattle.board.specs.Mask.{counts, slots_below}
+use Rattle.board.specs.Seats.{BoardId}
 use Rattle.flush_barrier.specs.declared.error_code.ErrorCode.TheVariants.{Io, NoMemory}
 use Rattle.flush_barrier.specs.declared.session_id.SessionId.{SessionId}
 use Rattle.gate_journal.specs.Receipt.{Receipt}
@@ -33,19 +33,20 @@ use Rattle.world_model.specs.View.{Held, sent_event}
 
 -- ---- clients
 
--- a client whose session begins, at an export of so many bytes that takes payloads of so many
-abbrev pub connected : SessionId → (size max_payload : ℕ) → Client
-connected id size max_payload = record {
+-- a client whose session begins, at a member of the board's chain and an export of so many bytes that takes payloads of so
+-- many
+abbrev pub connected : BoardId → SessionId → (size max_payload : ℕ) → Client
+connected board id size max_payload = record {
   id = id;
-  session = greeted id (record { size = size; max_payload = max_payload });
+  session = greeted board id (record { size = size; max_payload = max_payload });
   told = false;
 }
 
 -- a client connects: its session begins, at its place by number
 abbrev pub Connects : SessionId → Seen → Seen → List ClientEvent → Type 0
 Connects id old new events =
-    (new ≡ record old {
-      clients = insert old.clients (length (take_while (λ client. nat_lt client.id.0 id.0) old.clients)) (connected id old.member.fronts.size old.max_payload);
+    (board : BoardId) × (new ≡ record old {
+      clients = insert old.clients (length (take_while (λ client. nat_lt client.id.0 id.0) old.clients)) (connected board id old.member.fronts.size old.max_payload);
     }) × (events ≡ [])
 
 -- what a session asks, as the machine sees it

@@ -1,7 +1,7 @@
 -- How a reply comes to its client.
 use Rattle.std.specs.Prelude.{◌≡◌, ◌⊎◌, ◌==◌, ℕ, zero, suc, Bool, Option, Some, None, List, [], ◌∷◌, ◌++◌, set, find, position, slice_get, MatchOption, if◌then◌else◌}
 use Rattle.flush_barrier.specs.declared.error_code.ErrorCode.{ErrorCode}
-use Rattle.flush_barrier.specs.declared.reply.Reply.{Reply}
+use Rattle.flush_barrier.specs.Reply.{GivenReply}
 use Rattle.flush_barrier.specs.declared.session_id.SessionId.{SessionId}
 use Rattle.nbd_session.specs.declared.phase.Phase.TheVariants.{Over}
 use Rattle.nbd_session.specs.Replies.{answered, is_owed, seen_with}
@@ -23,8 +23,8 @@ outcome_of None bytes = Done bytes
 outcome_of (Some error) bytes = Failed error
 
 -- what a reply tells
-abbrev pub told_by : Reply → Told
-told_by reply = record { session = reply.session; cookie = reply.cookie; outcome = outcome_of reply.error reply.payload.items }
+abbrev pub told_by : GivenReply → Told
+told_by reply = record { session = reply.session; cookie = reply.cookie; outcome = outcome_of reply.error reply.payload }
 
 -- what the holder of this token is told
 abbrev pub token_told : Outcome → Waiting → Told

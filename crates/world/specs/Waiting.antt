@@ -1,8 +1,8 @@
 -- When a waiting token may be answered.
-use Rattle.std.specs.Prelude.{ℕ, Bool, false, Option, Some, None, true, nat_le, is_some, if◌then◌else◌, ◌==◌, ◌&&◌, List, [], ◌∷◌}
-use Rattle.flush_barrier.specs.Reply.{Answers}
+use Rattle.std.specs.Prelude.{◌≡◌, ℕ, Bool, false, Option, Some, None, true, nat_le, is_some, if◌then◌else◌, ◌==◌, ◌&&◌, List, [], ◌∷◌}
+use Rattle.board.specs.Seats.{BoardId}
+use Rattle.flush_barrier.specs.Reply.{Answers, GivenReply}
 use Rattle.flush_barrier.specs.declared.error_code.ErrorCode.{ErrorCode}
-use Rattle.flush_barrier.specs.declared.reply.Reply.{Reply}
 use Rattle.flush_barrier.specs.declared.session_id.SessionId.{SessionId}
 use Rattle.world.specs.declared.waiting.Token.{Token}
 use Rattle.world.specs.declared.waiting.Token.TheVariants.{Write, Fua}
@@ -53,8 +53,17 @@ abbrev pub cookie_of : Token → ℕ
 cookie_of (Write token) = token.cookie
 cookie_of (Fua token) = token.cookie
 
+-- the board whose chain owes it
+abbrev pub board_of : Token → BoardId
+board_of (Write token) = token.board
+board_of (Fua token) = token.board
+
+-- the waiting token is of this board
+abbrev pub IsOf : BoardId → Waiting → Type 0
+IsOf board w = board_of w.token ≡ board
+
 -- the reply is the token's, with this error or none, and no bytes
-abbrev pub IsReplyTo : Token → Option ErrorCode → Reply → Type 0
+abbrev pub IsReplyTo : Token → Option ErrorCode → GivenReply → Type 0
 IsReplyTo token error reply = Answers (session_of token) (cookie_of token) error [] reply
 
 -- a number that was learned stays

@@ -13,6 +13,7 @@ mod client;
 mod commit;
 mod fault;
 mod laws;
+mod lone_board;
 mod member;
 mod member_state;
 mod muster;

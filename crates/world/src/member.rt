@@ -11,9 +11,10 @@ ghost use Rattle.world.specs.Writes.{IsInside};
 use crate::blocks::{self, Block};
 use crate::commit::Commit;
 use crate::waiting::{Token, Waiting};
+use board::{Floor, Front};
 use bytes::Bytes;
 use disk_model::{Disk, Part};
-use flush_barrier::{ErrorCode, Floor, Front, Reply};
+use flush_barrier::{ErrorCode, Reply};
 use gate_journal::{Batch, Journal, MAX_NUMBER, Refusal, Slot, Synced};
 use std::alloc::{AllocError, Global};
 use std::collections::VecDeque;
@@ -38,8 +39,20 @@ pub(crate) enum Found {
 /// A front that a member found on the board and hasn't gone on with yet.
 #[derive(Clone, Copy, Debug)]
 pub(crate) struct Kept {
-    pub front: Front,
+    pub front: u64,
     pub found: Found,
+}
+
+impl Kept {
+    /// The front that was found so.
+    pub(crate) fn new(front: &Front, found: Found) -> Kept
+        ensures { result ≡ record { front = front.now.number; found = found } }
+    {
+        Kept {
+            front: front.number(),
+            found,
+        }
+    }
 }
 
 /// Why a write was not submitted: its token comes back.
@@ -86,7 +99,7 @@ pub(crate) struct Member {
 impl Member {
     ghost use Rattle.std.specs.Prelude.{false, is_ok, ◌↔◌, ◌⊎◌, ◌==◌, ℕ, [], ◌∷◌, ◌++◌, true, Some, None, IsTrue, MatchOption, IsSomeAnd, find, position, OnOk, OnErr, OnSome, length, take, drop, replicate, vec_capacity};
     ghost use Rattle.std.specs.List.{list_any, slice_get};
-    ghost use Rattle.world.specs.Waiting.{is_committed, is_paid, awaits_floor, without_first, first_learned, IsReplyTo};
+    ghost use Rattle.world.specs.Waiting.{is_committed, is_paid, awaits_floor, without_first, first_learned, IsOf, IsReplyTo};
     ghost use Rattle.disk_model.specs.Disk.{LeavesOnly};
     ghost use Rattle.gate_journal.specs.Refusal.{IsOfAppending};
     ghost use Rattle.world.specs.Blocks.{flat};
@@ -404,7 +417,7 @@ impl Member {
     }
 
     /// Takes the front that it raised as its known commit.
-    pub(crate) fn raised(&mut self, front: Front)
+    pub(crate) fn raised(&mut self, front: u64)
         requires known { (fronts_of self.old).known ≤ front }
         requires applied { front ≤ (fronts_of self.old).applied }
         ensures fronts { fronts_of self.new ≡ record (fronts_of self.old) { known = front } }
@@ -415,7 +428,7 @@ impl Member {
         ensures stored { stored_of self.new ≡ stored_of self.old }
     {
         self.kept = None;
-        self.known = front.number();
+        self.known = front;
     }
 
     /// Where the first plain write with a number up to the known commit waits.
@@ -446,17 +459,18 @@ impl Member {
 
     /// Where the first write with FUA waits whose number the floor reaches.
     fn first_paid(&self, floor: &Floor) -> Option<usize>
-        ensures { result ≡ position (is_paid floor.now) (waiting_of self.now) }
+        ensures { result ≡ position (is_paid floor.now.front) (waiting_of self.now) }
     {
         self.waiting.iter().position(|w| w.is_paid_by(floor))
     }
 
     /// The reply of the first write with FUA that waits with a number that the floor reaches.
     pub(crate) fn settle_fua(&mut self, floor: &Floor) -> Option<Reply>
+        requires { All (IsOf floor.now.board) (waiting_of self.old) }
         ensures fronts { fronts_of self.new ≡ fronts_of self.old }
         ensures contents { contents_of self.new ≡ contents_of self.old }
-        ensures waiting { waiting_of self.new ≡ without_first (is_paid floor.now) (waiting_of self.old) }
-        ensures reply { MatchOption (find (is_paid floor.now) (waiting_of self.old))
+        ensures waiting { waiting_of self.new ≡ without_first (is_paid floor.now.front) (waiting_of self.old) }
+        ensures reply { MatchOption (find (is_paid floor.now.front) (waiting_of self.old))
             (result ≡ None) (λ w. IsSomeAnd result (IsReplyTo w.token None)) }
         ensures kept { self.new.kept ≡ self.old.kept }
         ensures fewer { OnSome result (waiting_count self.new + 1 ≡ waiting_count self.old) }

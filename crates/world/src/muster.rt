@@ -1,11 +1,13 @@
-ghost use Rattle.std.specs.Prelude.{◌≡◌, ◌<◌, ◌≤◌, ◌↔◌, IsTrue, map};
-ghost use Rattle.flush_barrier.specs.Mask.{counts, slots_below};
+ghost use Rattle.std.specs.Prelude.{◌≡◌, ◌<◌, ◌≤◌, ◌↔◌, All, IsTrue, map};
+ghost use Rattle.board.specs.Mask.{counts, slots_below};
 
-use flush_barrier::{Board, Crew, Floor, Gauges};
+use crate::lone_board::LoneBoard;
+use board::{Crew, Floor, Gauges};
 use gate_journal::Slot;
+use std::fmt;
 
 /// A crew whose gauges are looked up one by one, slots ascending.
-#[derive(Debug, Drop)]
+#[derive(Drop)]
 pub(crate) struct Muster {
     crew: Crew,
     gauges: Gauges,
@@ -13,18 +15,18 @@ pub(crate) struct Muster {
     ghost within: { next ≤ 8 },
     ghost in_order: { map (λ gauge. gauge.slot) gauges ≡ slots_below crew.mask next },
     ghost counted: { next < 8 → IsTrue (counts crew.mask next) },
+    ghost of_seat: { All (λ gauge. (gauge.board ≡ crew.board) × (gauge.seat ≡ crew.seat)) gauges },
 }
 
 impl Muster {
     ghost use Rattle.std.specs.Prelude.{◌+◌, ◌++◌, ◌∷◌, []};
-    ghost use Rattle.flush_barrier.specs.Board.{gauge_in};
-    ghost use Rattle.flush_barrier.specs.Floor.{least_of};
+    ghost use Rattle.world.specs.LoneBoard.{gauge_in, gauges_of, least_of};
     ghost use Rattle.world.specs.Muster.{next_of};
     ghost use Rattle.world.specs.Steps.{IsNextCounted};
 
     /// A crew of which no gauge is looked up yet.
     #[tactic(auto, using(crate::proofs::MusterSteps::muster_steps))]
-    pub(crate) fn new(crew: Crew) -> Muster
+    pub(crate) fn new(board: &LoneBoard, crew: Crew) -> Muster
         ensures crew { result.crew ≡ crew }
         ensures gauges { result.gauges ≡ [] }
         ensures next { IsNextCounted crew.mask 0 result.next }
@@ -32,7 +34,7 @@ impl Muster {
         let next = next_counted(&crew, 0);
         Muster {
             crew,
-            gauges: Gauges::new(),
+            gauges: board.room(),
             next,
         }
     }
@@ -46,11 +48,13 @@ impl Muster {
 
     /// Looks up the gauge of the next counted slot, where there is one.
     #[tactic(auto, using(crate::proofs::MusterSteps::muster_steps))]
-    pub(crate) fn look_up(&mut self, board: &mut Board)
-        requires { next_of self.old < 8 }
+    pub(crate) fn look_up(&mut self, board: &mut LoneBoard)
+        requires left { next_of self.old < 8 }
+        requires of_seat { (self.old.crew.board ≡ board.old.id) × (self.old.crew.seat ≡ board.old.seat) }
         ensures board { board.new ≡ board.old }
         ensures crew { self.new.crew ≡ self.old.crew }
-        ensures gauges { self.new.gauges ≡ self.old.gauges ++ gauge_in board.old self.old.next ∷ [] }
+        ensures gauges { gauges_of self.new.gauges
+            ≡ gauges_of self.old.gauges ++ gauge_in board.old.words self.old.next ∷ [] }
         ensures next { IsNextCounted self.old.crew.mask (self.old.next + 1) self.new.next }
     {
         if let Some(slot) = Slot::new(self.next) {
@@ -60,9 +64,11 @@ impl Muster {
     }
 
     /// The floor of the crew.
+    #[tactic(auto, using(crate::proofs::MusterSteps::floor_steps))]
     pub(crate) fn into_floor(self) -> Floor
         requires { next_of self ≡ 8 }
-        ensures { result ≡ least_of self.crew.front self.gauges }
+        ensures board { result.board ≡ self.crew.board }
+        ensures front { result.front ≡ least_of self.crew.front (gauges_of self.gauges) }
     {
         let Muster {
             crew,
@@ -70,6 +76,12 @@ impl Muster {
             next: _,
         } = self;
         Floor::new(crew, gauges.as_slice())
+    }
+}
+
+impl fmt::Debug for Muster {
+    fn fmt<W: fmt::Write>(&self, f: &mut fmt::Formatter<W>) -> fmt::Result {
+        f.debug_struct("Muster").field("next", &self.next).finish()
     }
 }
 

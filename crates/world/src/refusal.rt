@@ -37,6 +37,16 @@ impl From<AllocError> for Refusal {
     }
 }
 
+impl From<board::Refusal> for Refusal {
+    ghost from_gives = { λ _ e. e ≡ Memory };
+
+    fn from(refusal: board::Refusal) -> Refusal {
+        match refusal {
+            board::Refusal::Memory => Refusal::Memory,
+        }
+    }
+}
+
 impl From<gate_journal::Refusal> for Refusal {
     ghost from_gives = { λ refusal e. e ≡ Journal refusal };
 

@@ -1,6 +1,7 @@
 ghost use Rattle.std.specs.Prelude.{◌≡◌, true, Some, None};
 
-use flush_barrier::{ErrorCode, Floor, OwedFua, OwedWrite, Reply};
+use board::Floor;
+use flush_barrier::{ErrorCode, OwedFua, OwedWrite, Reply};
 use std::alloc::Global;
 
 /// The token of a write. It has no `Drop`.
@@ -48,7 +49,7 @@ pub(crate) struct Waiting {
 }
 
 impl Waiting {
-    ghost use Rattle.world.specs.Waiting.{is_committed, is_paid, awaits_floor, learned, IsReplyTo};
+    ghost use Rattle.world.specs.Waiting.{is_committed, is_paid, awaits_floor, learned, IsOf, IsReplyTo};
 
     /// Tells the token the number of its write, which it learns once.
     pub(crate) fn learn(&mut self, n: u64)
@@ -74,7 +75,7 @@ impl Waiting {
 
     /// Whether it is a write with FUA that the floor reaches.
     pub(crate) fn is_paid_by(&self, floor: &Floor) -> bool
-        ensures { result ≡ is_paid floor.now self.now }
+        ensures { result ≡ is_paid floor.now.front self.now }
     {
         match &self.token {
             Token::Write(_) => false,
@@ -117,7 +118,8 @@ impl Waiting {
 
     /// The reply that a write with FUA is on every counted disk.
     pub(crate) fn settle_fua(self, alloc: Global, floor: &Floor) -> Reply
-        requires { is_paid floor.now self ≡ true }
+        requires of_board { IsOf floor.now.board self }
+        requires paid { is_paid floor.now.front self ≡ true }
         ensures { IsReplyTo self.token None result }
     {
         match self.into_token() {

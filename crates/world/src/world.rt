@@ -1,41 +1,40 @@
 ghost use Rattle.std.specs.Prelude.{◌≡◌, ◌+◌, ◌*◌, ◌<◌, ◌≤◌, ◌↔◌, length, vec_len, vec_capacity, All, IfOk, IfSome, IsSome, None, false};
 ghost use Rattle.std.specs.VecDeque.{deque_len, deque_capacity};
-ghost use Rattle.nbd_session.specs.Demand.{IsInside};
-ghost use Rattle.world.specs.Member.{fronts_of, KeepsWithin};
+ghost use Rattle.std.specs.Option.{ForSome};
+ghost use Rattle.nbd_session.specs.Demand.{IsInside, board_of};
+ghost use Rattle.world.specs.Member.{fronts_of, waiting_of, KeepsWithin};
+ghost use Rattle.world.specs.Waiting.{IsOf, board_of as board_of_token};
 ghost use Rattle.world.specs.Writes.{IsInside as IsWriteInside};
 
 use crate::answer::{Answer, Answers, Output};
 use crate::client::Client;
 use crate::fault::fault_of;
 use crate::laws::{plays_are_of_one_volume, restarts_stand};
+use crate::lone_board::LoneBoard;
 use crate::member::{Found, Kept, Member, Unsubmitted};
 use crate::member_state::MemberState;
 use crate::muster::Muster;
-use crate::outcome::Outcome;
+use crate::outcome::{BUSY, MEMORY, Outcome};
 use crate::refusal::Refusal;
 use crate::step::Step;
 use crate::waiting::Token;
+use board::{Board, Front};
 use disk_model::{Cut, Disk, DiskError, Event, MemDisk};
-use flush_barrier::{Board, ErrorCode, Front, OwedRead, Reply, SessionId};
+use flush_barrier::{ErrorCode, OwedRead, Reply, SessionId};
 use gate_journal::{Refusal as JournalRefusal, Slot};
 use nbd_session::{Demand, LIMIT_IN_FLIGHT, Session};
 use std::alloc::Global;
 use std::collections::VecDeque;
 use volume::Geometry;
 
-/// The number of the refusal for want of memory.
-const MEMORY: u16 = 100;
-
-/// The number of the refusal of a write to be numbered where no number is left.
-const BUSY: u16 = 153;
+mod debug;
 
 /// The world of one member at slot 0: its disk, the board and its clients. It has no `Drop`, since it holds tokens:
 /// `abandon` ends it.
-#[derive(Debug)]
 pub struct World<D: Disk> {
     alloc: Global,
     geometry: Geometry,
-    board: Board,
+    board: LoneBoard,
     disk: D,
     member: Member,
     clients: Vec<Client>,
@@ -45,12 +44,17 @@ pub struct World<D: Disk> {
     fault: Option<DiskError>,
     ghost first: { (fronts_of member).slot ≡ 0 },
     ghost on_disk: { (fronts_of member).area_end ≤ D.size disk },
-    ghost front: { ((fronts_of member).known ≤ board.front) × (board.front ≤ (fronts_of member).applied) },
-    ghost kept: { KeepsWithin board.front member },
+    ghost front: { ((fronts_of member).known ≤ board.words.front) × (board.words.front ≤ (fronts_of member).applied) },
+    ghost kept: { KeepsWithin board.words.front member },
     ghost volume: { (fronts_of member).size ≡ 4096 * geometry.blocks },
     ghost sessions: { All (λ client. client.session.export.size ≡ 4096 * geometry.blocks) clients.items },
     ghost own_ids: { All (λ client. client.session.id ≡ client.id) clients.items },
     ghost demands_inside: { All (IsInside (4096 * geometry.blocks)) demands.items },
+    ghost own_sessions: { All (λ client. client.session.board ≡ board.id) clients.items },
+    ghost own_demands: { All (λ demand. board_of demand ≡ board.id) demands.items },
+    ghost own_tokens: { All (IsOf board.id) (waiting_of member) },
+    ghost own_front: { ForSome looked (λ front. (front.board ≡ board.id) × (front.seat ≡ board.seat)) },
+    ghost own_crew: { ForSome muster (λ muster. (muster.crew.board ≡ board.id) × (muster.crew.seat ≡ board.seat)) },
     ghost faulty: { member.stopped ≡ false → fault ≡ None },
 }
 
@@ -81,12 +85,13 @@ impl<D: Disk + Drop> World<D> {
     {
         plays_are_of_one_volume();
         let slot = Slot::new(0).unwrap();
+        let board = LoneBoard::new(alloc, 0, 1 << slot.number(), [0; Board::SLOTS])?;
         let mut disk = disk;
         let member = Member::new(alloc, slot, &mut disk, geometry)?;
         Ok(World {
             alloc,
             geometry,
-            board: Board::new(0, 1 << slot.number(), [0; Board::SLOTS]),
+            board,
             disk,
             member,
             clients: Vec::new(alloc),
@@ -132,10 +137,14 @@ impl<D: Disk + Drop> World<D> {
         };
         let mut gauges = [0; Board::SLOTS];
         gauges[usize::from(slot.number())] = member.durable;
+        let Ok(board) = LoneBoard::new(alloc, member.durable, 1 << slot.number(), gauges) else {
+            member.abandon();
+            return Err((JournalRefusal::Memory, disk));
+        };
         Ok(World {
             alloc,
             geometry,
-            board: Board::new(member.durable, 1 << slot.number(), gauges),
+            board,
             disk,
             member,
             clients: Vec::new(alloc),
@@ -339,6 +348,7 @@ impl<D: Disk + Drop> World<D> {
         }
         let Ok(session) = Session::new(
             self.alloc,
+            self.board.board(),
             id,
             self.geometry.size(),
             self.geometry.max_payload,
@@ -385,7 +395,7 @@ impl<D: Disk + Drop> World<D> {
         if self.demands.reserve(LIMIT_IN_FLIGHT).is_err() {
             return Outcome::Refused(MEMORY);
         }
-        match self.clients[at].session.feed(&self.board, piece) {
+        match self.clients[at].session.feed(piece) {
             Ok(demands) => {
                 self.queue(demands);
                 Outcome::Taken
@@ -400,6 +410,7 @@ impl<D: Disk + Drop> World<D> {
         requires few { vec_len demands ≤ 1 }
         requires room { deque_len self.old.demands + 1 ≤ deque_capacity self.old.demands }
         requires inside { All (IsInside (4096 * self.old.geometry.blocks)) demands.items }
+        requires own { All (λ demand. board_of demand ≡ self.old.board.id) demands.items }
         ensures clients { vec_len self.new.clients ≡ vec_len self.old.clients }
         ensures queued { seen self.new ≡ record (seen self.old) { demands = (seen self.old).demands ++ demands.items } }
         ensures disk { on_disk self.new ≡ on_disk self.old }
@@ -491,7 +502,8 @@ impl<D: Disk + Drop> World<D> {
     /// Submits a write.
     #[tactic(auto, using(crate::proofs::Lists::list_steps))]
     fn take_write(&mut self, token: Token, offset: u64, payload: Vec<u8>)
-        requires { IsWriteInside (4096 * self.old.geometry.blocks) (record { offset = offset; bytes = payload.items }) }
+        requires inside { IsWriteInside (4096 * self.old.geometry.blocks) (record { offset = offset; bytes = payload.items }) }
+        requires own { board_of_token token ≡ self.old.board.id }
         ensures clients { vec_len self.new.clients ≡ vec_len self.old.clients }
         ensures taken { (events : List ClientEvent) × MatchBool self.old.member.stopped
             (Tells (unsubmitted (Failed ErrorCode.Io) token) (seen self.old) (seen self.new) events)
@@ -548,10 +560,7 @@ impl<D: Disk + Drop> World<D> {
         ensures disk { on_disk self.new ≡ on_disk self.old }
     {
         let front = self.board.raise(self.member.applied());
-        self.member.kept = Some(Kept {
-            front,
-            found: Found::Raised,
-        });
+        self.member.kept = Some(Kept::new(&front, Found::Raised));
         Outcome::Taken
     }
 
@@ -563,10 +572,7 @@ impl<D: Disk + Drop> World<D> {
         ensures disk { on_disk self.new ≡ on_disk self.old }
     {
         let front = self.board.look();
-        self.member.kept = Some(Kept {
-            front,
-            found: Found::Looked,
-        });
+        self.member.kept = Some(Kept::new(&front, Found::Looked));
         self.looked = Some(front);
         Outcome::Taken
     }
@@ -662,7 +668,8 @@ impl<D: Disk + Drop> World<D> {
         match self.looked.take() {
             None => Outcome::Skipped,
             Some(front) => {
-                self.muster = Some(Muster::new(self.board.crew(front)));
+                let crew = self.board.crew(front);
+                self.muster = Some(Muster::new(&self.board, crew));
                 Outcome::Taken
             }
         }
@@ -723,10 +730,11 @@ impl<D: Disk + Drop> World<D> {
     fn deliver(&mut self, reply: Reply)
         ensures clients { vec_len self.new.clients ≡ vec_len self.old.clients }
         ensures member { self.new.member ≡ self.old.member }
+        ensures board { self.new.board ≡ self.old.board }
         ensures told { (events : List ClientEvent) × Tells (told_by reply) (seen self.old) (seen self.new) events }
         ensures disk { on_disk self.new ≡ on_disk self.old }
     {
-        if let Some(at) = self.position(reply.session) {
+        if let Some(at) = self.position(reply.session()) {
             self.clients[at].take_reply(reply);
         }
     }

@@ -1,4 +1,4 @@
-use Rattle.std.proofs.Common.{rules, ◌≡◌, ℕ, List, Result, Ok, Err, IfErr, IsErrOf, ap, sym, subst}
+use Rattle.std.proofs.Common.{rules, ◌≡◌, Result, Ok, Err, IfErr, IsErrOf, ap, subst}
 use Rattle.gate_journal.specs.Batch.{IsDamaged}
 use Rattle.gate_journal.specs.declared.refusal.Refusal.{Refusal}
 use Rattle.gate_journal.specs.declared.refusal.Refusal.TheVariants.{Damaged}

@@ -1,5 +1,5 @@
 use Rattle.std.proofs.Common.{◌≡◌, ◌-◌, ◌≤◌}
-use Rattle.flush_barrier.specs.Mask.{slots_below}
+use Rattle.board.specs.Mask.{slots_below}
 use Rattle.world.proofs.muster.next_counted.Given as goal
 
 -- the slots that were passed over aren't counted

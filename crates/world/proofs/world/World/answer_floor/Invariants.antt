@@ -10,8 +10,9 @@ use Rattle.world.proofs.world.World.answer_floor.Given as goal
 abbrev pub invariant-loop-reply : goal.invariant-loop-reply
 invariant-loop-reply g l = record {
   clients : vec_len l.self.clients ≡ vec_len l.fn.self.clients;
+  home : l.self.board.id ≡ l.floor.board;
   disk : on_disk l.self ≡ on_disk l.fn.self;
-  settled : SettlesTo (is_paid l.floor) (Done []) (seen l.initial.self) (seen l.self);
+  settled : SettlesTo (is_paid l.floor.front) (Done []) (seen l.initial.self) (seen l.self);
 }
 
 -- the tokens that wait

@@ -1,5 +1,6 @@
 use Rattle.std.proofs.Common.{◌≤◌, None, ap, arith}
 use Rattle.world.proofs.Durable.{opened_on_disk}
+use Rattle.world.specs.LoneBoard.{Words}
 use Rattle.world.specs.Member.{Fronts}
 use Rattle.world.specs.Seen.{Seen, seen_member}
 use Rattle.world.proofs.world.World.recover.Goals as goal
@@ -11,6 +12,6 @@ pub returns-clause-durable : goal.returns-clause-durable
 returns-clause-durable g c keeps =
     let m = c.in-Ok.member in
     let ensures = c.in-Ok.ensures in
-    let world : Seen = record { board = c.new-2.result; member = seen_member m; looked = None; muster = None; demands = c.new-4.result.items; clients = c.new-3.result.items; max_payload = c.args.geometry.max_payload } in
-    let committed : m.durable ≤ c.new-2.result.front = omega (arith, ap (λ (f : Fronts). f.durable) ensures.fronts, c.new-2.ensures.front) in
+    let world : Seen = record { board = c.in-Ok-new.board.words; member = seen_member m; looked = None; muster = None; demands = c.new-4.result.items; clients = c.new-3.result.items; max_payload = c.args.geometry.max_payload } in
+    let committed : m.durable ≤ c.in-Ok-new.board.words.front = omega (arith, ap (λ (f : Fronts). f.durable) ensures.fronts, ap (λ (w : Words). w.front) c.in-Ok-new.ensures) in
     opened_on_disk m world _ c.args.geometry.blocks c.args.geometry.area ensures.journal (ap (λ (f : Fronts). f.size) ensures.fronts) committed (ensures.durable keeps)

@@ -1,7 +1,9 @@
 use Rattle.std.proofs.Common.{None, [], rules}
+use Rattle.world.specs.Member.{waiting_of}
 use Rattle.world.specs.Seen.{seen}
 use Rattle.world.specs.Waiting.{is_committed}
 use Rattle.world_model.specs.Event.{Done}
+use Rattle.world.proofs.OwnTokens.{own_without}
 use Rattle.world.proofs.Settling.{known_stays, none_settles, reply_settles}
 use Rattle.world.proofs.world.World.settle_writes.Goals as goal
 
@@ -28,3 +30,8 @@ returns-clause-settled g c =
     let same = known_stays (is_committed old.member.fronts.known) (Done []) old (seen c.loop-reply.self) was in
     none_settles (is_committed old.member.fronts.known) (is_committed m.known) same None old (seen c.loop-reply.self) m c.settle_write.new.self c.settle_write.result
     was ensures.fronts ensures.contents ensures.kept ensures.rest ensures.waiting ensures.reply c.in_default.is
+
+pub invariant_of-self-clause-own_tokens : goal.invariant_of-self-clause-own_tokens
+invariant_of-self-clause-own_tokens g c =
+    let m = c.loop-reply.self.member in
+    own_without c.loop-reply.self.board.id (is_committed m.known) (waiting_of m) (waiting_of c.settle_write.new.self) c.settle_write.ensures.waiting c.loop-reply.self.own_tokens

@@ -1,2 +1,0 @@
-pub mod FloorLemmas
-pub mod MaskLemmas

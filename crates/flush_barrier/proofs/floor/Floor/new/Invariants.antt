@@ -1,6 +1,0 @@
-use Rattle.std.proofs.Common.{◌≡◌, take}
-use Rattle.flush_barrier.specs.Floor.{least_of}
-use Rattle.flush_barrier.proofs.floor.Floor.new.Given as goal
-
-abbrev pub invariant-loop-gauge : goal.invariant-loop-gauge
-invariant-loop-gauge l = l.front ≡ least_of l.initial.front (take l.gauge-index l.gauges)

@@ -1,0 +1,4 @@
+mod Homes
+mod Payloads
+mod Reading
+mod Spellings

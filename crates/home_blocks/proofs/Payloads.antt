@@ -1,0 +1,88 @@
+-- What a disk's first part holds, and that it is one thing.
+use Rattle.std.proofs.Common.{Result, Err, ◌≡◌, inl, inr, ℕ, List, Option, Some, None, refl, sym, ◌∙◌, ap, subst, arith, Vec, Global}
+use Rattle.std.specs.Result.{IsErrAnd}
+use Rattle.disk_model.specs.Part.{inside}
+use Rattle.disk_model.specs.declared.part.Part.{Part}
+use Rattle.gate_journal.specs.Pair.{Entry, HoldsPair, IsPayloadOf, IsSettledPair, Pair, Slots, last_number, newest}
+use Rattle.home_blocks.specs.Home.{HoldsNoPayload, HoldsPayload, HoldsSuperblock, IsNoVolume, IsOtherVersion, IsVolume}
+use Rattle.home_blocks.specs.Places.{superblock_part}
+use Rattle.home_blocks.specs.Superblock.{HasOtherVersion, IsSpelling, Superblock, superblock_spelling}
+use Rattle.home_blocks.proofs.Spellings.{other_version_apart, superblocks_apart}
+
+-- the bytes of a pair have one reading at most
+abbrev pub OneReading : Type 0
+OneReading = (some others : Slots) (bytes : List ℕ) → HoldsPair some bytes → HoldsPair others bytes → some ≡ others
+
+module _ (one : OneReading) (bytes : List ℕ) where
+  same_newest : (some others : Slots) → HoldsPair some (inside superblock_part bytes) → HoldsPair others (inside superblock_part bytes) → newest some ≡ newest others
+  same_newest some others holds holds' = ap newest (one some others (inside superblock_part bytes) holds holds')
+
+  pub one_payload : (p q : List ℕ) → HoldsPayload p bytes → HoldsPayload q bytes → p ≡ q
+  one_payload p q some other =
+      let one_entry : Entry = record { number = some.number; payload = p } in
+      let other_entry : Entry = record { number = other.number; payload = q } in
+      let both : Some one_entry ≡ Some other_entry = sym some.is_newest ∙ same_newest some.slots other.slots some.holds other.holds ∙ other.is_newest in
+      let same : one_entry ≡ other_entry = cc both in
+      ap (λ (e : Entry). e.payload) same
+
+  pub not_none : (p : List ℕ) → HoldsPayload p bytes → HoldsNoPayload bytes → ⊥
+  not_none p some none =
+      let entry : Entry = record { number = some.number; payload = p } in
+      let same : Some entry ≡ None = sym some.is_newest ∙ same_newest some.slots none.slots some.holds none.holds ∙ none.is_none in
+      cc same
+
+  pub one_superblock : (some other : Superblock) → HoldsSuperblock some bytes → HoldsSuperblock other bytes → some ≡ other
+  one_superblock some other holds holds' = superblocks_apart some other holds.is holds'.is (one_payload (superblock_spelling some) (superblock_spelling other) holds.payload holds'.payload)
+
+  pub not_another : (sb : Superblock) → HoldsSuperblock sb bytes → IsOtherVersion bytes → ⊥
+  not_another sb holds other = other_version_apart sb other.payload (one_payload other.payload (superblock_spelling sb) other.holds holds.payload) other.other
+
+  pub a_volume : (sb : Superblock) → IsVolume sb bytes → IsNoVolume bytes → ⊥
+  a_volume sb is (inl short) = omega (arith, short, is.room)
+  a_volume sb is (inr (inl none)) = not_none (superblock_spelling sb) is.holds.payload none
+  a_volume sb is (inr (inr (inl other))) =
+      other.no_superblock.none sb (record { is = is.holds.is; spelled = one_payload other.payload (superblock_spelling sb) other.holds is.holds.payload })
+  a_volume sb is (inr (inr (inr short))) =
+      let same = one_superblock sb short.superblock is.holds short.holds in
+      omega (arith, short.short, is.room, ap (λ (s : Superblock). s.geometry.blocks) same, ap (λ (s : Superblock). s.geometry.area) same)
+
+  pub another : IsOtherVersion bytes → IsNoVolume bytes → ⊥
+  another is (inl short) = omega (arith, short, is.room)
+  another is (inr (inl none)) = not_none is.payload is.holds none
+  another is (inr (inr (inl other))) = other.no_superblock.same (subst HasOtherVersion (one_payload is.payload other.payload is.holds other.holds) is.other)
+  another is (inr (inr (inr short))) = not_another short.superblock short.holds is
+
+-- a payload that was loaded
+some_payload : (newer : Option Entry) (payload : Vec ℕ Global) → IsPayloadOf newer (Some payload) → newer ≡ Some (record { number = last_number newer; payload = payload.items })
+some_payload None payload is = absurd is
+some_payload (Some entry) payload is = λ i. Some (record { number = entry.number; payload = sym is i })
+
+no_payload : (newer : Option Entry) → IsPayloadOf newer None → newer ≡ None
+no_payload None is = refl
+no_payload (Some entry) is = absurd is
+
+module _ (pair : Pair) (gives old : List ℕ) (left : List ℕ → Type 0) (place : pair.part ≡ superblock_part) (same : gives ≡ old) (found : Option (Vec ℕ Global)) where
+  abbrev Loaded : Type 0
+  Loaded = (slots : Slots) × IsSettledPair pair slots gives left × IsPayloadOf (newest slots) found
+
+  held : (slots : Slots) → IsSettledPair pair slots gives left → HoldsPair slots (inside superblock_part old)
+  held slots settled = subst (λ (b : List ℕ). HoldsPair slots (inside superblock_part b)) same (subst (λ (part : Part). HoldsPair slots (inside part gives)) place settled.holds)
+
+  pub loaded_none : found ≡ None → Loaded → HoldsNoPayload old
+  loaded_none none (slots, settled, is) = record { slots = slots; holds = held slots settled; is_none = no_payload (newest slots) (subst (IsPayloadOf (newest slots)) none is) }
+
+  pub loaded_some : (payload : Vec ℕ Global) → found ≡ Some payload → Loaded → HoldsPayload payload.items old
+  loaded_some payload some (slots, settled, is) = record {
+    slots = slots;
+    holds = held slots settled;
+    number = last_number (newest slots);
+    is_newest = some_payload (newest slots) payload (subst (IsPayloadOf (newest slots)) some is);
+  }
+
+-- what a refusal was passed on as
+pub passed_on : {T E : Type 0} (result : Result T E) (told field : E) → IsErrAnd result (λ e. e ≡ field) → result ≡ Err told → field ≡ told
+passed_on {T} {E} result told field passed is = sym (subst (λ (r : Result T E). IsErrAnd r (λ e. e ≡ field)) is passed)
+
+-- a payload that spells a superblock
+pub held_superblock : (sb : Superblock) (payload bytes : List ℕ) → IsSpelling payload sb → HoldsPayload payload bytes → HoldsSuperblock sb bytes
+held_superblock sb payload bytes spelled holds = record { is = spelled.is; payload = subst (λ (l : List ℕ). HoldsPayload l bytes) spelled.spelled holds }

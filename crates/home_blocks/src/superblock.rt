@@ -1,0 +1,169 @@
+ghost use Rattle.std.specs.Prelude.{◌≡◌, ◌≤◌};
+
+use crate::fields::{put, read_fields, read_u32};
+use crate::{Area, Progress, Refusal};
+use gate_journal::{MAX_NUMBER, Slot};
+use std::marker::Model;
+use volume::Geometry;
+
+/// What a superblock begins with.
+const MAGIC: [u8; 8] = *b"CRAQDISK";
+
+/// The version of the spelling.
+const VERSION: u32 = 1;
+
+/// What a member's disk says of itself.
+#[derive(Clone, Copy, Debug, PartialEq, Eq)]
+pub struct Superblock {
+    progress: Progress,
+    slot: Slot,
+    incarnation: u64,
+    geometry: Geometry,
+    front: u64,
+    current: Area,
+}
+
+impl Model for Superblock {
+    ghost use Rattle.std.specs.Prelude.{◌≤◌};
+    ghost use Rattle.gate_journal.specs.declared.batch.TheConstants.{MAX_NUMBER};
+    ghost use Rattle.home_blocks.specs.Superblock.{Superblock as Said};
+
+    ghost Value = { Said };
+
+    ghost view = { λ s. record { progress = s.progress; slot = s.slot; incarnation = s.incarnation; geometry = s.geometry; front = s.front; current = s.current } };
+
+    ghost invariant = { λ s. (s.incarnation ≤ MAX_NUMBER) × (s.front ≤ MAX_NUMBER) };
+
+    ghost inverse = { λ v. record { progress = v.progress; slot = v.slot; incarnation = v.incarnation; geometry = v.geometry; front = v.front; current = v.current } };
+}
+
+impl Superblock {
+    ghost use Rattle.std.specs.Prelude.{◌≡◌, ◌≤◌, ◌↔◌, Ok, IfOk, IfErr, IsErrOf, length};
+    ghost use Rattle.home_blocks.specs.Refusal.{IsOfReading};
+    ghost use Rattle.home_blocks.specs.Superblock.{HasOtherVersion, IsNoSuperblock, IsSpelling, IsSuperblock, Superblock as Said, marked, superblock_spelling};
+
+    /// The bytes of its spelling.
+    pub const SIZE: usize = 43;
+
+    /// The superblock that says this. The incarnation and the front are at most 2^63 - 1.
+    pub fn new(
+        progress: Progress,
+        slot: Slot,
+        incarnation: u64,
+        geometry: Geometry,
+        front: u64,
+        current: Area,
+    ) -> Superblock
+        requires incarnation { incarnation ≤ MAX_NUMBER }
+        requires front { front ≤ MAX_NUMBER }
+        ensures { result ≡ record { progress = progress; slot = slot; incarnation = incarnation; geometry = geometry; front = front; current = current } }
+    {
+        Superblock {
+            progress,
+            slot,
+            incarnation,
+            geometry,
+            front,
+            current,
+        }
+    }
+
+    /// How far the disk is installed.
+    pub fn progress(&self) -> Progress
+        ensures { result ≡ self.now.progress }
+    {
+        self.progress
+    }
+
+    /// The slot of the member whose disk it is.
+    pub fn slot(&self) -> Slot
+        ensures { result ≡ self.now.slot }
+    {
+        self.slot
+    }
+
+    /// Which of the disks that had the slot in turn it is, at most 2^63 - 1.
+    pub fn incarnation(&self) -> u64
+        ensures incarnation { result ≡ self.now.incarnation }
+        ensures limit { result ≤ MAX_NUMBER }
+    {
+        self.incarnation
+    }
+
+    /// The sizes of the volume and of the disk's parts.
+    pub fn geometry(&self) -> Geometry
+        ensures { result ≡ self.now.geometry }
+    {
+        self.geometry
+    }
+
+    /// The number of the last write before the first batch of the journal, at most 2^63 - 1.
+    pub fn front(&self) -> u64
+        ensures front { result ≡ self.now.front }
+        ensures limit { result ≤ MAX_NUMBER }
+    {
+        self.front
+    }
+
+    /// The area in which the journal stands.
+    pub fn current(&self) -> Area
+        ensures { result ≡ self.now.current }
+    {
+        self.current
+    }
+
+    /// The superblock of the whole disk at this front, of at most 2^63 - 1, and this area.
+    pub(crate) fn marked(&self, front: u64, area: Area) -> Superblock
+        requires { front ≤ MAX_NUMBER }
+        ensures { result ≡ marked self.now front area }
+    {
+        Superblock {
+            progress: Progress::Whole,
+            slot: self.slot,
+            incarnation: self.incarnation,
+            geometry: self.geometry,
+            front,
+            current: area,
+        }
+    }
+
+    /// The bytes that record it.
+    pub fn spelled(&self) -> [u8; 43]
+        ensures spelling { result ≡ superblock_spelling self.now }
+        ensures is { IsSuperblock self.now }
+    {
+        let mut bytes = [0; Superblock::SIZE];
+        put(&mut bytes, 0, &MAGIC);
+        put(&mut bytes, 8, &VERSION.to_be_bytes());
+        put(&mut bytes, 12, &[self.progress.number()]);
+        put(&mut bytes, 13, &[self.slot.number()]);
+        put(&mut bytes, 14, &self.incarnation.to_be_bytes());
+        put(&mut bytes, 22, &self.geometry.blocks.to_be_bytes());
+        put(&mut bytes, 26, &self.geometry.area.to_be_bytes());
+        put(&mut bytes, 30, &self.geometry.max_payload.to_be_bytes());
+        put(&mut bytes, 34, &self.front.to_be_bytes());
+        put(&mut bytes, 42, &[self.current.number()]);
+        bytes
+    }
+
+    /// The superblock that these bytes spell: else 132 `OtherVersion` where the magic and the number of another version
+    /// stand in front, and 131 `NotAVolume` for all others.
+    pub fn read(bytes: &[u8]) -> Result<Superblock, Refusal>
+        ensures found { IfOk result (IsSpelling bytes.now) }
+        ensures exact { (sb : Said) → IsSpelling bytes.now sb → result ≡ Ok sb }
+        ensures other_version { IsErrOf result Refusal.OtherVersion ↔ HasOtherVersion bytes.now }
+        ensures not_a_volume { IsErrOf result Refusal.NotAVolume ↔ IsNoSuperblock bytes.now }
+        ensures told { IfErr result IsOfReading }
+    {
+        let Some(behind) = bytes.strip_prefix(&MAGIC) else {
+            return Err(Refusal::NotAVolume);
+        };
+        let Some((version, fields)) = read_u32(behind) else {
+            return Err(Refusal::NotAVolume);
+        };
+        if version != VERSION {
+            return Err(Refusal::OtherVersion);
+        }
+        read_fields(fields).ok_or(Refusal::NotAVolume)
+    }
+}

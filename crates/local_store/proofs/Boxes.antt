@@ -1,0 +1,79 @@
+-- Pending images in memory.
+use Rattle.std.proofs.Common.{◌≡◌, ℕ, ◌<◌, List, [], ◌∷◌, ◌++◌, length, map, set, get_or, Box, Global, refl, sym, ◌∙◌, ap, subst, inl, inr, ⊎_elim}
+use Rattle.std.specs.Prelude.{All, Option, Some, None, IfSome, is_some, option_map}
+use Rattle.std.proofs.Math.ListN.{get_or-map as get_or-map-any}
+use Rattle.flusher.specs.Plan.{IsFrom, IsLeast, IsNext, IsPending, NonePending, behind}
+use Rattle.std.proofs.lemmas.List.{map-set, map_push, length-map, get_or-map}
+use Rattle.std.proofs.lemmas.List.Sums.{fold-append}
+use Rattle.gate_journal.specs.declared.batch.Image.{Image}
+use Rattle.local_store.specs.Pending.{with_pending}
+
+abbrev pub Boxed : Type 0
+Boxed = Box Image Global
+
+-- images in memory, and places with them
+abbrev pub unboxed : List Boxed → List Image
+unboxed images = map (λ (image : Boxed). image.value) images
+
+abbrev pub shown : List (Option Boxed) → List (Option (List ℕ))
+shown places = map (option_map (λ (image : Boxed). image.value.bytes)) places
+
+pub shown_set : (places : List (Option Boxed)) (at : ℕ) (image : Boxed) → shown (set places at (Some image)) ≡ set (shown places) at (Some image.value.bytes)
+shown_set places at image = map-set (option_map (λ (i : Boxed). i.value.bytes)) places at (Some image)
+
+pub shown_unset : (places : List (Option Boxed)) (at : ℕ) → shown (set places at None) ≡ set (shown places) at None
+shown_unset places at = map-set (option_map (λ (i : Boxed). i.value.bytes)) places at None
+
+-- one staged image more
+pub one_more : (start pending : List (Option (List ℕ))) (kept : List Boxed) (image : Boxed) → pending ≡ with_pending start (unboxed kept)
+    → set pending image.value.block (Some image.value.bytes) ≡ with_pending start (unboxed (kept ++ image ∷ []))
+one_more start pending kept image was =
+    ap (λ (p : List (Option (List ℕ))). set p image.value.block (Some image.value.bytes)) was
+    ∙ sym (ap (with_pending start) (map_push (λ (i : Boxed). i.value) kept image)
+    ∙ fold-append (λ (p : List (Option (List ℕ))) (i : Image). set p i.block (Some i.bytes)) start (unboxed kept) (image.value ∷ []))
+
+-- staged images are of the blocks of the images
+pub staged_fit : (n : ℕ) (staged : List Boxed) (images : List Image) → unboxed staged ≡ images → All (λ image. image.block < n) images → All (λ (image : Boxed). image.value.block < n) staged
+staged_fit n staged images same within = λ k d lt.
+    let long : length staged ≡ length images = sym (length-map staged (λ (i : Boxed). i.value)) ∙ ap (λ (l : List Image). length l) same in
+    let at : get_or images k d.value ≡ (get_or staged k d).value = ap (λ (l : List Image). get_or l k d.value) (sym same) ∙ get_or-map (λ (i : Boxed). i.value) staged k d d.value lt in
+    subst (λ (i : Image). i.block < n) at (within k d.value (subst (λ (m : ℕ). k < m) long lt))
+
+bytes_in : Option Boxed → Option (List ℕ)
+bytes_in place = option_map (λ (image : Boxed). image.value.bytes) place
+
+full_still : (place : Option Boxed) → is_some (bytes_in place) ≡ is_some place
+unfolding bytes_in
+full_still None = refl
+full_still (Some image) = refl
+
+-- a place is as full as what it shows
+pub as_full : (places : List (Option Boxed)) (b : ℕ) → is_some (get_or (shown places) b None) ≡ is_some (get_or places b None)
+unfolding bytes_in
+as_full places b = ap (λ (o : Option (List ℕ)). is_some o) (get_or-map-any (option_map (λ (image : Boxed). image.value.bytes)) places b None) ∙ full_still (get_or places b None)
+
+-- so the next one is the same
+pub next_shown : (places : List (Option Boxed)) (last : Option ℕ) (block : ℕ) → IsNext last (IsPending places) block → IsNext last (IsPending (shown places)) block
+next_shown places last block is = ⊎_elim (λ next. inl (from (behind last) next)) (λ wrapped. inr (λ b above. wrapped.0 b (record { from = above.from; pending = back b above.pending }), from 0 wrapped.1)) is
+  where
+    to : (b : ℕ) → IsPending places b → IsPending (shown places) b
+    to b full = as_full places b ∙ full
+
+    back : (b : ℕ) → IsPending (shown places) b → IsPending places b
+    back b full = sym (as_full places b) ∙ full
+
+    from : (first : ℕ) → IsLeast (IsFrom first (IsPending places)) block → IsLeast (IsFrom first (IsPending (shown places))) block
+    from first least = record {
+      is = record { from = least.is.from; pending = to block least.is.pending };
+      least = λ other above. least.least other (record { from = above.from; pending = back other above.pending });
+    }
+
+pub none_shown : (places : List (Option Boxed)) → NonePending (IsPending places) → NonePending (IsPending (shown places))
+none_shown places empty = λ b full. empty b (sym (as_full places b) ∙ full)
+
+pub none_within : (places : List (Option Boxed)) → NonePending (IsPending (shown places)) → NonePending (IsPending places)
+none_within places empty = λ b full. empty b (as_full places b ∙ full)
+
+pub some_next : {P Q : ℕ → Type 0} (given : Option ℕ) → ((block : ℕ) → P block → Q block) → IfSome given P → IfSome given Q
+some_next None from is = tt
+some_next (Some block) from is = from block is

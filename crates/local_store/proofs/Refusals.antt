@@ -1,0 +1,58 @@
+-- Which refusals of the crates below are told as which.
+use Rattle.std.proofs.Common.{◌≡◌, Result, Ok, Err, IsErrOf, ap, refl, subst, sym, ◌∙◌}
+use Rattle.gate_journal.specs.declared.refusal.Refusal.{Refusal as JournalRefusal}
+use Rattle.gate_journal.specs.declared.refusal.Refusal.TheVariants as journal
+use Rattle.home_blocks.specs.declared.refusal.Refusal.{Refusal as HomeRefusal}
+use Rattle.home_blocks.specs.declared.refusal.Refusal.TheVariants as home
+use Rattle.local_store.specs.Refusal.{by_home, by_journal}
+use Rattle.local_store.specs.declared.refusal.Refusal.{Refusal}
+use Rattle.local_store.specs.declared.refusal.Refusal.TheVariants.{NotAVolume, OtherVersion}
+
+IsNone : Refusal → Type 0
+IsNone NotAVolume = Unit {0}
+IsNone _ = ⊥
+
+IsOther : Refusal → Type 0
+IsOther OtherVersion = Unit {0}
+IsOther _ = ⊥
+
+pub home_no_volume : (r : HomeRefusal) → by_home r ≡ NotAVolume → r ≡ home.NotAVolume
+unfolding IsNone
+home_no_volume home.Memory is = absurd (subst IsNone (sym is) tt)
+home_no_volume home.Full is = absurd (subst IsNone (sym is) tt)
+home_no_volume home.Broken is = absurd (subst IsNone (sym is) tt)
+home_no_volume home.NotAVolume is = refl
+home_no_volume home.OtherVersion is = absurd (subst IsNone (sym is) tt)
+home_no_volume (home.Device error) is = absurd (subst IsNone (sym is) tt)
+
+pub home_other_version : (r : HomeRefusal) → by_home r ≡ OtherVersion → r ≡ home.OtherVersion
+unfolding IsOther
+home_other_version home.Memory is = absurd (subst IsOther (sym is) tt)
+home_other_version home.Full is = absurd (subst IsOther (sym is) tt)
+home_other_version home.Broken is = absurd (subst IsOther (sym is) tt)
+home_other_version home.NotAVolume is = absurd (subst IsOther (sym is) tt)
+home_other_version home.OtherVersion is = refl
+home_other_version (home.Device error) is = absurd (subst IsOther (sym is) tt)
+
+pub journal_damaged : (r : JournalRefusal) → by_journal r ≡ NotAVolume → r ≡ journal.Damaged
+unfolding IsNone
+journal_damaged journal.Memory is = absurd (subst IsNone (sym is) tt)
+journal_damaged journal.Full is = absurd (subst IsNone (sym is) tt)
+journal_damaged journal.Broken is = absurd (subst IsNone (sym is) tt)
+journal_damaged journal.Damaged is = refl
+journal_damaged (journal.Device error) is = absurd (subst IsNone (sym is) tt)
+
+err_of : {T E : Type 0} → Result T E → E → E
+err_of (Ok x) other = other
+err_of (Err e) other = e
+
+pub error_is : {T E : Type 0} {x y : E} → IsErrOf {T = T} (Err x) y → x ≡ y
+unfolding err_of
+error_is {T} {E} {x} {y} is = ap (λ (r : Result T E). err_of r x) is
+
+-- the home told that there is no volume, and the journal that its area is damaged
+pub told_by_home : {T U : Type 0} (r : HomeRefusal) (told : Refusal) → told ≡ by_home r → IsErrOf {T = T} (Err told) NotAVolume → IsErrOf {T = U} (Err r) home.NotAVolume
+told_by_home {T} {U} r told same is = ap (λ (e : HomeRefusal). Err e) (home_no_volume r (sym same ∙ error_is is))
+
+pub told_by_journal : {T U : Type 0} (r : JournalRefusal) (told : Refusal) → told ≡ by_journal r → IsErrOf {T = T} (Err told) NotAVolume → IsErrOf {T = U} (Err r) journal.Damaged
+told_by_journal {T} {U} r told same is = ap (λ (e : JournalRefusal). Err e) (journal_damaged r (sym same ∙ error_is is))

@@ -1,0 +1,292 @@
+-- A store on its disk: what the three parts come to together.
+use Rattle.std.proofs.Common.{◌≡◌, ℕ, ◌-◌, ◌*◌, ◌<◌, ◌≤◌, true, false, List, [], ◌∷◌, ◌++◌, length, replicate, refl, sym, ◌∙◌, ap, subst, inl, inr, ◌⊎◌, ⊎_elim, arith}
+use Rattle.std.specs.Prelude.{All, Option, Some, None}
+use Rattle.std.proofs.lemmas.List.Elements.{All-head, All-tail, All-nil, All-cons}
+use Rattle.block_cache.specs.Cache.{Agrees, Blocks}
+use Rattle.lru.proofs.Splits.{Contains-nil}
+use Rattle.disk_model.specs.Disk.{Elapses, Follows, Holds, LeavesOnly, NothingNew, Only, Torn}
+use Rattle.disk_model.specs.Frames.{both, left_inside, only_inside, others_keep, settled_still, started_inside, write_goes_on}
+use Rattle.disk_model.specs.Moments.{started, weaker}
+use Rattle.disk_model.specs.Part.{inside, IsApart, KeepsPart, LeftInside, TouchesOnly}
+use Rattle.disk_model.specs.declared.part.Part.{Part}
+use Rattle.gate_journal.specs.Batch.{Batch, AreBatches, HoldsBatches, HoldsOldOrNew, last_front}
+use Rattle.gate_journal.specs.Journal as journal
+use Rattle.gate_journal.specs.Journal.{IsSettled, appended, still_settled}
+use Rattle.gate_journal.specs.declared.batch.Image.{Image}
+use Rattle.local_store.proofs.Overlays.{with_batches-push}
+use Rattle.volume.specs.Volumes.{length-block_of}
+use Rattle.gate_journal.specs.Pair.{HoldsPair, HasGate, slot_bytes}
+use Rattle.gate_journal.specs.Runs.{OnlyReads, reads_keep}
+use Rattle.home_blocks.specs.Home.{HoldsSuperblock, IsSettledHome}
+use Rattle.home_blocks.specs.Home as home
+use Rattle.home_blocks.specs.Places.{disk_size_of, home_part, inside-area, superblock_part}
+use Rattle.home_blocks.specs.declared.progress.Progress.TheVariants.{Whole}
+use Rattle.local_store.specs.Meaning.{Means, Meaning, meaning_of}
+use Rattle.local_store.specs.Overlay.{with_batches, with_images, is_covered, AllFitIn, FitsIn}
+use Rattle.local_store.specs.Pending.{IsHome, IsPending, held, with_all_pending}
+use Rattle.volume.specs.declared.geometry.Geometry.{Geometry}
+use Rattle.local_store.specs.Store.{State, IsOfSuperblock, IsStored, committed, geometry_of, meaning_after, meaning_in, with_home}
+use Rattle.local_store.proofs.Homes.{as_it_is, block_home, block_torn, length-home, more_batches, one_batch}
+
+-- a call that keeps the superblock's part keeps a home settled
+pub home_still : {h : home.State} {old new : List ℕ} {left_old left_new : List ℕ → Type 0} → KeepsPart superblock_part old new left_old left_new → IsSettledHome h old left_old → IsSettledHome h new left_new
+home_still {h} {old} {new} {left_old} {left_new} keeps was =
+    let own : KeepsPart h.pair.part old new left_old left_new = subst (λ (part : Part). KeepsPart part old new left_old left_new) (sym was.place) keeps in
+    record {
+      is = was.is;
+      place = was.place;
+      slots = was.slots;
+      pair = record {
+        holds = subst (HoldsPair was.slots) (sym own.gives) was.pair.holds;
+        number = was.pair.number;
+        into = was.pair.into;
+        gate = subst (λ (x : List ℕ). HasGate h.pair.is_closed (slot_bytes h.pair.into x)) (sym own.gives) was.pair.gate;
+        other_gate = subst (λ (x : List ℕ). HasGate h.pair.other_is_closed (slot_bytes (1 - h.pair.into) x)) (sym own.gives) was.pair.other_gate;
+        runs = was.pair.runs;
+        durable = settled_still own was.pair.durable;
+      };
+      is_newest = was.is_newest;
+    }
+
+-- a settled home's superblock is held by bytes with such a first part
+held_by : {h : home.State} {gives : List ℕ} {left : List ℕ → Type 0} (was : IsSettledHome h gives left) (c : List ℕ) → inside superblock_part c ≡ inside superblock_part gives → HoldsSuperblock h.superblock c
+held_by {h} {gives} {left} was c same = record {
+  is = was.is;
+  payload = record {
+    slots = was.slots;
+    holds = subst (HoldsPair was.slots) (ap (λ (part : Part). inside part gives) was.place ∙ sym same) was.pair.holds;
+    number = h.pair.number;
+    is_newest = was.is_newest;
+  };
+}
+
+first_part : {h : home.State} {gives : List ℕ} {left : List ℕ → Type 0} → IsSettledHome h gives left → Only (inside superblock_part gives) (LeftInside superblock_part left)
+first_part {h} {gives} {left} was = subst (λ (part : Part). Only (inside part gives) (LeftInside part left)) was.place was.pair.durable
+
+-- so it is by all that a stop may leave
+pub held_left : {h : home.State} {gives : List ℕ} {left : List ℕ → Type 0} → IsSettledHome h gives left → (c : List ℕ) → left c → HoldsSuperblock h.superblock c
+held_left {h} {gives} {left} was c may = held_by was c (first_part was (inside superblock_part c) (left_inside superblock_part left c may))
+
+-- a superblock, batches and a home region come to a meaning
+pub parts_mean : (store : State) (v : List ℕ) (batches : List Batch) (c : List ℕ) → IsOfSuperblock store → store.home.superblock.progress ≡ Whole → HoldsSuperblock store.home.superblock c
+    → HoldsBatches store.journal.blocks store.journal.before batches (inside store.journal.part c) → with_batches (inside (home_part (geometry_of store)) c) batches ≡ v
+    → Means (meaning_of store.home.superblock batches v) c
+parts_mean store v batches c of whole holds area region = record {
+  superblock = store.home.superblock;
+  holds = holds;
+  is_whole = whole;
+  batches = batches;
+  area = subst (HoldsBatches (geometry_of store).blocks store.home.superblock.front batches) (inside-area (geometry_of store) store.home.superblock.current store.journal.part c of.part)
+      (subst (λ (n : ℕ). HoldsBatches (geometry_of store).blocks n batches (inside store.journal.part c)) of.before
+      (subst (λ (n : ℕ). HoldsBatches n store.journal.before batches (inside store.journal.part c)) of.blocks area));
+  is = ap (meaning_of store.home.superblock batches) (sym region);
+}
+
+-- the meaning of a store that keeps such batches
+pub meaning_is : (store : State) (v : List ℕ) (batches : List Batch) → IsOfSuperblock store → store.journal.front ≡ last_front store.journal.before batches → meaning_of store.home.superblock batches v ≡ meaning_in store v
+meaning_is store v batches of front =
+    ap (λ (n : ℕ). record { slot = store.home.superblock.slot; incarnation = store.home.superblock.incarnation; geometry = geometry_of store; front = n; volume = v }) (sym (front ∙ ap (λ (n : ℕ). last_front n batches) of.before))
+
+pub old_meaning : (store : State) (v : List ℕ) (batches : List Batch) → IsOfSuperblock store → store.home.superblock.progress ≡ Whole → store.journal.front ≡ last_front store.journal.before batches → (c : List ℕ)
+    → HoldsSuperblock store.home.superblock c → HoldsBatches store.journal.blocks store.journal.before batches (inside store.journal.part c) → with_batches (inside (home_part (geometry_of store)) c) batches ≡ v → Means (meaning_in store v) c
+old_meaning store v batches of whole front c holds area region = subst (λ (m : Meaning). Means m c) (meaning_is store v batches of front) (parts_mean store v batches c of whole holds area region)
+
+-- whatever may be left of a store's disk means what the store keeps
+pub stored_means : {store : State} {v gives : List ℕ} {left : List ℕ → Type 0} → IsOfSuperblock store → IsStored store v gives left → (c : List ℕ) → left c → Means (meaning_in store v) c
+stored_means {store} {v} {gives} {left} of was c may =
+    let area = subst (HoldsBatches store.journal.blocks store.journal.before was.batches) (sym (was.area.durable (inside store.journal.part c) (left_inside store.journal.part left c may))) was.area.holds in
+    subst (λ (m : Meaning). Means m c) (meaning_is store v was.batches of was.area.front)
+    (parts_mean store v was.batches c of was.is_whole (held_left was.superblock c may) area (was.region.left (inside (home_part (geometry_of store)) c) (left_inside (home_part (geometry_of store)) left c may)))
+
+-- the parts lie apart
+pub apart_from_superblock : {store : State} → IsOfSuperblock store → IsApart store.journal.part superblock_part
+apart_from_superblock {store} of = inr (omega (arith, of.part.start))
+
+pub apart_from_home : {store : State} → IsOfSuperblock store → IsApart store.journal.part (home_part (geometry_of store))
+apart_from_home {store} of = inr (omega (arith, of.part.start))
+
+pub home_apart : {store : State} → IsOfSuperblock store → IsApart (home_part (geometry_of store)) store.journal.part
+home_apart {store} of = inl (omega (arith, of.part.start))
+
+pub home_from_superblock : (store : State) → IsApart (home_part (geometry_of store)) superblock_part
+home_from_superblock store = inr (omega arith)
+
+pub superblock_from_home : (store : State) → IsApart superblock_part (home_part (geometry_of store))
+superblock_from_home store = inl (omega arith)
+
+-- a home region that is kept stays what it is
+pub region_still : {n : ℕ} {v : List ℕ} {batches : List Batch} {pending : List (Option (List ℕ))} {old new : List ℕ} {left_old left_new : List ℕ → Type 0} → new ≡ old → NothingNew left_old left_new
+    → IsHome n v batches pending old left_old → IsHome n v batches pending new left_new
+region_still {n} {v} {batches} {pending} {old} {new} {left_old} {left_new} same nothing was = record {
+  waits = subst (IsPending n (λ b. is_covered b batches ≡ true) v pending) (sym same) was.waits;
+  fit = was.fit;
+  long = λ x may. was.long x (nothing x may);
+  left = λ x may. was.left x (nothing x may);
+}
+
+-- the images of batches fit into the volume
+pub all_fit : (blocks before : ℕ) (batches : List Batch) → AreBatches blocks before batches → AllFitIn blocks batches
+all_fit blocks before [] are = All-nil _
+all_fit blocks before (batch ∷ batches) (is, are) = All-cons (λ (b : Batch). All (FitsIn blocks) b.images) batch batches (λ k d lt. (is.images.within k d lt, (is.whole k d lt).size)) (all_fit blocks batch.front batches are)
+
+last_front-push : (before : ℕ) (batches : List Batch) (batch : Batch) → last_front before (batches ++ batch ∷ []) ≡ batch.front
+last_front-push before [] batch = refl
+last_front-push before (first ∷ batches) batch = last_front-push first.front batches batch
+
+last_fits : (n : ℕ) (batches : List Batch) (batch : Batch) → AllFitIn n (batches ++ batch ∷ []) → All (FitsIn n) batch.images
+last_fits n [] batch fit = All-head (λ (b : Batch). All (FitsIn n) b.images) batch [] fit
+last_fits n (first ∷ batches) batch fit = last_fits n batches batch (All-tail (λ (b : Batch). All (FitsIn n) b.images) first (batches ++ batch ∷ []) fit)
+
+-- before any call
+pub at_rest : {D : Type 0} {moment : D → ℕ} {left_since : D → ℕ → List ℕ → Type 0} {store : State} {v gives : List ℕ} {left : List ℕ → Type 0} (disk : D) → IsOfSuperblock store → IsStored store v gives left
+    → ((c : List ℕ) → left_since disk (moment disk) c → left c) → LeavesOnly moment left_since disk disk (Means (meaning_in store v))
+at_rest {D} {moment} {left_since} {store} {v} disk of was only_now = started moment left_since disk (Means (meaning_in store v)) (λ c left. stored_means of was c (only_now c left))
+
+pub at_rest_before : {D : Type 0} {moment : D → ℕ} {left_since : D → ℕ → List ℕ → Type 0} {store : State} {v gives : List ℕ} {left : List ℕ → Type 0} (Q : List ℕ → Type 0) (disk : D) → IsOfSuperblock store → IsStored store v gives left
+    → ((c : List ℕ) → left_since disk (moment disk) c → left c) → LeavesOnly moment left_since disk disk (λ c. Means (meaning_in store v) c ⊎ Q c)
+at_rest_before {D} {moment} {left_since} {store} {v} Q disk of was only_now =
+    weaker moment left_since disk disk (Means (meaning_in store v)) (λ c. Means (meaning_in store v) c ⊎ Q c) (λ c means. inl means) (at_rest disk of was only_now)
+
+-- at any moment between, the superblock's part, the current area and the home region are as is said of each
+pub at_any_moment : {D : Type 0} {moment : D → ℕ} {left_since : D → ℕ → List ℕ → Type 0} {old new : D} (S A H Q : List ℕ → Type 0) → LeavesOnly moment left_since old new S → LeavesOnly moment left_since old new A → LeavesOnly moment left_since old new H
+    → ((c : List ℕ) → S c → A c → H c → Q c) → LeavesOnly moment left_since old new Q
+at_any_moment {D} {moment} {left_since} {old} {new} S A H Q s a h come =
+    weaker moment left_since old new (λ c. (S c × A c) × H c) Q (λ c (first, region). come c first.0 first.1 region) (both (both s a) h)
+
+-- what an append leaves of a store's disk, and what the store keeps then
+module _ {D : Type 0} {gives : D → List ℕ} {may_leave : D → List ℕ → Type 0} {moment : D → ℕ} {left_since : D → ℕ → List ℕ → Type 0} {old new : D} {store : State} {v : List ℕ} (of : IsOfSuperblock store)
+    (was : IsStored store v (gives old) (may_leave old)) where
+  -- the superblock, the current area and the home region, while a call writes elsewhere
+  pub superblock_stays : {part : Part} → IsApart part superblock_part → TouchesOnly gives may_leave moment left_since part old new → LeavesOnly moment left_since old new (HoldsSuperblock store.home.superblock)
+  superblock_stays {part} apart run =
+      weaker moment left_since old new (λ c. inside superblock_part c ≡ inside superblock_part (gives old)) (HoldsSuperblock store.home.superblock) (held_by was.superblock)
+      (others_keep superblock_part (λ x. x ≡ inside superblock_part (gives old)) apart run (first_part was.superblock))
+
+  pub area_stays : {part : Part} → IsApart part store.journal.part → TouchesOnly gives may_leave moment left_since part old new
+      → LeavesOnly moment left_since old new (λ c. HoldsBatches store.journal.blocks store.journal.before was.batches (inside store.journal.part c))
+  area_stays {part} apart run =
+      others_keep store.journal.part (HoldsBatches store.journal.blocks store.journal.before was.batches) apart run
+      (λ x may. subst (HoldsBatches store.journal.blocks store.journal.before was.batches) (sym (was.area.durable x may)) was.area.holds)
+
+  pub region_stays : {part : Part} → IsApart part (home_part (geometry_of store)) → TouchesOnly gives may_leave moment left_since part old new
+      → LeavesOnly moment left_since old new (λ c. with_batches (inside (home_part (geometry_of store)) c) was.batches ≡ v)
+  region_stays {part} apart run = others_keep (home_part (geometry_of store)) (λ x. with_batches x was.batches ≡ v) apart run was.region.left
+
+  -- a commit, at any moment
+  pub commit_leaves : (batch : Batch) → TouchesOnly gives may_leave moment left_since store.journal.part old new
+      → LeavesOnly moment left_since old new (λ c. HoldsOldOrNew store.journal.blocks store.journal.before was.batches batch (inside store.journal.part c))
+      → LeavesOnly moment left_since old new (λ c. Means (meaning_in store v) c ⊎ Means (meaning_after store v batch.front batch.images) c)
+  commit_leaves batch run area =
+      at_any_moment (HoldsSuperblock store.home.superblock) (λ c. HoldsOldOrNew store.journal.blocks store.journal.before was.batches batch (inside store.journal.part c))
+      (λ c. with_batches (inside (home_part (geometry_of store)) c) was.batches ≡ v) (λ c. Means (meaning_in store v) c ⊎ Means (meaning_after store v batch.front batch.images) c)
+      (superblock_stays (apart_from_superblock of) run) area (region_stays (apart_from_home of) run)
+      (λ c holds batches region. ⊎_elim (λ is. inl (old_meaning store v was.batches of was.is_whole was.area.front c holds is region)) (λ is. inr (new_meaning c holds is region)) batches)
+    where
+      new_meaning : (c : List ℕ) → HoldsSuperblock store.home.superblock c → HoldsBatches store.journal.blocks store.journal.before (was.batches ++ batch ∷ []) (inside store.journal.part c)
+          → with_batches (inside (home_part (geometry_of store)) c) was.batches ≡ v → Means (meaning_after store v batch.front batch.images) c
+      new_meaning c holds area region =
+          subst (λ (n : ℕ). Means (record { slot = store.home.superblock.slot; incarnation = store.home.superblock.incarnation; geometry = geometry_of store; front = n; volume = with_images v batch.images }) c)
+          (last_front-push store.home.superblock.front was.batches batch)
+          (parts_mean store (with_images v batch.images) (was.batches ++ batch ∷ []) c of was.is_whole holds area
+          (with_batches-push (inside (home_part (geometry_of store)) c) was.batches batch ∙ ap (λ (w : List ℕ). with_images w batch.images) region))
+
+  -- and after it
+  pub commit_keeps : (front : ℕ) (images : List Image) → TouchesOnly gives may_leave moment left_since store.journal.part old new
+      → IsSettled (appended store.journal front (length images)) (was.batches ++ record { front = front; images = images } ∷ []) (gives new) (may_leave new)
+      → IsStored (committed store front images) (with_images v images) (gives new) (may_leave new)
+  commit_keeps front images run area =
+      let batch : Batch = record { front = front; images = images } in
+      let region = run.others (home_part (geometry_of store)) (apart_from_home of) in
+      let fit = all_fit store.journal.blocks store.journal.before (was.batches ++ batch ∷ []) area.holds.are in
+      record {
+        superblock = home_still (run.others superblock_part (apart_from_superblock of)) was.superblock;
+        is_whole = was.is_whole;
+        batches = was.batches ++ batch ∷ [];
+        area = area;
+        cached = subst (Agrees store.cache) (sym region.gives) was.cached;
+        region = one_batch batch (last_fits (geometry_of store).blocks was.batches batch (subst (λ (n : ℕ). AllFitIn n (was.batches ++ batch ∷ [])) of.blocks fit)) (region_still region.gives region.leaves was.region);
+        runs = was.runs;
+      }
+
+  -- a block written home, at any moment and after it
+  module _ (b : ℕ) (bytes : List ℕ) (full : held store.pending b ≡ Some bytes) (run : TouchesOnly gives may_leave moment left_since (home_part (geometry_of store)) old new)
+      (follows : Follows (Torn (4096 * b) 4096) (LeftInside (home_part (geometry_of store)) (may_leave old)) (LeftInside (home_part (geometry_of store)) (may_leave new))) where
+    pub tick_leaves : ((c : List ℕ) → left_since old (moment old) c → may_leave old c) → Elapses (moment old) (moment new) (left_since old) (left_since new) (may_leave new)
+        → LeavesOnly moment left_since old new (Means (meaning_in store v))
+    tick_leaves only_now time =
+        at_any_moment (HoldsSuperblock store.home.superblock) (λ c. HoldsBatches store.journal.blocks store.journal.before was.batches (inside store.journal.part c))
+        (λ c. with_batches (inside (home_part (geometry_of store)) c) was.batches ≡ v) (Means (meaning_in store v))
+        (superblock_stays (home_from_superblock store) run) (area_stays (home_apart of) run)
+        (write_goes_on (home_part (geometry_of store)) (λ x. with_batches x was.batches ≡ v) new (may_leave old) (4096 * b) 4096
+        (started_inside (home_part (geometry_of store)) (λ x. with_batches x was.batches ≡ v) old (may_leave old) only_now was.region.left) time follows
+        (λ x y may torn. block_torn b bytes x y full may torn was.region))
+        (old_meaning store v was.batches of was.is_whole was.area.front)
+
+    pub tick_keeps : (cache : Blocks) → Agrees cache (inside (home_part (geometry_of store)) (gives new)) → b < (geometry_of store).blocks → Holds (inside (home_part (geometry_of store)) (gives old)) (4096 * b) bytes (inside (home_part (geometry_of store)) (gives new))
+        → IsStored (with_home store b cache) v (gives new) (may_leave new)
+    tick_keeps cache agrees below holds = record {
+      cached = agrees;
+      superblock = home_still (run.others superblock_part (home_from_superblock store)) was.superblock;
+      is_whole = was.is_whole;
+      batches = was.batches;
+      area = still_settled (run.others store.journal.part (home_apart of)) was.area;
+      region = block_home b bytes (inside (home_part (geometry_of store)) (gives new)) (LeftInside (home_part (geometry_of store)) (may_leave new)) below (is_whole below) full holds follows was.region;
+      runs = was.runs;
+    }
+      where
+        is_whole : b < (geometry_of store).blocks → length bytes ≡ 4096
+        is_whole below = ap length (was.region.waits.image b bytes full) ∙ length-block_of v b (omega (arith, below, was.region.waits.size))
+
+  -- calls that keep the home region as it is, until the superblock changes
+  pub reads_keep_store : OnlyReads gives may_leave moment left_since old new → IsStored store v (gives new) (may_leave new)
+  reads_keep_store run =
+      let region = reads_keep (home_part (geometry_of store)) old new run in
+      record {
+        superblock = home_still (reads_keep superblock_part old new run) was.superblock;
+        is_whole = was.is_whole;
+        batches = was.batches;
+        area = still_settled (reads_keep store.journal.part old new run) was.area;
+        region = region_still region.gives region.leaves was.region;
+        cached = subst (Agrees store.cache) (sym region.gives) was.cached;
+        runs = was.runs;
+      }
+
+  pub reads_leave : OnlyReads gives may_leave moment left_since old new → LeavesOnly moment left_since old new (Means (meaning_in store v))
+  reads_leave run = weaker moment left_since old new (may_leave old) (Means (meaning_in store v)) (stored_means of was) run.moments
+
+agrees_empty : (home : List ℕ) → Agrees [] home
+agrees_empty home = λ block bytes has. absurd (Contains-nil (block, bytes) has)
+
+-- another cache that agrees
+pub with_cache : {store : State} {v gives : List ℕ} {left : List ℕ → Type 0} (cache : Blocks) → Agrees cache (inside (home_part (geometry_of store)) gives) → IsStored store v gives left → IsStored (record store { cache = cache }) v gives left
+with_cache {store} {v} {gives} {left} cache agrees was = record {
+  superblock = was.superblock;
+  is_whole = was.is_whole;
+  batches = was.batches;
+  area = was.area;
+  region = was.region;
+  cached = agrees;
+  runs = was.runs;
+}
+
+-- a disk that was opened: the home region as it is, the batches over it, and all of them pending
+pub opened : (h : home.State) (j : journal.State) (pending : List (Option (List ℕ))) (cache : Blocks) → cache ≡ [] → (g : Geometry) (batches : List Batch) {gives : List ℕ} {left : List ℕ → Type 0} → h.superblock.geometry ≡ g → h.superblock.progress ≡ Whole
+    → IsSettledHome h gives left → IsSettled j batches gives left → pending ≡ with_all_pending (replicate g.blocks None) batches → AllFitIn g.blocks batches → disk_size_of g ≤ length gives → Only gives left
+    → IsStored (record { home = h; journal = j; pending = pending; cache = cache; broken = false }) (with_batches (inside (home_part g) gives) batches) gives left
+opened h j pending cache none g batches {gives} {left} geometry whole settled area is fit room only =
+    let base = as_it_is (length-home g gives room) (only_inside (home_part g) gives left only) in
+    let region : IsHome g.blocks (with_batches (inside (home_part g) gives) batches) batches (with_all_pending (replicate g.blocks None) batches) (inside (home_part g) gives) (LeftInside (home_part g) left)
+    = more_batches g.blocks (inside (home_part g) gives) (LeftInside (home_part g) left) batches (inside (home_part g) gives) [] (replicate g.blocks None) fit base in
+    record {
+      superblock = settled;
+      is_whole = whole;
+      batches = batches;
+      area = area;
+      cached = subst (λ (k : Blocks). Agrees k (inside (home_part h.superblock.geometry) gives)) (sym none) (agrees_empty (inside (home_part h.superblock.geometry) gives));
+      region = subst (λ (k : Geometry). IsHome k.blocks (with_batches (inside (home_part g) gives) batches) batches pending (inside (home_part k) gives) (LeftInside (home_part k) left)) (sym geometry)
+          (subst (λ (p : List (Option (List ℕ))). IsHome g.blocks (with_batches (inside (home_part g) gives) batches) batches p (inside (home_part g) gives) (LeftInside (home_part g) left)) (sym is) region);
+      runs = refl;
+    }
+
+pub superblock_apart : (g : Geometry) → IsApart superblock_part (home_part g)
+superblock_apart g = inl (omega arith)

@@ -1,0 +1,42 @@
+use Rattle.std.proofs.Common.{◌≡◌, ◌∙◌, ap, arith, refl, subst, sym, None}
+use Rattle.disk_model.specs.Disk.{LeavesOnly}
+use Rattle.disk_model.specs.Moments.{then_run}
+use Rattle.local_store.specs.Meaning.{Means}
+use Rattle.local_store.specs.Pending.{held}
+use Rattle.local_store.specs.Store.{IsStored, State, meaning_in, with_home}
+use Rattle.local_store.proofs.Homes.{held_below}
+use Rattle.local_store.proofs.Stored.{at_rest}
+use Rattle.local_store.proofs.contents.Contents.bring_all_home.Goals as goal
+
+same_but : (next new loop start : State) → new ≡ next → loop ≡ record start { pending = loop.pending; cache = loop.cache } → next ≡ record loop { pending = next.pending; cache = next.cache } → new ≡ record start { pending = new.pending; cache = new.cache }
+same_but next new loop start is same kept = is ∙ kept ∙ ap (λ (s : State). record s { pending = next.pending; cache = next.cache }) same ∙ ap (λ (s : State). record start { pending = s.pending; cache = s.cache }) (sym is)
+
+pub loop-block-init : goal.loop-block-init
+loop-block-init g c = (
+  refl,
+  λ b below. absurd (omega (arith, below)),
+  refl,
+  refl,
+  λ keeps v was. was,
+  λ keeps v. subst (λ (s : State). IsStored s v (g.D.Disk.gives c.args.disk.now) (g.D.Disk.may_leave_now c.args.disk.now) → LeavesOnly g.D.Disk.moment g.D.Disk.may_have_left_since c.args.disk.now c.args.disk.now (Means (meaning_in s v))) c.self.view_is
+      (λ was. at_rest c.args.disk.now c.self.invariant.journal was (g.met.D.Disk.only_now keeps c.args.disk.now)),
+)
+
+pub returns-in_err-bring_home-clause-any_moment : goal.returns-in_err-bring_home-clause-any_moment
+returns-in_err-bring_home-clause-any_moment g c = λ keeps v was.
+    let (same, empty, size, failures, stored, left) = c.loop-block.invariant in
+    then_run g.D.Disk.moment g.D.Disk.may_have_left_since c.args.disk.now c.loop-block.disk c.bring_home.new.disk _ (left keeps v was)
+    (subst (λ (s : State). LeavesOnly g.D.Disk.moment g.D.Disk.may_have_left_since c.loop-block.disk c.bring_home.new.disk (Means (meaning_in s v))) same (c.bring_home.ensures.any_moment keeps v (stored keeps v was)))
+
+pub loop-block-preserved : goal.loop-block-preserved
+loop-block-preserved g c =
+    let (same, empty, size, failures, stored, left) = c.loop-block.invariant in
+    let done = c.in_ok-bring_home.ensures in (
+      same_but (with_home c.loop-block.self c.loop-block.block c.bring_home.new.self.cache) c.bring_home.new.self c.loop-block.self c.args.self.now done.ok same refl,
+      λ b below. subst (λ (s : State). held s.pending b ≡ None) (sym done.ok) (held_below c.loop-block.self.pending c.loop-block.block b empty below),
+      c.bring_home.ensures.size ∙ size,
+      done.cause.done ∙ failures,
+      λ keeps v was. done.stored keeps v (stored keeps v was),
+      λ keeps v was. then_run g.D.Disk.moment g.D.Disk.may_have_left_since c.args.disk.now c.loop-block.disk c.bring_home.new.disk _ (left keeps v was)
+          (subst (λ (s : State). LeavesOnly g.D.Disk.moment g.D.Disk.may_have_left_since c.loop-block.disk c.bring_home.new.disk (Means (meaning_in s v))) same (c.bring_home.ensures.any_moment keeps v (stored keeps v was))),
+    )

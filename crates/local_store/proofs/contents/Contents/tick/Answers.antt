@@ -1,0 +1,15 @@
+use Rattle.std.proofs.Common.{subst}
+use Rattle.disk_model.specs.Disk.{LeavesOnly}
+use Rattle.flusher.specs.Plan.{IsNext, IsPending}
+use Rattle.local_store.specs.Meaning.{Means}
+use Rattle.local_store.specs.Store.{IsStored, State, meaning_in}
+use Rattle.local_store.proofs.Stored.{at_rest}
+use Rattle.local_store.proofs.contents.Contents.tick.Goals as goal
+
+pub returns-in_default-clause-any_moment : goal.returns-in_default-clause-any_moment
+returns-in_default-clause-any_moment g c = λ keeps v.
+    subst (λ (s : State). IsStored s v (g.D.Disk.gives c.args.disk.now) (g.D.Disk.may_leave_now c.args.disk.now) → LeavesOnly g.D.Disk.moment g.D.Disk.may_have_left_since c.args.disk.now c.args.disk.now (Means (meaning_in s v))) c.self.view_is
+    (λ was. at_rest c.args.disk.now c.self.invariant.journal was (g.met.D.Disk.only_now keeps c.args.disk.now))
+
+pub returns-clause-home : goal.returns-clause-home
+returns-clause-home g c = (subst (λ (s : State). IsNext c.args.plan.now (IsPending s.pending) c.in-Some.block) c.self.view_is c.in-Some.ensures.next, c.in_ok-bring_home.ensures.ok, c.in-Some.ensures.given)

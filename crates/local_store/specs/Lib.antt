@@ -1,0 +1,5 @@
+pub mod Meaning
+pub mod Overlay
+pub mod Pending
+pub mod Refusal
+pub mod Store

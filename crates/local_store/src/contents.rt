@@ -1,0 +1,515 @@
+//! What a member's disk holds, as its store knows it. Each call is lent the disk.
+ghost use Rattle.std.specs.Prelude.{◌≡◌, ◌≢◌, ◌⊎◌, ◌*◌, ◌<◌, ◌≤◌, ◌↔◌, ℕ, List, Some, None, true, false, length, replicate, set, IfOk, IfErr, IfNone, IfSome, OnOk, OnErr, IsErrOf, IsSome};
+ghost use Rattle.disk_model.specs.Disk.{LeavesOnly, Only};
+ghost use Rattle.gate_journal.specs.Batch.{AreImages};
+ghost use Rattle.gate_journal.specs.Journal as journals;
+ghost use Rattle.gate_journal.specs.Journal.{Fits, IsTooMuch};
+ghost use Rattle.gate_journal.specs.Pair.{stored};
+ghost use Rattle.block_cache.specs.Cache.{IsCached};
+ghost use Rattle.flusher.specs.Plan.{IsNext, IsPending, NonePending};
+ghost use Rattle.home_blocks.specs.Area as areas;
+ghost use Rattle.home_blocks.specs.Home.{IsNoVolume, IsOtherVersion};
+ghost use Rattle.home_blocks.specs.Places as places;
+ghost use Rattle.home_blocks.specs.Places.{disk_size_of};
+ghost use Rattle.gate_journal.specs.Runs.{OnlyReads};
+ghost use Rattle.disk_model.specs.Part.{inside};
+ghost use Rattle.volume.specs.Writes.{block_of};
+ghost use Rattle.home_blocks.specs.Superblock.{marked};
+ghost use Rattle.local_store.specs.Meaning.{HasDamagedArea, IsUnfinished, Means};
+ghost use Rattle.local_store.specs.Overlay.{with_images};
+ghost use Rattle.local_store.specs.Pending.{held};
+ghost use Rattle.local_store.specs.Refusal.{HasCause, IsCaused, IsOfCheckpoint, IsOfCommitting, IsOfDevice, IsOfFormatting, IsOfOpening, IsOfReading, IsOfTicking};
+ghost use Rattle.local_store.specs.Store.{IsAllHome, IsEmptied, IsFreshJournal, IsOfSuperblock, IsSameButForPending, IsStored, State, committed, geometry_of, meaning_after, meaning_in, with_home};
+
+use crate::pending::{Pending, stage};
+use crate::refusal::Refusal;
+use block_cache::Cache;
+use disk_model::Disk;
+use flusher::Plan;
+use gate_journal::{Image, Journal, MAX_NUMBER, Slot, Synced};
+use home_blocks::{Area, Home, Progress, Superblock, area_part, home_part};
+use std::alloc::Global;
+use std::marker::Model;
+use volume::{BLOCK_SIZE, Geometry};
+
+/// The superblock, the home region and the current area of a disk of at least `disk_size(geometry)` bytes, and the images
+/// that are not yet home.
+#[derive(Drop)]
+pub struct Contents {
+    home: Home,
+    journal: Journal,
+    pending: Pending,
+    cache: Cache,
+    broken: bool,
+}
+
+impl Model for Contents {
+    ghost use Rattle.local_store.specs.Store.{IsSound, State};
+
+    ghost Value = { State };
+
+    ghost view = { λ s. record { home = s.home; journal = s.journal; pending = s.pending; cache = s.cache; broken = s.broken } };
+
+    ghost invariant = { λ s. IsSound (record { home = s.home; journal = s.journal; pending = s.pending; cache = s.cache; broken = s.broken }) };
+}
+
+impl Contents {
+    /// Formats a disk of at least `disk_size(geometry)` bytes, which may hold anything: after it the disk means a volume of
+    /// zeros at front 0. The incarnation is at most 2^63 - 1. It writes each block of the home region, a closed gate to the
+    /// first area, a sync, and creates the superblock's pair: one device call a block, and fourteen more.
+    ///
+    /// It is refused for memory, with nothing written, and by the device.
+    pub fn format<D: Disk>(
+        alloc: Global,
+        disk: &mut D,
+        slot: Slot,
+        incarnation: u64,
+        geometry: Geometry,
+    ) -> Result<Contents, Refusal>
+        requires on_disk { disk_size_of geometry ≤ D.size disk.old }
+        requires limit { incarnation ≤ MAX_NUMBER }
+
+        ensures means { IfOk result (λ s. meaning_in s (replicate (4096 * geometry.blocks) 0)
+            ≡ record { slot = slot; incarnation = incarnation; geometry = geometry; front = 0; volume = replicate (4096 * geometry.blocks) 0 }) }
+        ensures stored { D.keeps_model → IfOk result (λ s. IsStored s (replicate (4096 * geometry.blocks) 0) (D.gives disk.new) (D.may_leave_now disk.new)) }
+        ensures runs { IfOk result (λ s. s.broken ≡ false) }
+        ensures size { D.size disk.new ≡ D.size disk.old }
+        ensures told { IfErr result IsOfFormatting }
+        ensures unchanged { IsErrOf result Refusal.Memory → disk.new ≡ disk.old }
+        ensures cause { HasCause (D.failures disk.old) (D.failures disk.new) result }
+    {
+        let pending = Pending::new(alloc, geometry.blocks)?;
+        let cache = Cache::new(alloc)?;
+        write_zeros(disk, geometry)?;
+        let part = area_part(geometry, Area::First);
+        let journal = Journal::create(disk, part, slot, geometry.blocks, 0)?;
+        let superblock = Superblock::new(
+            Progress::Whole,
+            slot,
+            incarnation,
+            geometry,
+            0,
+            Area::First,
+        );
+        let (home, _) = Home::create(disk, superblock)?;
+        Ok(Contents {
+            home,
+            journal,
+            pending,
+            cache,
+            broken: false,
+        })
+    }
+
+    /// What a disk of any length holds, which may be anything. It syncs, and then reads; after it the whole disk is durable.
+    ///
+    /// 131 `NotAVolume` where the disk holds no superblock of this version or another, is too short for it, or its current
+    /// area is damaged; 132 `OtherVersion`; 133 `Unfinished` where its installation was not finished; 100 `Memory`, and what
+    /// the device refuses. All leave the disk as it was.
+    #[tactic(auto, using(crate::proofs::Refusals::home_other_version))]
+    pub fn open<D: Disk>(alloc: Global, disk: &mut D) -> Result<Contents, Refusal>
+        ensures stored { D.keeps_model → IfOk result (λ s. (volume : List ℕ) × IsStored s volume (D.gives disk.new) (D.may_leave_now disk.new) × Means (meaning_in s volume) (D.gives disk.old)) }
+        ensures room { IfOk result (λ s. disk_size_of (geometry_of s) ≤ D.size disk.old) }
+        ensures runs { IfOk result (λ s. s.broken ≡ false) }
+
+        ensures not_a_volume { D.keeps_model → IsErrOf result Refusal.NotAVolume → IsNoVolume (D.gives disk.old) ⊎ HasDamagedArea (D.gives disk.old) }
+        ensures other_version { D.keeps_model → IsErrOf result Refusal.OtherVersion → IsOtherVersion (D.gives disk.old) }
+        ensures unfinished { D.keeps_model → IsErrOf result Refusal.Unfinished → IsUnfinished (D.gives disk.old) }
+
+        ensures whole { D.keeps_model → OnOk result (Only (D.gives disk.new) (D.may_leave_now disk.new)) }
+        ensures reads { D.keeps_model → OnlyReads D.gives D.may_leave_now D.moment D.may_have_left_since disk.old disk.new }
+        ensures size { D.size disk.new ≡ D.size disk.old }
+        ensures told { IfErr result IsOfOpening }
+        ensures cause { HasCause (D.failures disk.old) (D.failures disk.new) result }
+    {
+        let home = match Home::open(alloc, disk) {
+            Ok(home) => home,
+            Err(refusal) => return Err(Refusal::from(refusal)),
+        };
+        let superblock = home.superblock();
+        match superblock.progress() {
+            Progress::Installing => return Err(Refusal::Unfinished),
+            Progress::Whole => {}
+        }
+        let geometry = superblock.geometry();
+        let part = area_part(geometry, superblock.current());
+        let opened = match Journal::open(
+            alloc,
+            disk,
+            part,
+            superblock.slot(),
+            geometry.blocks,
+            superblock.front(),
+        ) {
+            Ok(opened) => opened,
+            Err(refusal) => return Err(Refusal::from(refusal)),
+        };
+        let (journal, batches) = opened;
+        let pending = Pending::of(alloc, geometry.blocks, &batches)?;
+        let cache = Cache::new(alloc)?;
+        Ok(Contents {
+            home,
+            journal,
+            pending,
+            cache,
+            broken: false,
+        })
+    }
+
+    /// Reads a block of the volume, of 4,096 bytes: by no device call where it is pending or in the cache, else by one.
+    ///
+    /// 122 `Broken` exactly where a device call failed before; and what the device refuses: then the store is broken.
+    pub fn read_block<D: Disk>(
+        &mut self,
+        disk: &mut D,
+        block: u32,
+        bytes: &mut [u8],
+    ) -> Result<(), Refusal>
+        requires on_disk { disk_size_of (geometry_of self.old) ≤ D.size disk.old }
+        requires block { block < (geometry_of self.old).blocks }
+        requires whole { length bytes.old ≡ BLOCK_SIZE }
+
+        ensures read { D.keeps_model → (volume : List ℕ) → IsStored self.old volume (D.gives disk.old) (D.may_leave_now disk.old)
+            → OnOk result (bytes.new ≡ block_of volume block) }
+        ensures stored { D.keeps_model → (volume : List ℕ) → IsStored self.old volume (D.gives disk.old) (D.may_leave_now disk.old)
+            → OnOk result (IsStored self.new volume (D.gives disk.new) (D.may_leave_now disk.new)) }
+        ensures ok { OnOk result (self.new ≡ record self.old { cache = self.new.cache }) }
+        ensures cached { IsCached self.old.cache block → disk.new ≡ disk.old }
+        ensures reads { D.keeps_model → OnlyReads D.gives D.may_leave_now D.moment D.may_have_left_since disk.old disk.new }
+        ensures pending { IsSome (held self.old.pending block) → disk.new ≡ disk.old }
+        ensures size { D.size disk.new ≡ D.size disk.old }
+        ensures broken { IsErrOf result Refusal.Broken ↔ (self.old.broken ≡ true) }
+        ensures told { IfErr result IsOfReading }
+        ensures err { OnErr result (self.new ≡ record self.old { cache = self.new.cache; broken = true }) }
+        ensures cause { HasCause (D.failures disk.old) (D.failures disk.new) result }
+    {
+        if self.broken {
+            return Err(Refusal::Broken);
+        }
+        if let Some(image) = self.pending.get(block) {
+            bytes.copy_from_slice(&image.bytes);
+            return Ok(());
+        }
+        if let Err(error) = self.cache.read(disk, &self.home, block, bytes) {
+            self.broken = true;
+            return Err(Refusal::Device(error));
+        }
+        Ok(())
+    }
+
+    /// The sizes of the volume and of the disk's parts.
+    pub fn geometry(&self) -> Geometry
+        ensures { result ≡ geometry_of self.now }
+    {
+        self.home.superblock().geometry()
+    }
+
+    /// The slot of the member whose disk it is.
+    pub fn slot(&self) -> Slot
+        ensures { result ≡ self.now.home.superblock.slot }
+    {
+        self.home.superblock().slot()
+    }
+
+    /// Which of the disks that had the slot in turn it is, at most 2^63 - 1.
+    pub fn incarnation(&self) -> u64
+        ensures incarnation { result ≡ self.now.home.superblock.incarnation }
+        ensures limit { result ≤ MAX_NUMBER }
+    {
+        self.home.superblock().incarnation()
+    }
+
+    /// How many images the next batch can have.
+    pub fn room(&self) -> u64
+        ensures fits { (count : ℕ) → 0 < count → count ≤ result → Fits self.now.journal count }
+        ensures too_much { (count : ℕ) → result < count → IsTooMuch self.now.journal count }
+    {
+        self.journal.room()
+    }
+
+    /// Whether a device call failed: then each call is refused with 122, until the disk is opened again.
+    pub fn is_broken(&self) -> bool
+        ensures { result ≡ self.now.broken }
+    {
+        self.broken
+    }
+
+    /// The number of the last write that the disk holds.
+    pub fn front(&self) -> u64
+        ensures front { result ≡ self.now.journal.front }
+        ensures limit { result ≤ MAX_NUMBER }
+    {
+        self.journal.front()
+    }
+
+    /// Whether a commit of so many images may go on.
+    fn may_commit(&self, front: u64, count: usize) -> Result<(), Refusal>
+        requires { 0 < count }
+        ensures runs { OnOk result ((self.now.broken ≡ false) × (self.now.journal.front < front)) }
+        ensures fits { OnOk result (¬ IsTooMuch self.now.journal count) }
+        ensures broken { IsErrOf result Refusal.Broken ↔ (self.now.broken ≡ true) }
+        ensures backwards { IsErrOf result Refusal.Backwards ↔ ((self.now.broken ≡ false) × (front ≤ self.now.journal.front)) }
+        ensures full { IsErrOf result Refusal.Full ↔ ((self.now.broken ≡ false) × (self.now.journal.front < front) × IsTooMuch self.now.journal count) }
+        ensures told { IfErr result IsOfCommitting }
+        ensures own { IfErr result (λ r. ¬ IsOfDevice r) }
+        ensures cause { IfErr result (λ r. (n : ℕ) → IsCaused n n r) }
+    {
+        if self.broken {
+            return Err(Refusal::Broken);
+        }
+        if front <= self.front() {
+            return Err(Refusal::Backwards);
+        }
+        if self.journal.room() < count as u64 {
+            return Err(Refusal::Full);
+        }
+        Ok(())
+    }
+
+    /// Puts whole blocks into the volume, and gives the receipt of the member's slot and this front, by the four device
+    /// calls of an append. The images are at least one, each of a block of the volume, no block twice; the front is at most
+    /// 2^63 - 1.
+    ///
+    /// 122 `Broken` exactly where a device call failed before; else 134 `Backwards` exactly where the front isn't above the
+    /// old one; else 121 `Full` exactly where the batch doesn't fit into the area; else 100 `Memory`: these change nothing.
+    /// After a refusal of the device the store is broken, and the disk means the old front or the new.
+    pub fn commit<D: Disk>(
+        &mut self,
+        alloc: Global,
+        disk: &mut D,
+        front: u64,
+        images: &[Image],
+    ) -> Result<Synced, Refusal>
+        requires on_disk { disk_size_of (geometry_of self.old) ≤ D.size disk.old }
+        requires images { AreImages (geometry_of self.old).blocks images.now }
+        requires limit { front ≤ MAX_NUMBER }
+
+        ensures receipt { IfOk result (λ receipt. receipt ≡ record { slot = self.old.home.superblock.slot; front = front }) }
+        ensures ok { OnOk result (self.new ≡ committed self.old front images.now) }
+        ensures stored { D.keeps_model → (volume : List ℕ) → IsStored self.old volume (D.gives disk.old) (D.may_leave_now disk.old)
+            → OnOk result (IsStored self.new (with_images volume images.now) (D.gives disk.new) (D.may_leave_now disk.new)) }
+
+        // A stop at any moment of the call leaves a disk that means the old front and volume, or the new ones.
+        ensures any_moment { D.keeps_model → (volume : List ℕ) → IsStored self.old volume (D.gives disk.old) (D.may_leave_now disk.old)
+            → LeavesOnly D.moment D.may_have_left_since disk.old disk.new
+            (λ c. Means (meaning_in self.old volume) c ⊎ Means (meaning_after self.old volume front images.now) c) }
+        ensures size { D.size disk.new ≡ D.size disk.old }
+
+        ensures broken { IsErrOf result Refusal.Broken ↔ (self.old.broken ≡ true) }
+        ensures backwards { IsErrOf result Refusal.Backwards ↔ ((self.old.broken ≡ false) × (front ≤ self.old.journal.front)) }
+        ensures full { IsErrOf result Refusal.Full ↔ ((self.old.broken ≡ false) × (self.old.journal.front < front) × IsTooMuch self.old.journal (length images.now)) }
+        ensures told { IfErr result IsOfCommitting }
+        ensures unchanged { IfErr result (λ r. ¬ IsOfDevice r → (self.new ≡ self.old) × (disk.new ≡ disk.old)) }
+        ensures device { IfErr result (λ r. IsOfDevice r → self.new ≡ record self.old { journal = record self.old.journal { broken = true }; broken = true }) }
+        ensures cause { HasCause (D.failures disk.old) (D.failures disk.new) result }
+    {
+        self.may_commit(front, images.len())?;
+        let staged = stage(alloc, images)?;
+        let receipt = match self.journal.append(alloc, disk, front, images) {
+            Ok(receipt) => receipt,
+            Err(refusal) => {
+                self.broken = refusal.is_of_device();
+                return Err(Refusal::from(refusal));
+            }
+        };
+        self.pending.keep(staged);
+        Ok(receipt)
+    }
+
+    /// Writes the next pending block home, by one device call, and gives its number; `None` exactly where nothing is
+    /// pending. The plan says which is the next.
+    ///
+    /// 122 `Broken` exactly where a device call failed before: this changes nothing, the plan neither. After a refusal of
+    /// the device the store is broken, and the disk means what it meant.
+    pub fn tick<D: Disk>(&mut self, disk: &mut D, plan: &mut Plan) -> Result<Option<u32>, Refusal>
+        requires on_disk { disk_size_of (geometry_of self.old) ≤ D.size disk.old }
+
+        ensures home { IfOk result (λ given. IfSome given (λ block. IsNext plan.old (IsPending self.old.pending) block × (self.new ≡ with_home self.old block self.new.cache) × (plan.new ≡ Some block))) }
+        ensures none { IfOk result (λ given. IfNone given ((self.new ≡ self.old) × (disk.new ≡ disk.old) × NonePending (IsPending self.old.pending))) }
+        ensures stored { D.keeps_model → (volume : List ℕ) → IsStored self.old volume (D.gives disk.old) (D.may_leave_now disk.old)
+            → OnOk result (IsStored self.new volume (D.gives disk.new) (D.may_leave_now disk.new)) }
+
+        // A stop at any moment of the call leaves a disk that means what it meant.
+        ensures any_moment { D.keeps_model → (volume : List ℕ) → IsStored self.old volume (D.gives disk.old) (D.may_leave_now disk.old)
+            → LeavesOnly D.moment D.may_have_left_since disk.old disk.new (Means (meaning_in self.old volume)) }
+        ensures size { D.size disk.new ≡ D.size disk.old }
+        ensures broken { IsErrOf result Refusal.Broken ↔ (self.old.broken ≡ true) }
+        ensures told { IfErr result IsOfTicking }
+        ensures unchanged { IfErr result (λ r. ¬ IsOfDevice r → (self.new ≡ self.old) × (disk.new ≡ disk.old) × (plan.new ≡ plan.old)) }
+        ensures device { IfErr result (λ r. IsOfDevice r → self.new ≡ record self.old { cache = self.new.cache; broken = true }) }
+        ensures cause { HasCause (D.failures disk.old) (D.failures disk.new) result }
+    {
+        if self.broken {
+            return Err(Refusal::Broken);
+        }
+        let Some(block) = self.pending.next(plan) else {
+            return Ok(None);
+        };
+        self.bring_home(disk, block)?;
+        Ok(Some(block))
+    }
+
+    /// Writes a block home, by one device call, if it is pending.
+    fn bring_home<D: Disk>(&mut self, disk: &mut D, block: u32) -> Result<(), Refusal>
+        requires on_disk { disk_size_of (geometry_of self.old) ≤ D.size disk.old }
+        requires block { block < (geometry_of self.old).blocks }
+        requires runs { self.old.broken ≡ false }
+        ensures ok { OnOk result (self.new ≡ with_home self.old block self.new.cache) }
+        ensures stored { D.keeps_model → (volume : List ℕ) → IsStored self.old volume (D.gives disk.old) (D.may_leave_now disk.old)
+            → OnOk result (IsStored self.new volume (D.gives disk.new) (D.may_leave_now disk.new)) }
+        ensures any_moment { D.keeps_model → (volume : List ℕ) → IsStored self.old volume (D.gives disk.old) (D.may_leave_now disk.old)
+            → LeavesOnly D.moment D.may_have_left_since disk.old disk.new (Means (meaning_in self.old volume)) }
+        ensures size { D.size disk.new ≡ D.size disk.old }
+        ensures told { IfErr result IsOfTicking }
+        ensures own { IfErr result IsOfDevice }
+        ensures err { OnErr result (self.new ≡ record self.old { cache = self.new.cache; broken = true }) }
+        ensures cause { HasCause (D.failures disk.old) (D.failures disk.new) result }
+    {
+        let Some(image) = self.pending.get(block) else {
+            return Ok(());
+        };
+        if let Err(error) = self.home.write_home(disk, block, &image.bytes) {
+            self.cache.forget(block);
+            self.broken = true;
+            return Err(Refusal::Device(error));
+        }
+        self.cache.renew(block, &image.bytes);
+        self.pending.drop_block(block);
+        Ok(())
+    }
+
+    /// Writes all pending blocks home, and makes the other area the current one: one device call a pending block and nine
+    /// more. After it nothing is pending, and the area is empty.
+    ///
+    /// 122 `Broken` exactly where a device call failed before; else 121 `Full` exactly where no number is left for another
+    /// superblock: these change nothing. After a refusal of the device the store is broken, and the disk means what it
+    /// meant.
+    pub fn checkpoint<D: Disk>(&mut self, disk: &mut D) -> Result<(), Refusal>
+        requires on_disk { disk_size_of (geometry_of self.old) ≤ D.size disk.old }
+
+        ensures ok { OnOk result (IsEmptied self.old self.new) }
+        ensures stored { D.keeps_model → (volume : List ℕ) → IsStored self.old volume (D.gives disk.old) (D.may_leave_now disk.old)
+            → OnOk result (IsStored self.new volume (D.gives disk.new) (D.may_leave_now disk.new)) }
+
+        // A stop at any moment of the call leaves a disk that means what it meant.
+        ensures any_moment { D.keeps_model → (volume : List ℕ) → IsStored self.old volume (D.gives disk.old) (D.may_leave_now disk.old)
+            → LeavesOnly D.moment D.may_have_left_since disk.old disk.new (Means (meaning_in self.old volume)) }
+        ensures size { D.size disk.new ≡ D.size disk.old }
+
+        ensures broken { IsErrOf result Refusal.Broken ↔ (self.old.broken ≡ true) }
+        ensures full { IsErrOf result Refusal.Full ↔ ((self.old.broken ≡ false) × (self.old.home.pair.number ≡ MAX_NUMBER)) }
+        ensures told { IfErr result IsOfCheckpoint }
+        ensures unchanged { IfErr result (λ r. ¬ IsOfDevice r → (self.new ≡ self.old) × (disk.new ≡ disk.old)) }
+        ensures device { IfErr result (λ r. IsOfDevice r → (self.new.broken ≡ true) × IsSameButForPending self.old self.new) }
+        ensures cause { HasCause (D.failures disk.old) (D.failures disk.new) result }
+    {
+        if self.broken {
+            return Err(Refusal::Broken);
+        }
+        if self.home.is_full() {
+            return Err(Refusal::Full);
+        }
+        self.bring_all_home(disk)?;
+        self.change_area(disk)
+    }
+
+    /// Writes all pending blocks home, ascending, by one device call each.
+    fn bring_all_home<D: Disk>(&mut self, disk: &mut D) -> Result<(), Refusal>
+        requires on_disk { disk_size_of (geometry_of self.old) ≤ D.size disk.old }
+        requires runs { self.old.broken ≡ false }
+        ensures home { OnOk result (IsAllHome self.new) }
+        ensures same { OnOk result (self.new ≡ record self.old { pending = self.new.pending; cache = self.new.cache }) }
+        ensures stored { D.keeps_model → (volume : List ℕ) → IsStored self.old volume (D.gives disk.old) (D.may_leave_now disk.old)
+            → OnOk result (IsStored self.new volume (D.gives disk.new) (D.may_leave_now disk.new)) }
+        ensures any_moment { D.keeps_model → (volume : List ℕ) → IsStored self.old volume (D.gives disk.old) (D.may_leave_now disk.old)
+            → LeavesOnly D.moment D.may_have_left_since disk.old disk.new (Means (meaning_in self.old volume)) }
+        ensures size { D.size disk.new ≡ D.size disk.old }
+        ensures told { IfErr result IsOfTicking }
+        ensures own { IfErr result IsOfDevice }
+        ensures err { OnErr result (self.new ≡ record self.old { pending = self.new.pending; cache = self.new.cache; broken = true }) }
+        ensures cause { HasCause (D.failures disk.old) (D.failures disk.new) result }
+    {
+        let geometry = self.home.superblock().geometry();
+        for block in 0..geometry.blocks {
+            self.bring_home(disk, block)?;
+        }
+        Ok(())
+    }
+
+    /// Makes the other area the current one, empty, once all blocks are home: a sync; the closed gate and a sync; the six
+    /// calls of a new superblock.
+    fn change_area<D: Disk>(&mut self, disk: &mut D) -> Result<(), Refusal>
+        requires on_disk { disk_size_of (geometry_of self.old) ≤ D.size disk.old }
+        requires runs { self.old.broken ≡ false }
+        requires number { self.old.home.pair.number ≢ MAX_NUMBER }
+        requires home { IsAllHome self.old }
+        ensures ok { OnOk result (IsEmptied self.old self.new) }
+        ensures stored { D.keeps_model → (volume : List ℕ) → IsStored self.old volume (D.gives disk.old) (D.may_leave_now disk.old)
+            → OnOk result (IsStored self.new volume (D.gives disk.new) (D.may_leave_now disk.new)) }
+        ensures any_moment { D.keeps_model → (volume : List ℕ) → IsStored self.old volume (D.gives disk.old) (D.may_leave_now disk.old)
+            → LeavesOnly D.moment D.may_have_left_since disk.old disk.new (Means (meaning_in self.old volume)) }
+        ensures size { D.size disk.new ≡ D.size disk.old }
+        ensures told { IfErr result IsOfCheckpoint }
+        ensures own { IfErr result IsOfDevice }
+        ensures err { OnErr result ((self.new.broken ≡ true) × IsSameButForPending self.old self.new) }
+        ensures cause { HasCause (D.failures disk.old) (D.failures disk.new) result }
+    {
+        match other_area(&mut self.home, disk, self.journal.front()) {
+            Ok(journal) => {
+                self.journal = journal;
+                Ok(())
+            }
+            Err(refusal) => {
+                self.broken = true;
+                Err(refusal)
+            }
+        }
+    }
+}
+
+/// The empty journal in the other area, which the superblock names from then on.
+fn other_area<D: Disk>(home: &mut Home, disk: &mut D, front: u64) -> Result<Journal, Refusal>
+    requires on_disk { disk_size_of home.old.superblock.geometry ≤ D.size disk.old }
+    requires limit { front ≤ MAX_NUMBER }
+    requires runs { home.old.pair.broken ≡ false }
+    requires number { home.old.pair.number ≢ MAX_NUMBER }
+    ensures fresh { IfOk result (IsFreshJournal home.old.superblock front) }
+    ensures home { OnOk result (home.new ≡ record { pair = stored home.old.pair; superblock = marked home.old.superblock front (areas.other_area home.old.superblock.current) }) }
+    ensures kept { OnErr result (home.new.superblock ≡ home.old.superblock) }
+    ensures stored { D.keeps_model → (store : State) (volume : List ℕ) → store.journal.front ≡ front → IsOfSuperblock (record store { home = home.old }) → IsAllHome (record store { home = home.old })
+        → IsStored (record store { home = home.old }) volume (D.gives disk.old) (D.may_leave_now disk.old)
+        → IfOk result (λ journal. IsStored (record store { home = home.new; journal = journal }) volume (D.gives disk.new) (D.may_leave_now disk.new)) }
+    ensures any_moment { D.keeps_model → (store : State) (volume : List ℕ) → store.journal.front ≡ front → IsOfSuperblock (record store { home = home.old }) → IsAllHome (record store { home = home.old })
+        → IsStored (record store { home = home.old }) volume (D.gives disk.old) (D.may_leave_now disk.old)
+        → LeavesOnly D.moment D.may_have_left_since disk.old disk.new (Means (meaning_in (record store { home = home.old }) volume)) }
+    ensures size { D.size disk.new ≡ D.size disk.old }
+    ensures told { IfErr result IsOfCheckpoint }
+    ensures own { IfErr result IsOfDevice }
+    ensures cause { HasCause (D.failures disk.old) (D.failures disk.new) result }
+{
+    let superblock = home.superblock();
+    let geometry = superblock.geometry();
+    let area = superblock.current().other();
+    home.sync_home(disk)?;
+    let part = area_part(geometry, area);
+    let journal = Journal::create(disk, part, superblock.slot(), geometry.blocks, front)?;
+    home.mark(disk, front, area)?;
+    Ok(journal)
+}
+
+/// Writes zeros to every block of the home region.
+fn write_zeros<D: Disk>(disk: &mut D, geometry: Geometry) -> Result<(), Refusal>
+    requires on_disk { disk_size_of geometry ≤ D.size disk.old }
+    ensures zeros { D.keeps_model → OnOk result (inside (places.home_part geometry) (D.gives disk.new) ≡ replicate (4096 * geometry.blocks) 0) }
+    ensures size { D.size disk.new ≡ D.size disk.old }
+    ensures told { IfErr result IsOfTicking }
+    ensures own { IfErr result IsOfDevice }
+    ensures cause { HasCause (D.failures disk.old) (D.failures disk.new) result }
+{
+    let part = home_part(geometry);
+    let zeros = [0; BLOCK_SIZE as usize];
+    for block in 0..geometry.blocks {
+        part.write_at(disk, BLOCK_SIZE * u64::from(block), &zeros)?;
+    }
+    Ok(())
+}

@@ -1,0 +1,114 @@
+//! The images that are in the current area and not yet home.
+ghost use Rattle.std.specs.Prelude.{◌≡◌, ℕ, ◌<◌, ◌≤◌, Option, Some, None, All, List, length, replicate, set, map, IfOk, IfSome, IfNone, option_map, ◌↔◌, ◌^◌};
+ghost use Rattle.flusher.specs.Plan.{IsNext, IsPending, NonePending};
+ghost use Rattle.gate_journal.specs.declared.batch.Image.{Image as Imaged};
+ghost use Rattle.local_store.specs.Pending.{held, with_all_pending, with_pending};
+
+use flusher::Plan;
+use gate_journal::{Batch, Image};
+use std::alloc::{AllocError, Global};
+use std::marker::Model;
+use volume::BLOCK_SIZE;
+
+/// The bytes of a block.
+pub type Block = [u8; BLOCK_SIZE as usize];
+
+/// The pending images by block: a place for each block of the volume, so that an image that is made takes no more memory.
+#[derive(Debug, Drop)]
+pub(crate) struct Pending {
+    images: Vec<Option<Box<Image>>>,
+}
+
+impl Model for Pending {
+    ghost use Rattle.std.specs.Prelude.{Option, List, ℕ, map, option_map};
+
+    ghost Value = { List (Option (List ℕ)) };
+
+    ghost view = { λ p. map (option_map (λ image. image.value.bytes)) p.images.items };
+}
+
+/// Copies of images, to be pending.
+pub(crate) fn stage(alloc: Global, images: &[Image]) -> Result<Vec<Box<Image>>, AllocError>
+    ensures { IfOk result (λ staged. map (λ image. image.value) staged.items ≡ images.now) }
+{
+    let mut staged = Vec::with_capacity(alloc, images.len())?;
+    for image in images {
+        staged.push(Box::new(alloc, *image)?)?;
+    }
+    Ok(staged)
+}
+
+impl Pending {
+    /// None of so many blocks.
+    pub(crate) fn new(alloc: Global, blocks: u32) -> Result<Pending, AllocError>
+        ensures { IfOk result (λ pending. pending ≡ replicate blocks None) }
+    {
+        let mut images = Vec::with_capacity(alloc, blocks as usize)?;
+        for _ in 0..blocks {
+            images.push(None)?;
+        }
+        Ok(Pending { images })
+    }
+
+    /// The images of these batches, of so many blocks.
+    pub(crate) fn of(alloc: Global, blocks: u32, batches: &[Batch]) -> Result<Pending, AllocError>
+        requires { All (λ batch. All (λ image. image.block < blocks) batch.images) batches.now }
+        ensures { IfOk result (λ pending. pending ≡ with_all_pending (replicate blocks None) batches.now) }
+    {
+        let mut pending = Pending::new(alloc, blocks)?;
+        for batch in batches {
+            let staged = stage(alloc, batch.images())?;
+            pending.keep(staged);
+        }
+        Ok(pending)
+    }
+
+    /// The pending image of the block, if there is one.
+    pub(crate) fn get(&self, block: u32) -> Option<&Image>
+        ensures { option_map (λ image. image.now.bytes) result ≡ held self.now block }
+    {
+        self.images.get(block as usize)?.as_deref()
+    }
+
+    /// The next pending block, by the plan.
+    pub(crate) fn next(&self, plan: &mut Plan) -> Option<u32>
+        requires { length self.now < 2 ^ 32 }
+        ensures next { IfSome result (IsNext plan.old (IsPending self.now)) }
+        ensures given { IfSome result (λ block. plan.new ≡ Some block) }
+        ensures within { IfSome result (λ block. block < length self.now) }
+        ensures none { (result ≡ None) ↔ NonePending (IsPending self.now) }
+        ensures unchanged { IfNone result (plan.new ≡ plan.old) }
+    {
+        plan.next(&self.images)
+    }
+
+    /// The staged images are pending from now on.
+    #[tactic(auto, using(crate::proofs::Boxes::one_more))]
+    pub(crate) fn keep(&mut self, staged: Vec<Box<Image>>)
+        requires { All (λ image. image.value.block < length self.old) staged.items }
+        ensures { self.new ≡ with_pending self.old (map (λ image. image.value) staged.items) }
+    {
+        for image in staged {
+            self.put(image);
+        }
+    }
+
+    /// The staged image is pending from now on.
+    #[tactic(auto, using(crate::proofs::Boxes::shown_set))]
+    fn put(&mut self, image: Box<Image>)
+        requires { image.value.block < length self.old }
+        ensures { self.new ≡ set self.old image.value.block (Some image.value.bytes) }
+    {
+        let at = image.block as usize;
+        self.images[at] = Some(image);
+    }
+
+    /// The block is home.
+    #[tactic(auto, using(crate::proofs::Boxes::shown_unset))]
+    pub(crate) fn drop_block(&mut self, block: u32)
+        requires { block < length self.old }
+        ensures { self.new ≡ set self.old block None }
+    {
+        self.images[block as usize] = None;
+    }
+}
