@@ -159,7 +159,7 @@ const EBADF: i32 = 9;
 
 const EINVAL: i32 = 22;
 
-// A file that is open for reading alone takes no write, and /dev/null no sync.
+// A file that is open for reading alone takes no write.
 #[test]
 fn a_failed_call_is_not_forgotten(rt: HostRuntime) -> Result<(), Fail> {
     let alloc = rt.alloc();
@@ -184,7 +184,14 @@ fn a_failed_call_is_not_forgotten(rt: HostRuntime) -> Result<(), Fail> {
         assert_eq!(rt; file.last_error(), Some(EBADF), "{call:?}");
     }
     assert_eq!(rt; bytes, [0; 3]);
+    fs::remove_dir_all(&rt, folder.as_str())?;
+    Ok(())
+}
 
+// /dev/null takes writes, and no sync.
+#[test]
+fn a_failed_sync_is_not_forgotten(rt: HostRuntime) -> Result<(), Fail> {
+    let mut bytes = [9; 3];
     let null = OpenOptions::new().write(true).open(&rt, "/dev/null")?;
     let mut file = FileDisk::new(null, 6);
     for (call, told) in [
@@ -200,7 +207,6 @@ fn a_failed_call_is_not_forgotten(rt: HostRuntime) -> Result<(), Fail> {
         );
     }
     assert_eq!(rt; file.last_error(), Some(EINVAL));
-    fs::remove_dir_all(&rt, folder.as_str())?;
     Ok(())
 }
 

@@ -21,7 +21,8 @@ use Rattle.local_store.specs.Pending.{IsHome, IsPending}
 use Rattle.local_store.specs.Store.{IsAllHome, IsFreshJournal, IsOfSuperblock, IsStored, State, geometry_of, meaning_in}
 use Rattle.volume.specs.declared.geometry.Geometry.{Geometry}
 use Rattle.local_store.proofs.Homes.{all_home, needs_none}
-use Rattle.local_store.proofs.Stored.{at_any_moment, area_stays, home_still, old_meaning, region_stays, region_still, superblock_from_home, superblock_stays}
+use Rattle.local_store.specs.Kept.{old_meaning}
+use Rattle.local_store.proofs.Stored.{at_any_moment, area_stays, home_still, region_stays, region_still, superblock_from_home, superblock_stays}
 
 other_other : (area : Area) → other_area (other_area area) ≡ area
 other_other First = refl
@@ -68,6 +69,7 @@ module _ {D : Type 0} {gives : D → List ℕ} {may_leave : D → List ℕ → T
   closing_keeps {part} superblock area region run =
       let kept = run.others (home_part (geometry_of store)) region in
       record {
+        stands = of;
         superblock = home_still (run.others superblock_part superblock) was.superblock;
         is_whole = was.is_whole;
         batches = was.batches;
@@ -89,7 +91,7 @@ module _ {D : Type 0} {gives : D → List ℕ} {may_leave : D → List ℕ → T
   module _ (empty : IsAllHome store) (whole : Only (gives old) (may_leave old)) (fresh : journal.State) (is_fresh : IsFreshJournal store.home.superblock store.journal.front fresh) (ready : IsSettled fresh [] (gives old) (may_leave old))
       (run : TouchesOnly gives may_leave moment left_since superblock_part old new) where
     region_is : (x : List ℕ) → LeftInside (home_part (geometry_of store)) (may_leave old) x → x ≡ v
-    region_is x may = only_inside (home_part (geometry_of store)) (gives old) (may_leave old) whole x may ∙ all_home was.region.waits empty
+    region_is x may = only_inside (home_part (geometry_of store)) (gives old) (may_leave old) whole x may ∙ all_home was.region.waits (λ b below. empty b)
 
     of_fresh : (h : home.State) → h.superblock ≡ marked store.home.superblock store.journal.front (other_area store.home.superblock.current) → IsOfSuperblock (changed store h fresh)
     of_fresh h is = record {
@@ -132,12 +134,13 @@ module _ {D : Type 0} {gives : D → List ℕ} {may_leave : D → List ℕ → T
         let only = only_inside (home_part (geometry_of store)) (gives new) (may_leave new) still in
         let waits = subst (IsPending (geometry_of store).blocks (λ b. is_covered b was.batches ≡ true) v store.pending) (sym kept.gives) was.region.waits in
         record {
+          stands = of_fresh h is;
           superblock = settled;
           is_whole = ap (λ (sb : Superblock). sb.progress) is;
           batches = [];
           area = still_settled (run.others fresh.part fresh_apart) ready;
           region = subst (λ (sb : Superblock). IsHome sb.geometry.blocks v [] store.pending (inside (home_part sb.geometry) (gives new)) (LeftInside (home_part sb.geometry) (may_leave new))) (sym is)
-              (needs_none waits empty only);
+              (needs_none waits (λ b below. empty b) only);
           cached = subst (λ (sb : Superblock). Agrees store.cache (inside (home_part sb.geometry) (gives new))) (sym is) (subst (Agrees store.cache) (sym kept.gives) was.cached);
           runs = was.runs;
         }

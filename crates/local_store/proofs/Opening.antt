@@ -14,7 +14,7 @@ use Rattle.home_blocks.specs.Places.{IsAreaPart, area_bytes, inside-area}
 use Rattle.home_blocks.specs.Superblock.{Superblock}
 use Rattle.home_blocks.specs.declared.area.Area.{Area}
 use Rattle.local_store.specs.Pending.{with_all_pending, with_pending}
-use Rattle.local_store.specs.Store.{IsSound}
+use Rattle.local_store.specs.Store.{IsOfSuperblock, IsSound}
 use Rattle.local_store.proofs.Homes.{length-with_pending}
 use Rattle.local_store.proofs.Stored.{all_fit}
 use Rattle.volume.specs.declared.geometry.Geometry.{Geometry}
@@ -69,3 +69,14 @@ module _ {h : home.State} {sb : Superblock} {g : Geometry} {current : Area} {slo
 pub images_within : (blocks before : ℕ) (batches items : List Batch) → items ≡ batches → AreBatches blocks before batches → All (λ batch. All (λ image. image.block < blocks) batch.images) items
 images_within blocks before batches items same are =
     subst (All (λ (batch : Batch). All (λ (image : Image). image.block < blocks) batch.images)) (sym same) (λ k d lt i e lti. (all_fit blocks before batches are k d lt i e lti).0)
+
+-- a journal that was created in the first area, and a superblock that says so
+pub of_created : (h : home.State) (j : journal.State) (pending : List (Option (List ℕ))) (cache : Blocks) (sb : Superblock) (part : Part) → h.superblock ≡ sb
+    → j ≡ record { part = part; slot = sb.slot; blocks = sb.geometry.blocks; before = sb.front; front = sb.front; end = 0; broken = false } → IsAreaPart sb.geometry sb.current part
+    → IsOfSuperblock (record { home = h; journal = j; pending = pending; cache = cache; broken = false })
+of_created h j pending cache sb part is same area = record {
+  part = subst (λ (s : Superblock). IsAreaPart s.geometry s.current j.part) (sym is) (subst (IsAreaPart sb.geometry sb.current) (sym (ap (λ (s : journal.State). s.part) same)) area);
+  slot = ap (λ (s : journal.State). s.slot) same ∙ sym (ap (λ (s : Superblock). s.slot) is);
+  blocks = ap (λ (s : journal.State). s.blocks) same ∙ sym (ap (λ (s : Superblock). s.geometry.blocks) is);
+  before = ap (λ (s : journal.State). s.before) same ∙ sym (ap (λ (s : Superblock). s.front) is);
+}

@@ -19,9 +19,10 @@ use Rattle.gate_journal.specs.Pair.{HoldsPair, HasGate, slot_bytes}
 use Rattle.gate_journal.specs.Runs.{OnlyReads, reads_keep}
 use Rattle.home_blocks.specs.Home.{HoldsSuperblock, IsSettledHome}
 use Rattle.home_blocks.specs.Home as home
-use Rattle.home_blocks.specs.Places.{disk_size_of, home_part, inside-area, superblock_part}
+use Rattle.home_blocks.specs.Places.{disk_size_of, home_part, superblock_part}
 use Rattle.home_blocks.specs.declared.progress.Progress.TheVariants.{Whole}
-use Rattle.local_store.specs.Meaning.{Means, Meaning, meaning_of}
+use Rattle.local_store.specs.Meaning.{Means}
+use Rattle.local_store.specs.Kept.{old_meaning, parts_mean, stored_means}
 use Rattle.local_store.specs.Overlay.{with_batches, with_images, is_covered, AllFitIn, FitsIn}
 use Rattle.local_store.specs.Pending.{IsHome, IsPending, held, with_all_pending}
 use Rattle.volume.specs.declared.geometry.Geometry.{Geometry}
@@ -66,37 +67,6 @@ first_part {h} {gives} {left} was = subst (λ (part : Part). Only (inside part g
 -- so it is by all that a stop may leave
 pub held_left : {h : home.State} {gives : List ℕ} {left : List ℕ → Type 0} → IsSettledHome h gives left → (c : List ℕ) → left c → HoldsSuperblock h.superblock c
 held_left {h} {gives} {left} was c may = held_by was c (first_part was (inside superblock_part c) (left_inside superblock_part left c may))
-
--- a superblock, batches and a home region come to a meaning
-pub parts_mean : (store : State) (v : List ℕ) (batches : List Batch) (c : List ℕ) → IsOfSuperblock store → store.home.superblock.progress ≡ Whole → HoldsSuperblock store.home.superblock c
-    → HoldsBatches store.journal.blocks store.journal.before batches (inside store.journal.part c) → with_batches (inside (home_part (geometry_of store)) c) batches ≡ v
-    → Means (meaning_of store.home.superblock batches v) c
-parts_mean store v batches c of whole holds area region = record {
-  superblock = store.home.superblock;
-  holds = holds;
-  is_whole = whole;
-  batches = batches;
-  area = subst (HoldsBatches (geometry_of store).blocks store.home.superblock.front batches) (inside-area (geometry_of store) store.home.superblock.current store.journal.part c of.part)
-      (subst (λ (n : ℕ). HoldsBatches (geometry_of store).blocks n batches (inside store.journal.part c)) of.before
-      (subst (λ (n : ℕ). HoldsBatches n store.journal.before batches (inside store.journal.part c)) of.blocks area));
-  is = ap (meaning_of store.home.superblock batches) (sym region);
-}
-
--- the meaning of a store that keeps such batches
-pub meaning_is : (store : State) (v : List ℕ) (batches : List Batch) → IsOfSuperblock store → store.journal.front ≡ last_front store.journal.before batches → meaning_of store.home.superblock batches v ≡ meaning_in store v
-meaning_is store v batches of front =
-    ap (λ (n : ℕ). record { slot = store.home.superblock.slot; incarnation = store.home.superblock.incarnation; geometry = geometry_of store; front = n; volume = v }) (sym (front ∙ ap (λ (n : ℕ). last_front n batches) of.before))
-
-pub old_meaning : (store : State) (v : List ℕ) (batches : List Batch) → IsOfSuperblock store → store.home.superblock.progress ≡ Whole → store.journal.front ≡ last_front store.journal.before batches → (c : List ℕ)
-    → HoldsSuperblock store.home.superblock c → HoldsBatches store.journal.blocks store.journal.before batches (inside store.journal.part c) → with_batches (inside (home_part (geometry_of store)) c) batches ≡ v → Means (meaning_in store v) c
-old_meaning store v batches of whole front c holds area region = subst (λ (m : Meaning). Means m c) (meaning_is store v batches of front) (parts_mean store v batches c of whole holds area region)
-
--- whatever may be left of a store's disk means what the store keeps
-pub stored_means : {store : State} {v gives : List ℕ} {left : List ℕ → Type 0} → IsOfSuperblock store → IsStored store v gives left → (c : List ℕ) → left c → Means (meaning_in store v) c
-stored_means {store} {v} {gives} {left} of was c may =
-    let area = subst (HoldsBatches store.journal.blocks store.journal.before was.batches) (sym (was.area.durable (inside store.journal.part c) (left_inside store.journal.part left c may))) was.area.holds in
-    subst (λ (m : Meaning). Means m c) (meaning_is store v was.batches of was.area.front)
-    (parts_mean store v was.batches c of was.is_whole (held_left was.superblock c may) area (was.region.left (inside (home_part (geometry_of store)) c) (left_inside (home_part (geometry_of store)) left c may)))
 
 -- the parts lie apart
 pub apart_from_superblock : {store : State} → IsOfSuperblock store → IsApart store.journal.part superblock_part
@@ -199,6 +169,7 @@ module _ {D : Type 0} {gives : D → List ℕ} {may_leave : D → List ℕ → T
       let region = run.others (home_part (geometry_of store)) (apart_from_home of) in
       let fit = all_fit store.journal.blocks store.journal.before (was.batches ++ batch ∷ []) area.holds.are in
       record {
+        stands = record { part = of.part; slot = of.slot; blocks = of.blocks; before = of.before };
         superblock = home_still (run.others superblock_part (apart_from_superblock of)) was.superblock;
         is_whole = was.is_whole;
         batches = was.batches ++ batch ∷ [];
@@ -225,6 +196,7 @@ module _ {D : Type 0} {gives : D → List ℕ} {may_leave : D → List ℕ → T
     pub tick_keeps : (cache : Blocks) → Agrees cache (inside (home_part (geometry_of store)) (gives new)) → b < (geometry_of store).blocks → Holds (inside (home_part (geometry_of store)) (gives old)) (4096 * b) bytes (inside (home_part (geometry_of store)) (gives new))
         → IsStored (with_home store b cache) v (gives new) (may_leave new)
     tick_keeps cache agrees below holds = record {
+      stands = record { part = of.part; slot = of.slot; blocks = of.blocks; before = of.before };
       cached = agrees;
       superblock = home_still (run.others superblock_part (home_from_superblock store)) was.superblock;
       is_whole = was.is_whole;
@@ -242,6 +214,7 @@ module _ {D : Type 0} {gives : D → List ℕ} {may_leave : D → List ℕ → T
   reads_keep_store run =
       let region = reads_keep (home_part (geometry_of store)) old new run in
       record {
+        stands = of;
         superblock = home_still (reads_keep superblock_part old new run) was.superblock;
         is_whole = was.is_whole;
         batches = was.batches;
@@ -260,6 +233,7 @@ agrees_empty home = λ block bytes has. absurd (Contains-nil (block, bytes) has)
 -- another cache that agrees
 pub with_cache : {store : State} {v gives : List ℕ} {left : List ℕ → Type 0} (cache : Blocks) → Agrees cache (inside (home_part (geometry_of store)) gives) → IsStored store v gives left → IsStored (record store { cache = cache }) v gives left
 with_cache {store} {v} {gives} {left} cache agrees was = record {
+  stands = record { part = was.stands.part; slot = was.stands.slot; blocks = was.stands.blocks; before = was.stands.before };
   superblock = was.superblock;
   is_whole = was.is_whole;
   batches = was.batches;
@@ -270,14 +244,15 @@ with_cache {store} {v} {gives} {left} cache agrees was = record {
 }
 
 -- a disk that was opened: the home region as it is, the batches over it, and all of them pending
-pub opened : (h : home.State) (j : journal.State) (pending : List (Option (List ℕ))) (cache : Blocks) → cache ≡ [] → (g : Geometry) (batches : List Batch) {gives : List ℕ} {left : List ℕ → Type 0} → h.superblock.geometry ≡ g → h.superblock.progress ≡ Whole
+pub opened : (h : home.State) (j : journal.State) (pending : List (Option (List ℕ))) (cache : Blocks) → cache ≡ [] → (g : Geometry) (batches : List Batch) → IsOfSuperblock (record { home = h; journal = j; pending = pending; cache = cache; broken = false }) → {gives : List ℕ} {left : List ℕ → Type 0} → h.superblock.geometry ≡ g → h.superblock.progress ≡ Whole
     → IsSettledHome h gives left → IsSettled j batches gives left → pending ≡ with_all_pending (replicate g.blocks None) batches → AllFitIn g.blocks batches → disk_size_of g ≤ length gives → Only gives left
     → IsStored (record { home = h; journal = j; pending = pending; cache = cache; broken = false }) (with_batches (inside (home_part g) gives) batches) gives left
-opened h j pending cache none g batches {gives} {left} geometry whole settled area is fit room only =
+opened h j pending cache none g batches of {gives} {left} geometry whole settled area is fit room only =
     let base = as_it_is (length-home g gives room) (only_inside (home_part g) gives left only) in
     let region : IsHome g.blocks (with_batches (inside (home_part g) gives) batches) batches (with_all_pending (replicate g.blocks None) batches) (inside (home_part g) gives) (LeftInside (home_part g) left)
     = more_batches g.blocks (inside (home_part g) gives) (LeftInside (home_part g) left) batches (inside (home_part g) gives) [] (replicate g.blocks None) fit base in
     record {
+      stands = of;
       superblock = settled;
       is_whole = whole;
       batches = batches;

@@ -1,3 +1,5 @@
+pub mod About
+pub mod Kept
 pub mod Meaning
 pub mod Overlay
 pub mod Pending

@@ -2,7 +2,7 @@
 use Rattle.std.specs.Prelude.{◌≡◌, ℕ, List}
 use Rattle.disk_model.specs.Part.{inside}
 use Rattle.gate_journal.specs.Batch.{Batch, HoldsBatches, IsDamaged, last_front}
-use Rattle.home_blocks.specs.Home.{HoldsSuperblock, IsVolume}
+use Rattle.home_blocks.specs.Home.{HoldsSuperblock, IsNoVolume, IsOtherVersion, IsVolume}
 use Rattle.home_blocks.specs.Places.{area_bytes, home_part}
 use Rattle.home_blocks.specs.Superblock.{Superblock}
 use Rattle.home_blocks.specs.declared.progress.Progress.TheVariants.{Installing, Whole}
@@ -52,3 +52,10 @@ pub record HasDamagedArea (bytes : List ℕ) : Type 0 where
   pub is_volume : IsVolume superblock bytes
   pub is_whole : superblock.progress ≡ Whole
   pub damaged : IsDamaged superblock.geometry.blocks superblock.front (area_bytes superblock.geometry superblock.current bytes)
+
+-- none of what `open` refuses by a number is said of the disk
+pub record IsFree (bytes : List ℕ) : Type 0 where
+  pub volume : ¬ IsNoVolume bytes
+  pub version : ¬ IsOtherVersion bytes
+  pub finished : ¬ IsUnfinished bytes
+  pub area : ¬ HasDamagedArea bytes

@@ -1,5 +1,5 @@
 -- What contracts see of a store, and what its disk then holds.
-use Rattle.std.specs.Prelude.{◌≡◌, ℕ, ◌<◌, ◌≤◌, Bool, false, Option, None, List, length, set}
+use Rattle.std.specs.Prelude.{◌≡◌, ℕ, ◌+◌, ◌≤◌, Bool, false, Option, None, List, length, set}
 use Rattle.disk_model.specs.Part.{inside, LeftInside}
 use Rattle.block_cache.specs.Cache.{Agrees, Blocks}
 use Rattle.gate_journal.specs.Batch.{Batch}
@@ -46,6 +46,7 @@ pub record IsOfSuperblock (store : State) : Type 0 where
 -- The store keeps this volume: the superblock and the current area are settled, and whatever a stop leaves of the home
 -- region is the volume under the area's batches.
 pub record IsStored (store : State) (volume : List ℕ) (gives : List ℕ) (may_leave : List ℕ → Type 0) : Type 0 where
+  pub stands : IsOfSuperblock store
   pub superblock : IsSettledHome store.home gives may_leave
   pub is_whole : store.home.superblock.progress ≡ Whole
   pub batches : List Batch
@@ -75,7 +76,7 @@ with_home store block cache = record store { pending = set store.pending block N
 
 -- nothing is pending
 abbrev pub IsAllHome : State → Type 0
-IsAllHome store = (b : ℕ) → b < (geometry_of store).blocks → held store.pending b ≡ None
+IsAllHome store = (b : ℕ) → held store.pending b ≡ None
 
 -- this journal is empty, at this front, in the area that isn't the superblock's current one
 pub record IsFreshJournal (sb : Superblock) (last : ℕ) (fresh : journal.State) : Type 0 where
@@ -91,10 +92,13 @@ pub record IsFreshJournal (sb : Superblock) (last : ℕ) (fresh : journal.State)
 pub record IsEmptied (old new : State) : Type 0 where
   pub home : IsAllHome new
   pub superblock : new.home.superblock ≡ marked old.home.superblock old.journal.front (other_area old.home.superblock.current)
+  pub stores : new.home.pair.number ≡ old.home.pair.number + 1
   pub journal : IsFreshJournal old.home.superblock old.journal.front new.journal
+  pub ran : old.broken ≡ false
   pub runs : new.broken ≡ false
 
 -- the new store tells of itself what the old one did
 pub record IsSameButForPending (old new : State) : Type 0 where
   pub superblock : new.home.superblock ≡ old.home.superblock
+  pub stores : new.home.pair.number ≡ old.home.pair.number
   pub journal : new.journal ≡ old.journal

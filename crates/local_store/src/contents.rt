@@ -3,7 +3,6 @@ ghost use Rattle.std.specs.Prelude.{◌≡◌, ◌≢◌, ◌⊎◌, ◌*◌, �
 ghost use Rattle.disk_model.specs.Disk.{LeavesOnly, Only};
 ghost use Rattle.gate_journal.specs.Batch.{AreImages};
 ghost use Rattle.gate_journal.specs.Journal as journals;
-ghost use Rattle.gate_journal.specs.Journal.{Fits, IsTooMuch};
 ghost use Rattle.gate_journal.specs.Pair.{stored};
 ghost use Rattle.block_cache.specs.Cache.{IsCached};
 ghost use Rattle.flusher.specs.Plan.{IsNext, IsPending, NonePending};
@@ -15,6 +14,7 @@ ghost use Rattle.gate_journal.specs.Runs.{OnlyReads};
 ghost use Rattle.disk_model.specs.Part.{inside};
 ghost use Rattle.volume.specs.Writes.{block_of};
 ghost use Rattle.home_blocks.specs.Superblock.{marked};
+ghost use Rattle.local_store.specs.About.{HasNoRoom, HasRoom, about_of};
 ghost use Rattle.local_store.specs.Meaning.{HasDamagedArea, IsUnfinished, Means};
 ghost use Rattle.local_store.specs.Overlay.{with_images};
 ghost use Rattle.local_store.specs.Pending.{held};
@@ -58,7 +58,8 @@ impl Contents {
     /// zeros at front 0. The incarnation is at most 2^63 - 1. It writes each block of the home region, a closed gate to the
     /// first area, a sync, and creates the superblock's pair: one device call a block, and fourteen more.
     ///
-    /// It is refused for memory, with nothing written, and by the device.
+    /// It is refused for memory, with nothing written, and by the device. It is for a disk that nobody needs any more: until it
+    /// is done, one that kept a volume may be left with that volume, some of its blocks zeros.
     pub fn format<D: Disk>(
         alloc: Global,
         disk: &mut D,
@@ -221,8 +222,8 @@ impl Contents {
 
     /// How many images the next batch can have.
     pub fn room(&self) -> u64
-        ensures fits { (count : ℕ) → 0 < count → count ≤ result → Fits self.now.journal count }
-        ensures too_much { (count : ℕ) → result < count → IsTooMuch self.now.journal count }
+        ensures fits { (count : ℕ) → 0 < count → count ≤ result → HasRoom (about_of self.now) count }
+        ensures too_much { (count : ℕ) → result < count → HasNoRoom (about_of self.now) count }
     {
         self.journal.room()
     }
@@ -246,10 +247,10 @@ impl Contents {
     fn may_commit(&self, front: u64, count: usize) -> Result<(), Refusal>
         requires { 0 < count }
         ensures runs { OnOk result ((self.now.broken ≡ false) × (self.now.journal.front < front)) }
-        ensures fits { OnOk result (¬ IsTooMuch self.now.journal count) }
+        ensures fits { OnOk result (¬ HasNoRoom (about_of self.now) count) }
         ensures broken { IsErrOf result Refusal.Broken ↔ (self.now.broken ≡ true) }
         ensures backwards { IsErrOf result Refusal.Backwards ↔ ((self.now.broken ≡ false) × (front ≤ self.now.journal.front)) }
-        ensures full { IsErrOf result Refusal.Full ↔ ((self.now.broken ≡ false) × (self.now.journal.front < front) × IsTooMuch self.now.journal count) }
+        ensures full { IsErrOf result Refusal.Full ↔ ((self.now.broken ≡ false) × (self.now.journal.front < front) × HasNoRoom (about_of self.now) count) }
         ensures told { IfErr result IsOfCommitting }
         ensures own { IfErr result (λ r. ¬ IsOfDevice r) }
         ensures cause { IfErr result (λ r. (n : ℕ) → IsCaused n n r) }
@@ -260,7 +261,7 @@ impl Contents {
         if front <= self.front() {
             return Err(Refusal::Backwards);
         }
-        if self.journal.room() < count as u64 {
+        if self.room() < count as u64 {
             return Err(Refusal::Full);
         }
         Ok(())
@@ -297,7 +298,7 @@ impl Contents {
 
         ensures broken { IsErrOf result Refusal.Broken ↔ (self.old.broken ≡ true) }
         ensures backwards { IsErrOf result Refusal.Backwards ↔ ((self.old.broken ≡ false) × (front ≤ self.old.journal.front)) }
-        ensures full { IsErrOf result Refusal.Full ↔ ((self.old.broken ≡ false) × (self.old.journal.front < front) × IsTooMuch self.old.journal (length images.now)) }
+        ensures full { IsErrOf result Refusal.Full ↔ ((self.old.broken ≡ false) × (self.old.journal.front < front) × HasNoRoom (about_of self.old) (length images.now)) }
         ensures told { IfErr result IsOfCommitting }
         ensures unchanged { IfErr result (λ r. ¬ IsOfDevice r → (self.new ≡ self.old) × (disk.new ≡ disk.old)) }
         ensures device { IfErr result (λ r. IsOfDevice r → self.new ≡ record self.old { journal = record self.old.journal { broken = true }; broken = true }) }
@@ -475,7 +476,7 @@ fn other_area<D: Disk>(home: &mut Home, disk: &mut D, front: u64) -> Result<Jour
     requires number { home.old.pair.number ≢ MAX_NUMBER }
     ensures fresh { IfOk result (IsFreshJournal home.old.superblock front) }
     ensures home { OnOk result (home.new ≡ record { pair = stored home.old.pair; superblock = marked home.old.superblock front (areas.other_area home.old.superblock.current) }) }
-    ensures kept { OnErr result (home.new.superblock ≡ home.old.superblock) }
+    ensures kept { OnErr result ((home.new.superblock ≡ home.old.superblock) × (home.new.pair.number ≡ home.old.pair.number)) }
     ensures stored { D.keeps_model → (store : State) (volume : List ℕ) → store.journal.front ≡ front → IsOfSuperblock (record store { home = home.old }) → IsAllHome (record store { home = home.old })
         → IsStored (record store { home = home.old }) volume (D.gives disk.old) (D.may_leave_now disk.old)
         → IfOk result (λ journal. IsStored (record store { home = home.new; journal = journal }) volume (D.gives disk.new) (D.may_leave_now disk.new)) }

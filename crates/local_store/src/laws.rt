@@ -1,10 +1,11 @@
 //! Laws of the store. The functions do nothing.
-ghost use Rattle.std.specs.Prelude.{◌≡◌, ℕ, List};
-ghost use Rattle.local_store.specs.Meaning.{Means, Meaning};
+ghost use Rattle.std.specs.Prelude.{◌≡◌, ◌≤◌, ℕ, List, length};
+ghost use Rattle.home_blocks.specs.Places.{disk_size_of};
+ghost use Rattle.local_store.specs.Meaning.{IsFree, Means, Meaning};
 ghost use Rattle.local_store.specs.Overlay.{BatchesCover, BatchesSettle, UncoveredBlocksStay};
 
 use gate_journal::readings_are_one;
-use home_blocks::superblocks_are_one;
+use home_blocks::{disks_have_one_answer, superblocks_are_one};
 
 /// Batches over a volume: where they have a block, what was below doesn't matter; any other block stays.
 pub fn batches_go_over()
@@ -19,4 +20,13 @@ pub fn disks_mean_one()
 {
     superblocks_are_one();
     readings_are_one();
+}
+
+/// A disk that means something, and is as long as it has to be, is one that `open` refuses for want of memory or by its
+/// device alone: it isn't no volume's, nor of another version, nor unfinished, and its area isn't damaged.
+pub fn meanings_are_opened()
+    ensures { (meaning : Meaning) (bytes : List ℕ) → Means meaning bytes → disk_size_of meaning.geometry ≤ length bytes → IsFree bytes }
+{
+    superblocks_are_one();
+    disks_have_one_answer();
 }

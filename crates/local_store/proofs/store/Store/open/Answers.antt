@@ -1,0 +1,9 @@
+use Rattle.std.proofs.Common.{Err, ap, ◌∙◌}
+use Rattle.local_store.specs.declared.refusal.Refusal.{Refusal}
+use Rattle.local_store.proofs.store.Store.open.Goals as goal
+
+pub returns-in-Err-clause-not_a_volume : goal.returns-in-Err-clause-not_a_volume
+returns-in-Err-clause-not_a_volume g c = λ keeps is. c.open.ensures.not_a_volume keeps (c.in-Err.is ∙ ap (λ (e : Refusal). Err e) is)
+
+pub returns-in-Err-clause-unfinished : goal.returns-in-Err-clause-unfinished
+returns-in-Err-clause-unfinished g c = λ keeps is. c.open.ensures.unfinished keeps (c.in-Err.is ∙ ap (λ (e : Refusal). Err e) is)

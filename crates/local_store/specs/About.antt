@@ -1,0 +1,60 @@
+-- What a store tells of itself, whatever it is kept on.
+use Rattle.std.specs.Prelude.{◌≢◌, ℕ, ◌+◌, ◌<◌, ◌≤◌, Bool, List}
+use Rattle.gate_journal.specs.Batch.{batch_size}
+use Rattle.gate_journal.specs.declared.batch.Image.{Image}
+use Rattle.local_store.specs.Meaning.{Meaning}
+use Rattle.local_store.specs.Overlay.{with_images}
+use Rattle.local_store.specs.Store.{State, geometry_of}
+use Rattle.volume.specs.declared.geometry.Geometry.{Geometry}
+
+-- whose disk it is, the sizes, the front, the bytes of the current area that batches have, how many superblocks were
+-- stored, and whether a device call failed
+pub record About : Type 0 where
+  pub slot : ℕ
+  pub incarnation : ℕ
+  pub geometry : Geometry
+  pub front : ℕ
+  pub used : ℕ
+  pub stores : ℕ
+  pub broken : Bool
+
+-- what a store means that tells this of itself and keeps the volume
+abbrev pub meaning_with : About → List ℕ → Meaning
+meaning_with about volume = record { slot = about.slot; incarnation = about.incarnation; geometry = about.geometry; front = about.front; volume = volume }
+
+-- a batch of so many images fits into the current area, or is too much for it
+abbrev pub HasRoom : About → ℕ → Type 0
+HasRoom about count = about.used + batch_size count + 1 ≤ about.geometry.area
+
+abbrev pub HasNoRoom : About → ℕ → Type 0
+HasNoRoom about count = about.geometry.area < about.used + batch_size count + 1
+
+-- after a commit of so many images
+abbrev pub one_commit_more : About → ℕ → ℕ → About
+one_commit_more about front count = record about { front = front; used = about.used + batch_size count }
+
+-- what it means then
+abbrev pub meaning_then : About → List ℕ → ℕ → List Image → Meaning
+meaning_then about volume front images = meaning_with (record about { front = front }) (with_images volume images)
+
+-- after a checkpoint
+abbrev pub one_checkpoint_more : About → About
+one_checkpoint_more about = record about { used = 0; stores = about.stores + 1 }
+
+-- what the contents of a disk tell
+abbrev pub about_of : State → About
+about_of store = record {
+  slot = store.home.superblock.slot;
+  incarnation = store.home.superblock.incarnation;
+  geometry = geometry_of store;
+  front = store.journal.front;
+  used = store.journal.end;
+  stores = store.home.pair.number;
+  broken = store.broken;
+}
+
+-- one of these was pending, the block, and now it isn't; of each other it is as before
+pub record IsOneLess (block : ℕ) (old new : ℕ → Type 0) : Type 0 where
+  pub was : old block
+  pub is_home : new block → ⊥
+  pub others : (b : ℕ) → b ≢ block → (old b → new b) × (new b → old b)

@@ -1,0 +1,171 @@
+//! A store that owns its disk.
+ghost use Rattle.std.specs.Prelude.{◌≡◌, ◌⊎◌, ◌*◌, ◌≤◌, ℕ, List, false, replicate, IfOk, IfErr};
+ghost use Rattle.home_blocks.specs.Home.{IsNoVolume, IsOtherVersion};
+ghost use Rattle.home_blocks.specs.Places.{disk_size_of};
+ghost use Rattle.gate_journal.specs.Runs.{OnlyReads};
+ghost use Rattle.local_store.specs.About.{about_of};
+ghost use Rattle.local_store.specs.Meaning.{HasDamagedArea, IsUnfinished, Means};
+ghost use Rattle.local_store.specs.Refusal.{IsCaused, IsOfFormatting, IsOfOpening};
+ghost use Rattle.local_store.specs.Store.{IsStored, geometry_of, meaning_in};
+
+use crate::contents::Contents;
+use crate::refusal::Refusal;
+use crate::store_like::StoreLike;
+use disk_model::Disk;
+use flusher::Plan;
+use gate_journal::{Image, MAX_NUMBER, Slot, Synced};
+use std::alloc::Global;
+use volume::Geometry;
+
+/// One disk that keeps a volume, for the member at a slot.
+#[derive(Drop)]
+pub struct Store<D: Disk> {
+    pub(crate) disk: D,
+    pub(crate) contents: Contents,
+    pub(crate) plan: Plan,
+    ghost room: { disk_size_of (geometry_of contents) ≤ D.size disk },
+}
+
+impl<D: Disk + Drop> Store<D> {
+    /// Formats a disk of at least `disk_size(geometry)` bytes, which may hold anything: after it the disk means a volume of
+    /// zeros at front 0. The incarnation is at most 2^63 - 1.
+    ///
+    /// It is refused for memory, and by the device. Both hand the disk back. It is for a disk that nobody needs any more, as
+    /// `Contents::format` is.
+    pub fn format(
+        alloc: Global,
+        disk: D,
+        slot: Slot,
+        incarnation: u64,
+        geometry: Geometry,
+    ) -> Result<Store<D>, (Refusal, D)>
+        requires on_disk { disk_size_of geometry ≤ D.size disk }
+        requires limit { incarnation ≤ MAX_NUMBER }
+        ensures means { IfOk result (λ s. meaning_in s.contents (replicate (4096 * geometry.blocks) 0)
+            ≡ record { slot = slot; incarnation = incarnation; geometry = geometry; front = 0; volume = replicate (4096 * geometry.blocks) 0 }) }
+        ensures stored { D.keeps_model → IfOk result (λ s. IsStored s.contents (replicate (4096 * geometry.blocks) 0) (D.gives s.disk) (D.may_leave_now s.disk)) }
+        ensures told { IfErr result (λ e. IsOfFormatting e.0) }
+        ensures cause { IfErr result (λ e. IsCaused (D.failures disk) (D.failures e.1) e.0) }
+    {
+        let mut disk = disk;
+        match Contents::format(alloc, &mut disk, slot, incarnation, geometry) {
+            Ok(contents) => Ok(Store {
+                disk,
+                contents,
+                plan: Plan::new(),
+            }),
+            Err(refusal) => Err((refusal, disk)),
+        }
+    }
+
+    /// The store on a disk of any length, which may hold anything. It syncs, and then reads; after it the whole disk is
+    /// durable.
+    ///
+    /// 131 `NotAVolume` where the disk holds no superblock of this version or another, is too short for it, or its current
+    /// area is damaged; 132 `OtherVersion`; 133 `Unfinished` where its installation was not finished; 100 `Memory`, and what
+    /// the device refuses. All hand the disk back, as it was.
+    pub fn open(alloc: Global, disk: D) -> Result<Store<D>, (Refusal, D)>
+        ensures stored { D.keeps_model → IfOk result (λ s. (volume : List ℕ) × IsStored s.contents volume (D.gives s.disk) (D.may_leave_now s.disk) × Means (meaning_in s.contents volume) (D.gives disk)) }
+        ensures runs { IfOk result (λ s. s.contents.broken ≡ false) }
+        ensures not_a_volume { D.keeps_model → IfErr result (λ e. e.0 ≡ Refusal.NotAVolume → IsNoVolume (D.gives disk) ⊎ HasDamagedArea (D.gives disk)) }
+        ensures other_version { D.keeps_model → IfErr result (λ e. e.0 ≡ Refusal.OtherVersion → IsOtherVersion (D.gives disk)) }
+        ensures unfinished { D.keeps_model → IfErr result (λ e. e.0 ≡ Refusal.Unfinished → IsUnfinished (D.gives disk)) }
+        ensures reads { D.keeps_model → IfOk result (λ s. OnlyReads D.gives D.may_leave_now D.moment D.may_have_left_since disk s.disk) }
+        ensures back { D.keeps_model → IfErr result (λ e. OnlyReads D.gives D.may_leave_now D.moment D.may_have_left_since disk e.1) }
+        ensures size { IfErr result (λ e. D.size e.1 ≡ D.size disk) }
+        ensures told { IfErr result (λ e. IsOfOpening e.0) }
+        ensures cause { IfErr result (λ e. IsCaused (D.failures disk) (D.failures e.1) e.0) }
+    {
+        let mut disk = disk;
+        match Contents::open(alloc, &mut disk) {
+            Ok(contents) => Ok(Store {
+                disk,
+                contents,
+                plan: Plan::new(),
+            }),
+            Err(refusal) => Err((refusal, disk)),
+        }
+    }
+
+    /// The disk, as the store leaves it.
+    pub fn into_disk(self) -> D
+        ensures { result ≡ self.disk }
+    {
+        let Store {
+            disk,
+            contents: _,
+            plan: _,
+        } = self;
+        disk
+    }
+}
+
+impl<D: Disk + Drop> StoreLike for Store<D> {
+    ghost use Rattle.std.specs.Prelude.{◌≡◌, ◌⊎◌, ◌<◌, ◌≤◌, ◌↔◌, ℕ, List, true, false, length, IfOk, IfErr, IfNone, IfSome, OnOk, OnErr, IsErrOf};
+    ghost use Rattle.flusher.specs.Plan.{IsPending};
+    ghost use Rattle.local_store.specs.Kept.{one_volume, stored_means};
+
+    ghost keeps_model = { D.keeps_model };
+
+    ghost about = { λ s. about_of s.contents };
+
+    ghost keeps = { λ s volume. IsStored s.contents volume (D.gives s.disk) (D.may_leave_now s.disk) };
+
+    ghost is_pending = { λ s. IsPending s.contents.pending };
+
+    ghost may_leave_now = { λ s. D.may_leave_now s.disk };
+
+    ghost moment = { λ s. D.moment s.disk };
+
+    ghost may_have_left_since = { λ s. D.may_have_left_since s.disk };
+
+    ghost failures = { λ s. D.failures s.disk };
+
+    ghost means_now = { λ keeps s volume c kept left. stored_means kept.stands kept c left };
+
+    ghost keeps_one = { λ keeps s one other kept too. one_volume kept too };
+
+    ghost counts_now = { λ keeps s t c le left. D.counts_now keeps s.disk t c le left };
+
+    ghost only_now = { λ keeps s c left. D.only_now keeps s.disk c left };
+
+    fn slot(&self) -> Slot {
+        self.contents.slot()
+    }
+
+    fn incarnation(&self) -> u64 {
+        self.contents.incarnation()
+    }
+
+    fn geometry(&self) -> Geometry {
+        self.contents.geometry()
+    }
+
+    fn front(&self) -> u64 {
+        self.contents.front()
+    }
+
+    fn room(&self) -> u64 {
+        self.contents.room()
+    }
+
+    fn is_broken(&self) -> bool {
+        self.contents.is_broken()
+    }
+
+    fn read_block(&mut self, block: u32, bytes: &mut [u8]) -> Result<(), Refusal> {
+        self.contents.read_block(&mut self.disk, block, bytes)
+    }
+
+    fn commit(&mut self, alloc: Global, front: u64, images: &[Image]) -> Result<Synced, Refusal> {
+        self.contents.commit(alloc, &mut self.disk, front, images)
+    }
+
+    fn tick(&mut self) -> Result<Option<u32>, Refusal> {
+        self.contents.tick(&mut self.disk, &mut self.plan)
+    }
+
+    fn checkpoint(&mut self) -> Result<(), Refusal> {
+        self.contents.checkpoint(&mut self.disk)
+    }
+}
