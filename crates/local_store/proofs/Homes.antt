@@ -11,7 +11,7 @@ use Rattle.disk_model.specs.Disk.{Follows, Holds, Only, Torn}
 use Rattle.gate_journal.specs.Batch.{Batch}
 use Rattle.gate_journal.specs.declared.batch.Image.{Image}
 use Rattle.local_store.specs.Overlay.{placed, with_images, with_batches, covers, is_covered, FitsIn, AllFitIn}
-use Rattle.local_store.specs.Pending.{held, with_pending, with_all_pending, IsPending, IsHome}
+use Rattle.local_store.specs.Pending.{held, with_pending, with_all_pending, AreHomeOrPending, IsHome}
 use Rattle.local_store.proofs.Overlays.{own_block, other_block, long_still, covered_still, covered_now, with_batches-push, torn_block, batches_cover}
 use Rattle.volume.specs.Volumes.{block_of-volume_of-nil, same_from_blocks}
 use Rattle.volume.specs.Writes.{patched, block_of}
@@ -26,14 +26,14 @@ some_is_none : {x : List ℕ} → Some x ≡ None → ⊥
 some_is_none {x} same = absurd (empty_isnt (subst IsSome same refl))
 
 -- one image more, of a block that is on disk elsewhere
-module _ (n : ℕ) (E : ℕ → Type 0) (v : List ℕ) (pending : List (Option (List ℕ))) (home : List ℕ) (image : Image) (fit : FitsIn n image) (was : IsPending n E v pending home) where
+module _ (n : ℕ) (E : ℕ → Type 0) (v : List ℕ) (pending : List (Option (List ℕ))) (home : List ℕ) (image : Image) (fit : FitsIn n image) (was : AreHomeOrPending n E v pending home) where
   held_own : (b : ℕ) → image.block ≡ b → held (set pending image.block (Some image.bytes)) b ≡ Some image.bytes
   held_own b is = subst (λ (k : ℕ). held (set pending image.block (Some image.bytes)) k ≡ Some image.bytes) is (get_or-set_same pending image.block (Some image.bytes) None (omega (arith, was.table, fit.0)))
 
   held_other : (b : ℕ) → image.block ≢ b → held (set pending image.block (Some image.bytes)) b ≡ held pending b
   held_other b apart = get_or-set_other pending image.block b (Some image.bytes) None (λ is. apart (sym is))
 
-  one_image : E image.block → IsPending n E (patched v (placed image)) (set pending image.block (Some image.bytes)) home
+  one_image : E image.block → AreHomeOrPending n E (patched v (placed image)) (set pending image.block (Some image.bytes)) home
   one_image there = record {
     table = length-set pending image.block (Some image.bytes) ∙ was.table;
     size = long_still n v image was.size fit;
@@ -55,7 +55,7 @@ module _ (n : ℕ) (E : ℕ → Type 0) (v : List ℕ) (pending : List (Option (
 
 -- more images, each of such a block
 pub more_images : (n : ℕ) (E : ℕ → Type 0) (v : List ℕ) (pending : List (Option (List ℕ))) (home : List ℕ) (images : List Image) → All (FitsIn n) images → All (λ image. E image.block) images
-    → IsPending n E v pending home → IsPending n E (with_images v images) (with_pending pending images) home
+    → AreHomeOrPending n E v pending home → AreHomeOrPending n E (with_images v images) (with_pending pending images) home
 more_images n E v pending home [] fit there was = was
 more_images n E v pending home (image ∷ images) fit there was =
     let P = λ (i : Image). E i.block in
@@ -125,11 +125,11 @@ as_it_is {n} {home} {left} long only = record {
     ]
 
 -- where nothing is pending, the home region is the volume
-pub all_home : {n : ℕ} {E : ℕ → Type 0} {v : List ℕ} {pending : List (Option (List ℕ))} {home : List ℕ} → IsPending n E v pending home → ((b : ℕ) → b < n → held pending b ≡ None) → home ≡ v
+pub all_home : {n : ℕ} {E : ℕ → Type 0} {v : List ℕ} {pending : List (Option (List ℕ))} {home : List ℕ} → AreHomeOrPending n E v pending home → ((b : ℕ) → b < n → held pending b ≡ None) → home ≡ v
 all_home {n} {E} {v} {pending} {home} waits empty = same_from_blocks n home v waits.as_long waits.size (λ b below. waits.is_home b below (empty b below))
 
 -- so it needs no batches once it is durable
-pub needs_none : {n : ℕ} {E : ℕ → Type 0} {v : List ℕ} {pending : List (Option (List ℕ))} {home : List ℕ} {left : List ℕ → Type 0} → IsPending n E v pending home → ((b : ℕ) → b < n → held pending b ≡ None) → Only home left
+pub needs_none : {n : ℕ} {E : ℕ → Type 0} {v : List ℕ} {pending : List (Option (List ℕ))} {home : List ℕ} {left : List ℕ → Type 0} → AreHomeOrPending n E v pending home → ((b : ℕ) → b < n → held pending b ≡ None) → Only home left
     → IsHome n v [] pending home left
 needs_none {n} {E} {v} {pending} {home} {left} waits empty only = record {
   waits = record {

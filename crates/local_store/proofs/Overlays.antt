@@ -9,7 +9,7 @@ use Rattle.std.proofs.lemmas.Bool.Decides.{nat_tests}
 use Rattle.disk_model.specs.Disk.{Torn}
 use Rattle.gate_journal.specs.Batch.{Batch}
 use Rattle.gate_journal.specs.declared.batch.Image.{Image}
-use Rattle.local_store.specs.Overlay.{placed, with_images, with_batches, covers, is_covered, FitsIn, AllFitIn, BatchesCover, UncoveredBlocksStay, BatchesSettle}
+use Rattle.local_store.specs.Overlay.{placed, with_images, with_batches, covers, is_covered, FitsIn, AllFitIn, BatchesCover, UncoveredBlocksStay}
 use Rattle.volume.specs.Volumes.{length-patched, range-patched_own, block_of-patched_same, block_of-patched_untouched, same_from_blocks}
 use Rattle.volume.specs.Writes.{Fits, patched, block_of}
 
@@ -152,7 +152,3 @@ batches_cover n one other batches long long_other fit same =
 
 pub uncovered_stay : UncoveredBlocksStay
 uncovered_stay n volume batches b long fit apart = batches_pass n b volume batches long fit apart
-
-pub batches_settle : BatchesSettle
-batches_settle n volume batches long fit =
-    batches_cover n (with_batches volume batches) volume batches (length-with_batches n volume batches long fit) long fit (λ b below apart. batches_pass n b volume batches long fit apart)

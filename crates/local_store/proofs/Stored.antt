@@ -1,13 +1,12 @@
 -- A store on its disk: what the three parts come to together.
-use Rattle.std.proofs.Common.{◌≡◌, ℕ, ◌-◌, ◌*◌, ◌<◌, ◌≤◌, true, false, List, [], ◌∷◌, ◌++◌, length, replicate, refl, sym, ◌∙◌, ap, subst, inl, inr, ◌⊎◌, ⊎_elim, arith}
+use Rattle.std.proofs.Common.{◌≡◌, ℕ, ◌*◌, ◌<◌, ◌≤◌, true, false, List, [], ◌∷◌, ◌++◌, length, replicate, refl, sym, ◌∙◌, ap, subst, inl, inr, ◌⊎◌, ⊎_elim, arith}
 use Rattle.std.specs.Prelude.{All, Option, Some, None}
 use Rattle.std.proofs.lemmas.List.Elements.{All-head, All-tail, All-nil, All-cons}
-use Rattle.block_cache.specs.Cache.{Agrees, Blocks}
-use Rattle.lru.proofs.Splits.{Contains-nil}
+use Rattle.block_cache.specs.Cache.{Agrees, Blocks, agrees_empty}
 use Rattle.disk_model.specs.Disk.{Elapses, Follows, Holds, LeavesOnly, NothingNew, Only, Torn}
-use Rattle.disk_model.specs.Frames.{both, left_inside, only_inside, others_keep, settled_still, started_inside, write_goes_on}
+use Rattle.disk_model.specs.Frames.{both, only_inside, others_keep, started_inside, write_goes_on}
 use Rattle.disk_model.specs.Moments.{started, weaker}
-use Rattle.disk_model.specs.Part.{inside, IsApart, KeepsPart, LeftInside, TouchesOnly}
+use Rattle.disk_model.specs.Part.{inside, IsApart, LeftInside, TouchesOnly}
 use Rattle.disk_model.specs.declared.part.Part.{Part}
 use Rattle.gate_journal.specs.Batch.{Batch, AreBatches, HoldsBatches, HoldsOldOrNew, last_front}
 use Rattle.gate_journal.specs.Journal as journal
@@ -15,39 +14,19 @@ use Rattle.gate_journal.specs.Journal.{IsSettled, appended, still_settled}
 use Rattle.gate_journal.specs.declared.batch.Image.{Image}
 use Rattle.local_store.proofs.Overlays.{with_batches-push}
 use Rattle.volume.specs.Volumes.{length-block_of}
-use Rattle.gate_journal.specs.Pair.{HoldsPair, HasGate, slot_bytes}
+use Rattle.gate_journal.specs.Pair.{HoldsPair}
 use Rattle.gate_journal.specs.Runs.{OnlyReads, reads_keep}
-use Rattle.home_blocks.specs.Home.{HoldsSuperblock, IsSettledHome}
+use Rattle.home_blocks.specs.Home.{HoldsSuperblock, IsSettledHome, still_settled_home}
 use Rattle.home_blocks.specs.Home as home
-use Rattle.home_blocks.specs.Places.{disk_size_of, home_part, superblock_part}
+use Rattle.home_blocks.specs.Places.{apart_back, area_behind_home, area_behind_superblock, disk_size_of, home_apart, home_part, superblock_part}
 use Rattle.home_blocks.specs.declared.progress.Progress.TheVariants.{Whole}
 use Rattle.local_store.specs.Meaning.{Means}
 use Rattle.local_store.specs.Kept.{old_meaning, parts_mean, stored_means}
 use Rattle.local_store.specs.Overlay.{with_batches, with_images, is_covered, AllFitIn, FitsIn}
-use Rattle.local_store.specs.Pending.{IsHome, IsPending, held, with_all_pending}
+use Rattle.local_store.specs.Pending.{IsHome, AreHomeOrPending, held, with_all_pending}
 use Rattle.volume.specs.declared.geometry.Geometry.{Geometry}
 use Rattle.local_store.specs.Store.{State, IsOfSuperblock, IsStored, committed, geometry_of, meaning_after, meaning_in, with_home}
 use Rattle.local_store.proofs.Homes.{as_it_is, block_home, block_torn, length-home, more_batches, one_batch}
-
--- a call that keeps the superblock's part keeps a home settled
-pub home_still : {h : home.State} {old new : List ℕ} {left_old left_new : List ℕ → Type 0} → KeepsPart superblock_part old new left_old left_new → IsSettledHome h old left_old → IsSettledHome h new left_new
-home_still {h} {old} {new} {left_old} {left_new} keeps was =
-    let own : KeepsPart h.pair.part old new left_old left_new = subst (λ (part : Part). KeepsPart part old new left_old left_new) (sym was.place) keeps in
-    record {
-      is = was.is;
-      place = was.place;
-      slots = was.slots;
-      pair = record {
-        holds = subst (HoldsPair was.slots) (sym own.gives) was.pair.holds;
-        number = was.pair.number;
-        into = was.pair.into;
-        gate = subst (λ (x : List ℕ). HasGate h.pair.is_closed (slot_bytes h.pair.into x)) (sym own.gives) was.pair.gate;
-        other_gate = subst (λ (x : List ℕ). HasGate h.pair.other_is_closed (slot_bytes (1 - h.pair.into) x)) (sym own.gives) was.pair.other_gate;
-        runs = was.pair.runs;
-        durable = settled_still own was.pair.durable;
-      };
-      is_newest = was.is_newest;
-    }
 
 -- a settled home's superblock is held by bytes with such a first part
 held_by : {h : home.State} {gives : List ℕ} {left : List ℕ → Type 0} (was : IsSettledHome h gives left) (c : List ℕ) → inside superblock_part c ≡ inside superblock_part gives → HoldsSuperblock h.superblock c
@@ -64,31 +43,27 @@ held_by {h} {gives} {left} was c same = record {
 first_part : {h : home.State} {gives : List ℕ} {left : List ℕ → Type 0} → IsSettledHome h gives left → Only (inside superblock_part gives) (LeftInside superblock_part left)
 first_part {h} {gives} {left} was = subst (λ (part : Part). Only (inside part gives) (LeftInside part left)) was.place was.pair.durable
 
--- so it is by all that a stop may leave
-pub held_left : {h : home.State} {gives : List ℕ} {left : List ℕ → Type 0} → IsSettledHome h gives left → (c : List ℕ) → left c → HoldsSuperblock h.superblock c
-held_left {h} {gives} {left} was c may = held_by was c (first_part was (inside superblock_part c) (left_inside superblock_part left c may))
+-- the parts lie apart, either way round
+home_from_superblock : (g : Geometry) → IsApart (home_part g) superblock_part
+home_from_superblock g = apart_back superblock_part (home_part g) (home_apart g)
 
--- the parts lie apart
-pub apart_from_superblock : {store : State} → IsOfSuperblock store → IsApart store.journal.part superblock_part
-apart_from_superblock {store} of = inr (omega (arith, of.part.start))
+home_from_area : {store : State} → IsOfSuperblock store → IsApart (home_part (geometry_of store)) store.journal.part
+home_from_area {store} of = area_behind_home (geometry_of store) store.home.superblock.current store.journal.part of.part
 
-pub apart_from_home : {store : State} → IsOfSuperblock store → IsApart store.journal.part (home_part (geometry_of store))
-apart_from_home {store} of = inr (omega (arith, of.part.start))
+pub superblock_from_area : {store : State} → IsOfSuperblock store → IsApart superblock_part store.journal.part
+superblock_from_area {store} of = area_behind_superblock (geometry_of store) store.home.superblock.current store.journal.part of.part
 
-pub home_apart : {store : State} → IsOfSuperblock store → IsApart (home_part (geometry_of store)) store.journal.part
-home_apart {store} of = inl (omega (arith, of.part.start))
+area_from_home : {store : State} → IsOfSuperblock store → IsApart store.journal.part (home_part (geometry_of store))
+area_from_home {store} of = apart_back (home_part (geometry_of store)) store.journal.part (home_from_area of)
 
-pub home_from_superblock : (store : State) → IsApart (home_part (geometry_of store)) superblock_part
-home_from_superblock store = inr (omega arith)
-
-pub superblock_from_home : (store : State) → IsApart superblock_part (home_part (geometry_of store))
-superblock_from_home store = inl (omega arith)
+area_from_superblock : {store : State} → IsOfSuperblock store → IsApart store.journal.part superblock_part
+area_from_superblock {store} of = apart_back superblock_part store.journal.part (superblock_from_area of)
 
 -- a home region that is kept stays what it is
 pub region_still : {n : ℕ} {v : List ℕ} {batches : List Batch} {pending : List (Option (List ℕ))} {old new : List ℕ} {left_old left_new : List ℕ → Type 0} → new ≡ old → NothingNew left_old left_new
     → IsHome n v batches pending old left_old → IsHome n v batches pending new left_new
 region_still {n} {v} {batches} {pending} {old} {new} {left_old} {left_new} same nothing was = record {
-  waits = subst (IsPending n (λ b. is_covered b batches ≡ true) v pending) (sym same) was.waits;
+  waits = subst (AreHomeOrPending n (λ b. is_covered b batches ≡ true) v pending) (sym same) was.waits;
   fit = was.fit;
   long = λ x may. was.long x (nothing x may);
   left = λ x may. was.left x (nothing x may);
@@ -149,7 +124,7 @@ module _ {D : Type 0} {gives : D → List ℕ} {may_leave : D → List ℕ → T
   commit_leaves batch run area =
       at_any_moment (HoldsSuperblock store.home.superblock) (λ c. HoldsOldOrNew store.journal.blocks store.journal.before was.batches batch (inside store.journal.part c))
       (λ c. with_batches (inside (home_part (geometry_of store)) c) was.batches ≡ v) (λ c. Means (meaning_in store v) c ⊎ Means (meaning_after store v batch.front batch.images) c)
-      (superblock_stays (apart_from_superblock of) run) area (region_stays (apart_from_home of) run)
+      (superblock_stays (area_from_superblock of) run) area (region_stays (area_from_home of) run)
       (λ c holds batches region. ⊎_elim (λ is. inl (old_meaning store v was.batches of was.is_whole was.area.front c holds is region)) (λ is. inr (new_meaning c holds is region)) batches)
     where
       new_meaning : (c : List ℕ) → HoldsSuperblock store.home.superblock c → HoldsBatches store.journal.blocks store.journal.before (was.batches ++ batch ∷ []) (inside store.journal.part c)
@@ -166,11 +141,11 @@ module _ {D : Type 0} {gives : D → List ℕ} {may_leave : D → List ℕ → T
       → IsStored (committed store front images) (with_images v images) (gives new) (may_leave new)
   commit_keeps front images run area =
       let batch : Batch = record { front = front; images = images } in
-      let region = run.others (home_part (geometry_of store)) (apart_from_home of) in
+      let region = run.others (home_part (geometry_of store)) (area_from_home of) in
       let fit = all_fit store.journal.blocks store.journal.before (was.batches ++ batch ∷ []) area.holds.are in
       record {
         stands = record { part = of.part; slot = of.slot; blocks = of.blocks; before = of.before };
-        superblock = home_still (run.others superblock_part (apart_from_superblock of)) was.superblock;
+        superblock = still_settled_home (run.others superblock_part (area_from_superblock of)) was.superblock;
         is_whole = was.is_whole;
         batches = was.batches ++ batch ∷ [];
         area = area;
@@ -187,7 +162,7 @@ module _ {D : Type 0} {gives : D → List ℕ} {may_leave : D → List ℕ → T
     tick_leaves only_now time =
         at_any_moment (HoldsSuperblock store.home.superblock) (λ c. HoldsBatches store.journal.blocks store.journal.before was.batches (inside store.journal.part c))
         (λ c. with_batches (inside (home_part (geometry_of store)) c) was.batches ≡ v) (Means (meaning_in store v))
-        (superblock_stays (home_from_superblock store) run) (area_stays (home_apart of) run)
+        (superblock_stays (home_from_superblock (geometry_of store)) run) (area_stays (home_from_area of) run)
         (write_goes_on (home_part (geometry_of store)) (λ x. with_batches x was.batches ≡ v) new (may_leave old) (4096 * b) 4096
         (started_inside (home_part (geometry_of store)) (λ x. with_batches x was.batches ≡ v) old (may_leave old) only_now was.region.left) time follows
         (λ x y may torn. block_torn b bytes x y full may torn was.region))
@@ -198,10 +173,10 @@ module _ {D : Type 0} {gives : D → List ℕ} {may_leave : D → List ℕ → T
     tick_keeps cache agrees below holds = record {
       stands = record { part = of.part; slot = of.slot; blocks = of.blocks; before = of.before };
       cached = agrees;
-      superblock = home_still (run.others superblock_part (home_from_superblock store)) was.superblock;
+      superblock = still_settled_home (run.others superblock_part (home_from_superblock (geometry_of store))) was.superblock;
       is_whole = was.is_whole;
       batches = was.batches;
-      area = still_settled (run.others store.journal.part (home_apart of)) was.area;
+      area = still_settled (run.others store.journal.part (home_from_area of)) was.area;
       region = block_home b bytes (inside (home_part (geometry_of store)) (gives new)) (LeftInside (home_part (geometry_of store)) (may_leave new)) below (is_whole below) full holds follows was.region;
       runs = was.runs;
     }
@@ -215,7 +190,7 @@ module _ {D : Type 0} {gives : D → List ℕ} {may_leave : D → List ℕ → T
       let region = reads_keep (home_part (geometry_of store)) old new run in
       record {
         stands = of;
-        superblock = home_still (reads_keep superblock_part old new run) was.superblock;
+        superblock = still_settled_home (reads_keep superblock_part old new run) was.superblock;
         is_whole = was.is_whole;
         batches = was.batches;
         area = still_settled (reads_keep store.journal.part old new run) was.area;
@@ -226,9 +201,6 @@ module _ {D : Type 0} {gives : D → List ℕ} {may_leave : D → List ℕ → T
 
   pub reads_leave : OnlyReads gives may_leave moment left_since old new → LeavesOnly moment left_since old new (Means (meaning_in store v))
   reads_leave run = weaker moment left_since old new (may_leave old) (Means (meaning_in store v)) (stored_means of was) run.moments
-
-agrees_empty : (home : List ℕ) → Agrees [] home
-agrees_empty home = λ block bytes has. absurd (Contains-nil (block, bytes) has)
 
 -- another cache that agrees
 pub with_cache : {store : State} {v gives : List ℕ} {left : List ℕ → Type 0} (cache : Blocks) → Agrees cache (inside (home_part (geometry_of store)) gives) → IsStored store v gives left → IsStored (record store { cache = cache }) v gives left
@@ -262,6 +234,3 @@ opened h j pending cache none g batches of {gives} {left} geometry whole settled
           (subst (λ (p : List (Option (List ℕ))). IsHome g.blocks (with_batches (inside (home_part g) gives) batches) batches p (inside (home_part g) gives) (LeftInside (home_part g) left)) (sym is) region);
       runs = refl;
     }
-
-pub superblock_apart : (g : Geometry) → IsApart superblock_part (home_part g)
-superblock_apart g = inl (omega arith)

@@ -54,7 +54,7 @@ pub record HasDamagedArea (bytes : List ℕ) : Type 0 where
   pub damaged : IsDamaged superblock.geometry.blocks superblock.front (area_bytes superblock.geometry superblock.current bytes)
 
 -- none of what `open` refuses by a number is said of the disk
-pub record IsFree (bytes : List ℕ) : Type 0 where
+pub record IsOpenable (bytes : List ℕ) : Type 0 where
   pub volume : ¬ IsNoVolume bytes
   pub version : ¬ IsOtherVersion bytes
   pub finished : ¬ IsUnfinished bytes

@@ -43,8 +43,3 @@ BatchesCover = (blocks : ℕ) (one other : List ℕ) (batches : List Batch) → 
 abbrev pub UncoveredBlocksStay : Type 0
 UncoveredBlocksStay = (blocks : ℕ) (volume : List ℕ) (batches : List Batch) (b : ℕ) → length volume ≡ 4096 * blocks → AllFitIn blocks batches
     → is_covered b batches ≡ false → block_of (with_batches volume batches) b ≡ block_of volume b
-
--- under the batches a second time, a volume is the same
-abbrev pub BatchesSettle : Type 0
-BatchesSettle = (blocks : ℕ) (volume : List ℕ) (batches : List Batch) → length volume ≡ 4096 * blocks → AllFitIn blocks batches
-    → with_batches (with_batches volume batches) batches ≡ with_batches volume batches

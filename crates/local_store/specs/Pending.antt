@@ -18,7 +18,7 @@ abbrev pub with_all_pending : List (Option (List ℕ)) → List Batch → List (
 with_all_pending pending batches = fold (λ p batch. with_pending p batch.images) pending batches
 
 -- Each block of the volume is pending, or it is home; what is pending is also on disk elsewhere.
-pub record IsPending (blocks : ℕ) (IsElsewhere : ℕ → Type 0) (volume : List ℕ) (pending : List (Option (List ℕ))) (home : List ℕ) : Type 0 where
+pub record AreHomeOrPending (blocks : ℕ) (IsElsewhere : ℕ → Type 0) (volume : List ℕ) (pending : List (Option (List ℕ))) (home : List ℕ) : Type 0 where
   pub table : length pending ≡ blocks
   pub size : length volume ≡ 4096 * blocks
   pub as_long : length home ≡ 4096 * blocks
@@ -28,7 +28,7 @@ pub record IsPending (blocks : ℕ) (IsElsewhere : ℕ → Type 0) (volume : Lis
 
 -- the home region is the volume under these batches, whatever a stop leaves of it; and what is pending is in the batches
 pub record IsHome (blocks : ℕ) (volume : List ℕ) (batches : List Batch) (pending : List (Option (List ℕ))) (home : List ℕ) (may_leave : List ℕ → Type 0) : Type 0 where
-  pub waits : IsPending blocks (λ b. is_covered b batches ≡ true) volume pending home
+  pub waits : AreHomeOrPending blocks (λ b. is_covered b batches ≡ true) volume pending home
   pub fit : AllFitIn blocks batches
   pub long : (x : List ℕ) → may_leave x → length x ≡ 4096 * blocks
   pub left : (x : List ℕ) → may_leave x → with_batches x batches ≡ volume

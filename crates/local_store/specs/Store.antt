@@ -18,9 +18,8 @@ use Rattle.local_store.specs.Overlay.{with_images}
 use Rattle.local_store.specs.Pending.{IsHome, held, with_pending}
 use Rattle.volume.specs.declared.geometry.Geometry.{Geometry}
 
--- the superblock and its pair, the journal in the current area, the images that are not yet home, by block, the
--- blocks of the home region that are kept in memory, and whether
--- a device call failed
+-- the superblock and its pair, the journal in the current area, the images that are not yet home, by block, the blocks of
+-- the home region that are kept in memory, and whether a device call failed
 pub record State : Type 0 where
   pub home : home.State
   pub journal : journal.State
@@ -28,7 +27,7 @@ pub record State : Type 0 where
   pub cache : Blocks
   pub broken : Bool
 
--- its geometry, and its front
+-- its geometry
 abbrev pub geometry_of : State → Geometry
 geometry_of store = store.home.superblock.geometry
 

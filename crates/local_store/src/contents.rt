@@ -70,10 +70,8 @@ impl Contents {
         requires on_disk { disk_size_of geometry ≤ D.size disk.old }
         requires limit { incarnation ≤ MAX_NUMBER }
 
-        ensures means { IfOk result (λ s. meaning_in s (replicate (4096 * geometry.blocks) 0)
-            ≡ record { slot = slot; incarnation = incarnation; geometry = geometry; front = 0; volume = replicate (4096 * geometry.blocks) 0 }) }
+        ensures about { IfOk result (λ s. about_of s ≡ record { slot = slot; incarnation = incarnation; geometry = geometry; front = 0; used = 0; stores = 1; broken = false }) }
         ensures stored { D.keeps_model → IfOk result (λ s. IsStored s (replicate (4096 * geometry.blocks) 0) (D.gives disk.new) (D.may_leave_now disk.new)) }
-        ensures runs { IfOk result (λ s. s.broken ≡ false) }
         ensures size { D.size disk.new ≡ D.size disk.old }
         ensures told { IfErr result IsOfFormatting }
         ensures unchanged { IsErrOf result Refusal.Memory → disk.new ≡ disk.old }

@@ -30,8 +30,8 @@ impl<D: Disk + Drop> Store<D> {
     /// Formats a disk of at least `disk_size(geometry)` bytes, which may hold anything: after it the disk means a volume of
     /// zeros at front 0. The incarnation is at most 2^63 - 1.
     ///
-    /// It is refused for memory, and by the device. Both hand the disk back. It is for a disk that nobody needs any more, as
-    /// `Contents::format` is.
+    /// It is refused for memory, with nothing written, and by the device. Both hand the disk back. It is for a disk that nobody
+    /// needs any more, as `Contents::format` is.
     pub fn format(
         alloc: Global,
         disk: D,
@@ -41,9 +41,10 @@ impl<D: Disk + Drop> Store<D> {
     ) -> Result<Store<D>, (Refusal, D)>
         requires on_disk { disk_size_of geometry ≤ D.size disk }
         requires limit { incarnation ≤ MAX_NUMBER }
-        ensures means { IfOk result (λ s. meaning_in s.contents (replicate (4096 * geometry.blocks) 0)
-            ≡ record { slot = slot; incarnation = incarnation; geometry = geometry; front = 0; volume = replicate (4096 * geometry.blocks) 0 }) }
+        ensures about { IfOk result (λ s. about_of s.contents ≡ record { slot = slot; incarnation = incarnation; geometry = geometry; front = 0; used = 0; stores = 1; broken = false }) }
         ensures stored { D.keeps_model → IfOk result (λ s. IsStored s.contents (replicate (4096 * geometry.blocks) 0) (D.gives s.disk) (D.may_leave_now s.disk)) }
+        ensures unchanged { IfErr result (λ e. e.0 ≡ Refusal.Memory → e.1 ≡ disk) }
+        ensures size { IfErr result (λ e. D.size e.1 ≡ D.size disk) }
         ensures told { IfErr result (λ e. IsOfFormatting e.0) }
         ensures cause { IfErr result (λ e. IsCaused (D.failures disk) (D.failures e.1) e.0) }
     {

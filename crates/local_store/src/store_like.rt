@@ -137,7 +137,7 @@ pub trait StoreLike {
         ensures full { IsErrOf result Refusal.Full ↔ (((about self.old).broken ≡ false) × ((about self.old).stores ≡ MAX_NUMBER)) }
         ensures told { IfErr result IsOfCheckpoint }
         ensures unchanged { IfErr result (λ r. ¬ IsOfDevice r → (about self.new ≡ about self.old) × ((volume : List ℕ) → keeps self.old volume → keeps self.new volume) × ((b : ℕ) → is_pending self.new b ↔ is_pending self.old b)) }
-        ensures device { IfErr result (λ r. IsOfDevice r → (about self.new).broken ≡ true) }
+        ensures device { IfErr result (λ r. IsOfDevice r → about self.new ≡ record (about self.old) { broken = true }) }
         ensures cause { HasCause (failures self.old) (failures self.new) result };
 
     /// Whatever a stop now leaves means what the store keeps.

@@ -69,6 +69,15 @@ impl Table {
         self.front + self.kept.len() as u64
     }
 
+    /// Whether `apply` of this write is refused with 141: 1,024 writes are kept already, or the kept writes and this one have
+    /// more than 16,777,216 bytes.
+    pub fn is_full_for(&self, write: &Write) -> bool
+        ensures { IsTrue result ↔ IsFullFor self.now write.now }
+    {
+        let len = write.payload().len() as u64;
+        self.kept.len() >= MAX_KEPT || self.data + len > MAX_DATA
+    }
+
     /// Applies the write of the number `n`, the one after `applied()`. The write lies within the largest volume. Its bytes
     /// are shared and not copied.
     ///

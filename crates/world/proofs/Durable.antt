@@ -10,8 +10,8 @@ use Rattle.flush_barrier.specs.declared.error_code.ErrorCode.TheVariants.{Io, No
 use Rattle.disk_model.specs.Part.{inside}
 use Rattle.gate_journal.specs.Batch.{HoldsBatches}
 use Rattle.gate_journal.specs.Journal.{still_settled}
-use Rattle.nbd_session.specs.declared.demand.Demand.{Demand}
-use Rattle.nbd_session.specs.declared.demand.Demand.TheVariants as demands
+use Rattle.lone_session.specs.declared.demand.Demand.{Demand}
+use Rattle.lone_session.specs.declared.demand.Demand.TheVariants as demands
 use Rattle.volume.specs.Writes.{Placed, patched}
 use Rattle.volume.specs.declared.geometry.Geometry.{Geometry}
 use Rattle.world.proofs.DurableLemmas.{means_durable}

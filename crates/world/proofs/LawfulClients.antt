@@ -8,7 +8,7 @@ use Rattle.std.proofs.lemmas.Iterator.Adapters.{position_from-zero}
 use Rattle.std.proofs.lemmas.List.Quantifiers.{position-Some}
 use Rattle.std.proofs.lemmas.Option.{get_or_from_slice_get, same_Some}
 use Rattle.flush_barrier.specs.declared.session_id.SessionId.{SessionId}
-use Rattle.nbd_session.specs.Lawful.{History, nothing}
+use Rattle.lone_session.specs.Lawful.{History, nothing}
 use Rattle.world.specs.Lawful.{AllGo, Goes}
 use Rattle.world.specs.Seen.{Seen}
 use Rattle.world.specs.Told.{place_of}

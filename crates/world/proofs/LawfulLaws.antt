@@ -7,9 +7,9 @@ use Rattle.std.proofs.lemmas.List.{append-nil}
 use Rattle.std.proofs.lemmas.List.Concat.{flat_map-append}
 use Rattle.std.proofs.lemmas.Option.{same_Some}
 use Rattle.flush_barrier.specs.declared.session_id.SessionId.{SessionId}
-use Rattle.nbd_session.specs.Laws.{HistoriesAreLawful, OutputIsLawful}
-use Rattle.nbd_session.specs.Lawful.{History, nothing}
-use Rattle.nbd_session.specs.Replies.{WireReply}
+use Rattle.lone_session.specs.Laws.{HistoriesAreLawful, OutputIsLawful}
+use Rattle.lone_session.specs.Lawful.{History, nothing}
+use Rattle.lone_session.specs.Replies.{WireReply}
 use Rattle.world.specs.Lawful.{FirstHasNone, Goes, GoingIsLawful, SessionsAreLawful, bytes_for, fed_by, fed_in, handed_by, handed_in, piece_for, replies_in, reply_by}
 use Rattle.world.specs.Played.{Played, Put, PutsOut, Stepped, closes, handed_to, put_of, waiting_for}
 use Rattle.world.specs.Seen.{Seen, seen_first}

@@ -5,14 +5,14 @@ use Rattle.std.proofs.lemmas.Bool.{cases_eq, cond-true, cond-false, eq-eqb, ne_e
 use Rattle.std.proofs.lemmas.List.{append-nil}
 use Rattle.std.proofs.lemmas.List.Concat.{flat_map-append}
 use Rattle.flush_barrier.specs.declared.session_id.SessionId.{SessionId}
-use Rattle.nbd_session.specs.Laws.{HistoriesAreLawful, OutputIsLawful, RepliesAreLawful}
-use Rattle.nbd_session.specs.Lawful.{History, IsLawful, Stands, nothing, sent_by}
-use Rattle.nbd_session.specs.Lawful as lawful
-use Rattle.nbd_session.specs.Replies.{WireReply, answered, is_owed}
-use Rattle.nbd_session.specs.Session.{State}
-use Rattle.nbd_session.specs.Turn.{is_over}
-use Rattle.nbd_session.specs.declared.phase.Phase.{Phase}
-use Rattle.nbd_session.specs.declared.phase.Phase.TheVariants.{Over}
+use Rattle.lone_session.specs.Laws.{HistoriesAreLawful, OutputIsLawful, RepliesAreLawful}
+use Rattle.lone_session.specs.Lawful.{History, IsLawful, Stands, nothing, sent_by}
+use Rattle.lone_session.specs.Lawful as lawful
+use Rattle.lone_session.specs.Replies.{WireReply, answered, is_owed}
+use Rattle.lone_session.specs.Session.{State}
+use Rattle.lone_session.specs.Turn.{is_over}
+use Rattle.lone_session.specs.declared.phase.Phase.{Phase}
+use Rattle.lone_session.specs.declared.phase.Phase.TheVariants.{Over}
 use Rattle.world.specs.Lawful.{Goes, on_the_wire, replies_in, reply_by}
 use Rattle.world.specs.Told.{AtPlace, Delivers, Owing, SettlesIn, TakesReply, Told, ended, event_of, place_of, replied, token_told}
 use Rattle.world.specs.Waiting.{without_first}

@@ -7,10 +7,10 @@ use Rattle.world.specs.LoneBoard.{least_of}
 use Rattle.board.specs.Seats.{BoardId}
 use Rattle.flush_barrier.specs.declared.error_code.ErrorCode.TheVariants.{Io, NoMemory}
 use Rattle.flush_barrier.specs.declared.session_id.SessionId.{SessionId}
-use Rattle.nbd_session.specs.Demand.{Asked, asked_by}
-use Rattle.nbd_session.specs.Lawful.{History, fed_and_asked, nothing}
-use Rattle.nbd_session.specs.declared.demand.Demand.{Demand}
-use Rattle.nbd_session.specs.declared.demand.Demand.TheVariants as demands
+use Rattle.lone_session.specs.Demand.{Asked, asked_by}
+use Rattle.lone_session.specs.Lawful.{History, fed_and_asked, nothing}
+use Rattle.lone_session.specs.declared.demand.Demand.{Demand}
+use Rattle.lone_session.specs.declared.demand.Demand.TheVariants as demands
 use Rattle.volume.specs.Writes.{Placed}
 use Rattle.world.specs.Lawful.{Goes, piece_for, replies_in}
 use Rattle.world.specs.Played.{Does, HasStep}

@@ -2,8 +2,8 @@
 use Rattle.std.proofs.Common.{◌≡◌, ℕ, ◌*◌, ◌<◌, List, [], ◌∷◌, map, refl, sym, subst, arith}
 use Rattle.std.specs.List.{AllZip}
 use Rattle.std.proofs.lemmas.List.Elements.{All-nil}
-use Rattle.nbd_session.specs.Demand.{IsUnnumbered}
-use Rattle.nbd_session.specs.Laws.{HoldsInOneWay, OutputKeeps, RepliesKeep}
+use Rattle.lone_session.specs.Demand.{IsUnnumbered}
+use Rattle.lone_session.specs.Laws.{HoldsInOneWay, OutputKeeps, RepliesKeep}
 use Rattle.world.specs.OneVolume.{FirstStandsForStart, IsInUse, Keeps, PlaysAreOfOneVolume, StandsFor}
 use Rattle.world.specs.Played.{Does, HasStep, IsOrdered, PutsOut, Stepped, handed_to}
 use Rattle.world.specs.Seen.{Seen, seen_first}

@@ -4,10 +4,10 @@ use Rattle.std.specs.Prelude.{All, MatchBool, MatchOption}
 use Rattle.std.proofs.lemmas.List.Elements.{All-append, All-cons, All-nil}
 use Rattle.flush_barrier.specs.declared.error_code.ErrorCode.TheVariants.{Io, NoMemory}
 use Rattle.world.specs.LoneBoard.{least_of}
-use Rattle.nbd_session.specs.Demand.{Asked}
-use Rattle.nbd_session.specs.Replies.{is_owed}
-use Rattle.nbd_session.specs.declared.demand.Demand.{Demand}
-use Rattle.nbd_session.specs.declared.demand.Demand.TheVariants as demands
+use Rattle.lone_session.specs.Demand.{Asked}
+use Rattle.lone_session.specs.Replies.{is_owed}
+use Rattle.lone_session.specs.declared.demand.Demand.{Demand}
+use Rattle.lone_session.specs.declared.demand.Demand.TheVariants as demands
 use Rattle.volume.specs.Writes.{Placed}
 use Rattle.world.specs.Played.{Does, Played, Stepped}
 use Rattle.world.specs.Refusals.{IsNotFailed, IsNotRefused, MayStop, MembersStopForACause, RunningMembersRefuseNothing}

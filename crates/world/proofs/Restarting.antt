@@ -5,7 +5,7 @@ use Rattle.std.proofs.lemmas.Bool.{cases_Bool, eqb-true, ne_eqb}
 use Rattle.std.proofs.lemmas.List.{append-nil, length-take, length-map, take_all, drop_all, get_or-map}
 use Rattle.std.proofs.lemmas.List.Elements.{All-nil}
 use Rattle.gate_journal.specs.Batch.{Batch, HoldsBatches, last_front}
-use Rattle.nbd_session.specs.Demand.{IsUnnumbered}
+use Rattle.lone_session.specs.Demand.{IsUnnumbered}
 use Rattle.volume.specs.Writes.{Placed, volume_of}
 use Rattle.world.specs.Blocks.{flat, with_batches}
 use Rattle.world.specs.DiskMeaning.{Means}

@@ -3,14 +3,14 @@ use Rattle.std.proofs.Common.{◌≡◌, ℕ, ◌<◌, true, false, if◌then◌
 use Rattle.std.specs.Prelude.{All, IsSome}
 use Rattle.std.proofs.lemmas.Option.{slice_get_read}
 use Rattle.flush_barrier.specs.declared.session_id.SessionId.{SessionId}
-use Rattle.nbd_session.specs.Demand.{IsUnnumbered, asked_by, session_of}
-use Rattle.nbd_session.specs.Lawful.{History, Stands, fed_and_asked}
-use Rattle.nbd_session.specs.Session.{Feeds, Reaches, State}
-use Rattle.nbd_session.specs.Turn.{is_over}
-use Rattle.nbd_session.specs.declared.demand.Demand.{Demand}
-use Rattle.nbd_session.specs.Refusal.{number_of}
-use Rattle.nbd_session.specs.declared.refusal.Refusal.{Refusal}
-use Rattle.nbd_session.specs.declared.refusal.Refusal.TheVariants.{Memory, SessionOver}
+use Rattle.lone_session.specs.Demand.{IsUnnumbered, asked_by, session_of}
+use Rattle.lone_session.specs.Lawful.{History, Stands, fed_and_asked}
+use Rattle.lone_session.specs.Session.{Feeds, Reaches, State}
+use Rattle.lone_session.specs.Turn.{is_over}
+use Rattle.lone_session.specs.declared.demand.Demand.{Demand}
+use Rattle.lone_session.specs.Refusal.{number_of}
+use Rattle.lone_session.specs.declared.refusal.Refusal.{Refusal}
+use Rattle.lone_session.specs.declared.refusal.Refusal.TheVariants.{Memory, SessionOver}
 use Rattle.std.proofs.lemmas.Bool.{cases_Bool, cond-false, cond-true}
 use Rattle.world.specs.Played.{IsRefusedBytes}
 use Rattle.world.specs.Seen.{Seen}

@@ -5,8 +5,8 @@ use Rattle.std.proofs.lemmas.Bool.{cases_Bool}
 use Rattle.flush_barrier.specs.declared.error_code.ErrorCode.{ErrorCode}
 use Rattle.flush_barrier.specs.declared.error_code.ErrorCode.TheVariants.{Io}
 use Rattle.flush_barrier.specs.Reply.{GivenReply}
-use Rattle.nbd_session.specs.Replies.{answered, is_owed, reply_seen, seen_with}
-use Rattle.nbd_session.specs.Session.{State}
+use Rattle.lone_session.specs.Replies.{answered, is_owed, reply_seen, seen_with}
+use Rattle.lone_session.specs.Session.{State}
 use Rattle.world.specs.Member.{Rest, contents_of, fronts_of, rest_of, waiting_of}
 use Rattle.world.specs.Seen.{Seen, SeenMember, seen_member}
 use Rattle.world.specs.Steps.{AnswersEach, Stops, Tells}

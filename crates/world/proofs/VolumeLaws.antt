@@ -12,11 +12,11 @@ use Rattle.flush_barrier.specs.Owed.{OwedAt}
 use Rattle.flush_barrier.specs.declared.error_code.ErrorCode.{ErrorCode}
 use Rattle.flush_barrier.specs.declared.error_code.ErrorCode.TheVariants.{Io, NoMemory}
 use Rattle.flush_barrier.specs.declared.session_id.SessionId.{SessionId}
-use Rattle.nbd_session.specs.Begun.{greeted_holds_none}
-use Rattle.nbd_session.specs.Demand.{Asked, IsUnnumbered, asked_by, session_of as session_asking}
-use Rattle.nbd_session.specs.Laws.{HoldsInOneWay, RepliesKeep}
-use Rattle.nbd_session.specs.declared.demand.Demand.{Demand}
-use Rattle.nbd_session.specs.declared.demand.Demand.TheVariants as demands
+use Rattle.lone_session.specs.Begun.{greeted_holds_none}
+use Rattle.lone_session.specs.Demand.{Asked, IsUnnumbered, asked_by, session_of as session_asking}
+use Rattle.lone_session.specs.Laws.{HoldsInOneWay, RepliesKeep}
+use Rattle.lone_session.specs.declared.demand.Demand.{Demand}
+use Rattle.lone_session.specs.declared.demand.Demand.TheVariants as demands
 use Rattle.volume.specs.Writes.{Placed, patched}
 use Rattle.world.specs.Member.{all_learned, numbered}
 use Rattle.world.specs.OneVolume.{IsInUse, Keeps, demand_seen, number_of, submit_seen, token_seen, view_of}

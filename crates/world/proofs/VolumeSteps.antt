@@ -8,13 +8,13 @@ use Rattle.std.proofs.lemmas.Option.{same_Some}
 use Rattle.world.specs.LoneBoard.{Words}
 use Rattle.gate_journal.specs.Receipt.{Receipt}
 use Rattle.flush_barrier.specs.declared.error_code.ErrorCode.TheVariants.{Io}
-use Rattle.nbd_session.specs.Demand.{Asked, IsUnnumbered}
-use Rattle.nbd_session.specs.Laws.{RepliesKeep}
-use Rattle.nbd_session.specs.Replies.{is_owed, seen_with}
-use Rattle.nbd_session.specs.Session.{Feeds, Holds, Settles as Comes, course_of, play}
-use Rattle.nbd_session.specs.Session as session
-use Rattle.nbd_session.specs.Turn.{turn_in}
-use Rattle.nbd_session.specs.declared.demand.Demand.{Demand}
+use Rattle.lone_session.specs.Demand.{Asked, IsUnnumbered}
+use Rattle.lone_session.specs.Laws.{RepliesKeep}
+use Rattle.lone_session.specs.Replies.{is_owed, seen_with}
+use Rattle.lone_session.specs.Session.{Feeds, Holds, Settles as Comes, course_of, play}
+use Rattle.lone_session.specs.Session as session
+use Rattle.lone_session.specs.Turn.{turn_in}
+use Rattle.lone_session.specs.declared.demand.Demand.{Demand}
 use Rattle.world.specs.OneVolume.{IsBacked, IsInUse, Keeps, StandsFor, demand_seen, token_seen, view_of}
 use Rattle.world.specs.Played.{IsOrdered}
 use Rattle.world.specs.Seen.{Seen, SeenMuster}

@@ -2,10 +2,10 @@
 use Rattle.std.specs.Prelude.{◌≡◌, ◌≢◌, ◌⊎◌, ℕ, None, Some, List, [], ◌∷◌, ◌++◌, All, ◌==◌, if◌then◌else◌}
 use Rattle.std.specs.List.{AllPairs, flat_map}
 use Rattle.flush_barrier.specs.declared.session_id.SessionId.{SessionId}
-use Rattle.nbd_session.specs.Lawful.{History, IsLawful, Stands, nothing, sent_by}
-use Rattle.nbd_session.specs.Replies.{WireReply, seen_with}
-use Rattle.nbd_session.specs.Session.{State}
-use Rattle.nbd_session.specs.declared.phase.Phase.TheVariants.{Over}
+use Rattle.lone_session.specs.Lawful.{History, IsLawful, Stands, nothing, sent_by}
+use Rattle.lone_session.specs.Replies.{WireReply, seen_with}
+use Rattle.lone_session.specs.Session.{State}
+use Rattle.lone_session.specs.declared.phase.Phase.TheVariants.{Over}
 use Rattle.world.specs.Played.{Played}
 use Rattle.world.specs.Seen.{Seen, seen_first}
 use Rattle.world.specs.Told.{place_of}

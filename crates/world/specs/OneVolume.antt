@@ -4,10 +4,10 @@ use Rattle.std.specs.List.{AllZip}
 use Rattle.std.specs.Option.{ForSome}
 use Rattle.world.specs.LoneBoard.{FoundGauge, Words}
 use Rattle.gate_journal.specs.Receipt.{Receipt}
-use Rattle.nbd_session.specs.Demand.{Asked, IsUnnumbered}
-use Rattle.nbd_session.specs.Session.{Holds}
-use Rattle.nbd_session.specs.declared.demand.Demand.{Demand}
-use Rattle.nbd_session.specs.declared.demand.Demand.TheVariants as demands
+use Rattle.lone_session.specs.Demand.{Asked, IsUnnumbered}
+use Rattle.lone_session.specs.Session.{Holds}
+use Rattle.lone_session.specs.declared.demand.Demand.{Demand}
+use Rattle.lone_session.specs.declared.demand.Demand.TheVariants as demands
 use Rattle.world.specs.Played.{IsOrdered, Played}
 use Rattle.world.specs.Seen.{Seen, SeenMuster, seen_first}
 use Rattle.world.specs.Steps.{held_by}

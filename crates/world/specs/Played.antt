@@ -2,9 +2,9 @@
 use Rattle.std.specs.Prelude.{◌≡◌, ◌≢◌, ◌⊎◌, ℕ, ◌+◌, ◌<◌, ◌≤◌, Bool, true, false, not, ◌&&◌, ◌||◌, Some, None, IsSome, List, [], ◌∷◌, ◌++◌, length, map, slice_get, ◌==◌, if◌then◌else◌}
 use Rattle.std.specs.List.{flat_map}
 use Rattle.flush_barrier.specs.declared.session_id.SessionId.{SessionId}
-use Rattle.nbd_session.specs.Turn.{is_over}
-use Rattle.nbd_session.specs.declared.phase.Phase.{Phase}
-use Rattle.nbd_session.specs.declared.phase.Phase.TheVariants.{Greeted, Negotiating, Skipping, Transmitting, Leaving, Over}
+use Rattle.lone_session.specs.Turn.{is_over}
+use Rattle.lone_session.specs.declared.phase.Phase.{Phase}
+use Rattle.lone_session.specs.declared.phase.Phase.TheVariants.{Greeted, Negotiating, Skipping, Transmitting, Leaving, Over}
 use Rattle.world.specs.Seen.{Seen, SeenMuster}
 use Rattle.world.specs.Steps.{AnswersFloor, AnswersFront, BeginsCommit, Connects, EndsCommit, EndsSession, GetsBytes, Looks, LooksUpCrew, LooksUpGauge, Numbers, Posts, Raises, Takes}
 use Rattle.world.specs.Told.{place_of}

@@ -4,7 +4,7 @@ use Rattle.std.specs.Option.{option_map}
 use Rattle.disk_model.specs.declared.disk.Disk.{Ghosts}
 use Rattle.world.specs.LoneBoard.{FoundGauge, FoundMask, Words, gauges_of, mask_of}
 use Rattle.gate_journal.specs.Receipt.{Receipt}
-use Rattle.nbd_session.specs.declared.demand.Demand.{Demand}
+use Rattle.lone_session.specs.declared.demand.Demand.{Demand}
 use Rattle.world.specs.Member.{Contents, Fronts, contents_of, fronts_of, waiting_of}
 use Rattle.world.specs.declared.client.Client.{Client}
 use Rattle.world.specs.declared.member.Kept.{Kept}

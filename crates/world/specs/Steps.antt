@@ -7,14 +7,14 @@ use Rattle.board.specs.Seats.{BoardId}
 use Rattle.flush_barrier.specs.declared.error_code.ErrorCode.TheVariants.{Io, NoMemory}
 use Rattle.flush_barrier.specs.declared.session_id.SessionId.{SessionId}
 use Rattle.gate_journal.specs.Receipt.{Receipt}
-use Rattle.nbd_session.specs.Begun.{greeted}
-use Rattle.nbd_session.specs.Demand.{Asked, IsUnnumbered, asked_by, session_of}
-use Rattle.nbd_session.specs.Demand as asked
-use Rattle.nbd_session.specs.Lawful.{History, Stands, fed_and_asked}
-use Rattle.nbd_session.specs.Session.{Feeds, Reaches, State}
-use Rattle.nbd_session.specs.Turn.{is_over}
-use Rattle.nbd_session.specs.declared.demand.Demand.{Demand}
-use Rattle.nbd_session.specs.declared.demand.Demand.TheVariants as demands
+use Rattle.lone_session.specs.Begun.{greeted}
+use Rattle.lone_session.specs.Demand.{Asked, IsUnnumbered, asked_by, session_of}
+use Rattle.lone_session.specs.Demand as asked
+use Rattle.lone_session.specs.Lawful.{History, Stands, fed_and_asked}
+use Rattle.lone_session.specs.Session.{Feeds, Reaches, State}
+use Rattle.lone_session.specs.Turn.{is_over}
+use Rattle.lone_session.specs.declared.demand.Demand.{Demand}
+use Rattle.lone_session.specs.declared.demand.Demand.TheVariants as demands
 use Rattle.volume.specs.Writes.{Placed, patched}
 use Rattle.world.specs.Member.{all_learned, committed, numbered, submitted}
 use Rattle.world.specs.Seen.{Seen, SeenMember, SeenMuster}

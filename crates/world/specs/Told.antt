@@ -3,9 +3,9 @@ use Rattle.std.specs.Prelude.{◌≡◌, ◌⊎◌, ◌==◌, ℕ, zero, suc, Bo
 use Rattle.flush_barrier.specs.declared.error_code.ErrorCode.{ErrorCode}
 use Rattle.flush_barrier.specs.Reply.{GivenReply}
 use Rattle.flush_barrier.specs.declared.session_id.SessionId.{SessionId}
-use Rattle.nbd_session.specs.declared.phase.Phase.TheVariants.{Over}
-use Rattle.nbd_session.specs.Replies.{answered, is_owed, seen_with}
-use Rattle.nbd_session.specs.Session.{State}
+use Rattle.lone_session.specs.declared.phase.Phase.TheVariants.{Over}
+use Rattle.lone_session.specs.Replies.{answered, is_owed, seen_with}
+use Rattle.lone_session.specs.Session.{State}
 use Rattle.world.specs.Waiting.{cookie_of, session_of, without_first}
 use Rattle.world.specs.declared.client.Client.{Client}
 use Rattle.world.specs.declared.waiting.Waiting.{Waiting}

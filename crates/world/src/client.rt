@@ -2,7 +2,7 @@ ghost use Rattle.std.specs.Prelude.{◌≡◌};
 
 use crate::answer::Output;
 use flush_barrier::{Reply, SessionId};
-use nbd_session::Session;
+use lone_session::Session;
 
 /// A client's session, and what became of it.
 #[derive(Debug, Drop)]

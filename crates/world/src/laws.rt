@@ -7,7 +7,7 @@ ghost use Rattle.world.specs.Refusals.{MembersStopForACause, RunningMembersRefus
 ghost use Rattle.world.specs.Restart.{RestartsStand};
 
 use gate_journal::readings_are_one;
-use nbd_session::{feeds_are_lawful, requests_are_held};
+use lone_session::{feeds_are_lawful, requests_are_held};
 
 /// A world before anything came stands for the machine of the one volume before anything happened; and what clients see
 /// of any steps that are played, some run of that machine shows, from each state that the world before stands for to one

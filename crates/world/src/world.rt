@@ -1,7 +1,7 @@
 ghost use Rattle.std.specs.Prelude.{◌≡◌, ◌+◌, ◌*◌, ◌<◌, ◌≤◌, ◌↔◌, length, vec_len, vec_capacity, All, IfOk, IfSome, IsSome, None, false};
 ghost use Rattle.std.specs.VecDeque.{deque_len, deque_capacity};
 ghost use Rattle.std.specs.Option.{ForSome};
-ghost use Rattle.nbd_session.specs.Demand.{IsInside, board_of};
+ghost use Rattle.lone_session.specs.Demand.{IsInside, board_of};
 ghost use Rattle.world.specs.Member.{fronts_of, waiting_of, KeepsWithin};
 ghost use Rattle.world.specs.Waiting.{IsOf, board_of as board_of_token};
 ghost use Rattle.world.specs.Writes.{IsInside as IsWriteInside};
@@ -22,7 +22,7 @@ use board::{Board, Front};
 use disk_model::{Cut, Disk, DiskError, Event, MemDisk};
 use flush_barrier::{ErrorCode, OwedRead, Reply, SessionId};
 use gate_journal::{Refusal as JournalRefusal, Slot};
-use nbd_session::{Demand, LIMIT_IN_FLIGHT, Session};
+use lone_session::{Demand, LIMIT_IN_FLIGHT, Session};
 use std::alloc::Global;
 use std::collections::VecDeque;
 use volume::Geometry;
@@ -390,7 +390,7 @@ impl<D: Disk + Drop> World<D> {
             return Outcome::Skipped;
         };
         if self.clients[at].session.is_over() {
-            return Outcome::Refused(nbd_session::Refusal::SessionOver.number());
+            return Outcome::Refused(lone_session::Refusal::SessionOver.number());
         }
         if self.demands.reserve(LIMIT_IN_FLIGHT).is_err() {
             return Outcome::Refused(MEMORY);

@@ -4,14 +4,13 @@ use Rattle.disk_model.specs.declared.part.Part.{Part}
 use Rattle.gate_journal.specs.Journal as journal
 use Rattle.gate_journal.specs.Journal.{still_settled}
 use Rattle.home_blocks.specs.Home as home
-use Rattle.home_blocks.specs.Places.{home_part, superblock_part}
+use Rattle.home_blocks.specs.Places.{apart_back, home_apart, home_part, superblock_part}
 use Rattle.home_blocks.specs.Superblock.{Superblock}
 use Rattle.local_store.specs.Store.{IsStored}
 use Rattle.home_blocks.specs.declared.area.Area.TheVariants.{First}
 use Rattle.home_blocks.specs.declared.progress.Progress.TheVariants.{Whole}
 use Rattle.local_store.proofs.Opening.{of_created}
-use Rattle.local_store.proofs.Changing.{apart_swapped}
-use Rattle.local_store.proofs.Stored.{opened, superblock_apart}
+use Rattle.local_store.proofs.Stored.{opened}
 use Rattle.local_store.proofs.contents.Contents.format.Goals as goal
 
 pub returns-clause-stored : goal.returns-clause-stored
@@ -19,8 +18,8 @@ returns-clause-stored g c = λ keeps.
     let geometry = c.args.geometry in
     let sb = ap (λ (h : home.State). h.superblock) c.in_ok-home.ensures.home ∙ c.new-superblock.ensures in
     let area = subst (λ (part : Part). IsApart superblock_part part) (sym (ap (λ (j : journal.State). j.part) c.in_ok-journal.ensures.journal)) c.area_part-part.ensures.superblock in
-    let region = (c.create-2.ensures.frame keeps).others (home_part geometry) (superblock_apart geometry) in
-    let before = (c.create.ensures.frame keeps).others (home_part geometry) (apart_swapped (home_part geometry) c.area_part-part.result c.area_part-part.ensures.home) in
+    let region = (c.create-2.ensures.frame keeps).others (home_part geometry) (home_apart geometry) in
+    let before = (c.create.ensures.frame keeps).others (home_part geometry) (apart_back (home_part geometry) c.area_part-part.result c.area_part-part.ensures.home) in
     let zeros = region.gives ∙ before.gives ∙ c.in_ok-write_zeros.ensures.zeros keeps in
     subst (λ (v : List ℕ). IsStored (record { home = c.in_ok-home.home; journal = c.in_ok-journal.journal; pending = c.in_ok-pending.pending; cache = c.in_ok-cache.cache; broken = false }) v (g.D.Disk.gives c.create-2.new.disk) (g.D.Disk.may_leave_now c.create-2.new.disk)) zeros
     (opened c.in_ok-home.home c.in_ok-journal.journal c.in_ok-pending.pending c.in_ok-cache.cache c.in_ok-cache.ensures geometry []

@@ -2,6 +2,7 @@ use Rattle.std.proofs.Common.{ℕ, List, ◌∙◌, ap, arith, inl, inr, replica
 use Rattle.disk_model.specs.Part.{inside}
 use Rattle.gate_journal.specs.Batch.{Batch, IsDamaged}
 use Rattle.gate_journal.specs.Runs.{reads_keep}
+use Rattle.home_blocks.specs.Home.{still_settled_home}
 use Rattle.home_blocks.specs.Places.{disk_size_of, home_part, superblock_part}
 use Rattle.volume.specs.declared.geometry.Geometry.{Geometry}
 use Rattle.home_blocks.specs.Superblock.{Superblock}
@@ -12,7 +13,7 @@ use Rattle.local_store.specs.Store.{meaning_in}
 use Rattle.local_store.proofs.Opening.{IsReadOf, damaged_area, images_within, sound_opened}
 use Rattle.local_store.proofs.Refusals.{told_by_home, told_by_journal}
 use Rattle.local_store.specs.Kept.{stored_means}
-use Rattle.local_store.proofs.Stored.{all_fit, home_still, opened}
+use Rattle.local_store.proofs.Stored.{all_fit, opened}
 use Rattle.local_store.proofs.contents.Contents.open.Goals as goal
 
 pub returns-in-Err-clause-not_a_volume : goal.returns-in-Err-clause-not_a_volume
@@ -58,7 +59,7 @@ returns-clause-stored g c = λ keeps.
     let sound = sound_opened read c.area_part-part.result c.in-Ok-open.opened.0 c.in_ok-pending.pending c.in_ok-cache.cache c.in-Ok-open.opened.1.items c.area_part-part.ensures.part c.in-Ok-open.ensures.journal c.front.ensures.limit c.in-Ok-open.ensures.fronts.1 filled c.in-Ok.ensures.runs in
     let geometry = c.geometry-geometry.ensures ∙ ap (λ (s : Superblock). s.geometry) c.superblock-superblock.ensures in
     let was = opened c.in-Ok.home c.in-Ok-open.opened.0 c.in_ok-pending.pending c.in_ok-cache.cache c.in_ok-cache.ensures c.geometry-geometry.result c.in-Ok-open.opened.1.items sound.journal (sym geometry) (ap (λ (s : Superblock). s.progress) (sym c.superblock-superblock.ensures) ∙ sym c.in-Whole.ensures)
-    (home_still (reads_keep superblock_part c.open.new.disk c.open-2.new.disk (c.open-2.ensures.reads keeps)) (c.in-Ok.ensures.settled keeps)) (c.in-Ok-open.ensures.settled keeps) filled
+    (still_settled_home (reads_keep superblock_part c.open.new.disk c.open-2.new.disk (c.open-2.ensures.reads keeps)) (c.in-Ok.ensures.settled keeps)) (c.in-Ok-open.ensures.settled keeps) filled
     (all_fit c.geometry-geometry.result.blocks c.front.result c.in-Ok-open.opened.1.items c.in-Ok-open.ensures.are)
     (omega (arith, c.in-Ok.ensures.room, ap (λ (k : Geometry). disk_size_of k) geometry, c.open.ensures.size, c.open-2.ensures.size, g.met.D.Disk.gives_size keeps c.open-2.new.disk)) (c.in-Ok-open.ensures.whole keeps) in
     let same = (c.open-2.ensures.reads keeps).same ∙ (c.open.ensures.reads keeps).same in (

@@ -1,5 +1,5 @@
 use Rattle.std.proofs.Common.{◌≡◌, rules}
-use Rattle.nbd_session.specs.Replies.{answered, reply_seen}
+use Rattle.lone_session.specs.Replies.{answered, reply_seen}
 use Rattle.world.proofs.Settling.{takes_reply}
 use Rattle.world.proofs.client.Client.take_reply.Goals as goal
 

@@ -1,8 +1,8 @@
 use Rattle.std.proofs.Common.{rules, ◌≡◌, ◌<◌, ◌++◌, length, set, get_or, arith, ap, ◌∙◌, false, subst, sym, Err, List}
 use Rattle.std.proofs.lemmas.List.{set-get_or}
-use Rattle.nbd_session.specs.Session.{State}
-use Rattle.nbd_session.specs.Turn.{is_over}
-use Rattle.nbd_session.specs.declared.demand.Demand.{Demand}
+use Rattle.lone_session.specs.Session.{State}
+use Rattle.lone_session.specs.Turn.{is_over}
+use Rattle.lone_session.specs.declared.demand.Demand.{Demand}
 use Rattle.world.proofs.Sending.{gets_bytes, refused_bytes}
 use Rattle.world.specs.Seen.{Seen, seen}
 use Rattle.world.specs.declared.client.Client.{Client}

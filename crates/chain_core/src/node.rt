@@ -1,0 +1,170 @@
+ghost use Rattle.std.specs.Prelude.{◌≡◌, ◌≤◌, ◌+◌, [], true, false, None, IfSome};
+ghost use Rattle.chain_steps.specs.Node.{NodeState, last_of};
+ghost use Rattle.chain_steps.specs.Steps.{stop};
+ghost use Rattle.chain_core.specs.Node.{HasStopped, IsSound, IsStep, Seen};
+
+use crate::commit::Commit;
+use crate::desk::Desk;
+use crate::out::{Out, Served};
+use board::Board;
+use chain_steps::{Cause, Found, Place};
+use configurations::Record;
+use flush_barrier::BoardName;
+use local_store::StoreLike;
+use std::alloc::Global;
+use std::marker::Model;
+use version_table::Table;
+
+/// A member of a chain, over a store of its own. It has no `Drop` while tokens wait: `abandon` ends it.
+pub struct Node<S: StoreLike> {
+    pub(crate) alloc: Global,
+    pub(crate) board: BoardName,
+    pub(crate) place: Place,
+    pub(crate) incarnation: u64,
+    pub(crate) stopped: Option<Cause>,
+    pub(crate) turned: bool,
+    pub(crate) holds: bool,
+    pub(crate) store: S,
+    pub(crate) table: Table,
+    pub(crate) known: u64,
+    pub(crate) ticket: u64,
+    pub(crate) desk: Desk,
+    pub(crate) found: Option<Found>,
+    pub(crate) commit: Option<Commit>,
+}
+
+impl<S: StoreLike> Model for Node<S> {
+    ghost Value = { Seen S };
+
+    ghost view = { λ n. record {
+      store = n.store;
+      state = record {
+        board = n.board;
+        place = n.place;
+        incarnation = n.incarnation;
+        stopped = n.stopped;
+        turned = n.turned;
+        holds = n.holds;
+        table = n.table;
+        known = n.known;
+        ticket = n.ticket;
+        waiting = n.desk;
+        found = n.found;
+        commit = n.commit;
+      };
+    } };
+
+    ghost invariant = { λ n. IsSound (S.about n.store) (λ volume. S.keeps_model × S.keeps n.store volume) (record {
+      board = n.board;
+      place = n.place;
+      incarnation = n.incarnation;
+      stopped = n.stopped;
+      turned = n.turned;
+      holds = n.holds;
+      table = n.table;
+      known = n.known;
+      ticket = n.ticket;
+      waiting = n.desk;
+      found = n.found;
+      commit = n.commit;
+    }) };
+}
+
+impl<S: StoreLike + Drop> Node<S> {
+    /// The member whose store this is, in a chain that starts: all that the store holds is known, and no token waits.
+    pub fn new(alloc: Global, board: &Board, chain: Record, store: S) -> Node<S>
+        ensures store { result.store ≡ store }
+        ensures state { result.state ≡ record {
+          board = board.now;
+          place = record { slot = (S.about store).slot; chain = chain };
+          incarnation = (S.about store).incarnation;
+          stopped = None;
+          turned = true;
+          holds = false;
+          table = record { forgotten = (S.about store).front; kept = [] };
+          known = (S.about store).front;
+          ticket = 1;
+          waiting = [];
+          found = None;
+          commit = None;
+        } }
+    {
+        let front = store.front();
+        let _sizes = store.geometry();
+        Node {
+            alloc,
+            board: BoardName::of(board),
+            place: Place::new(store.slot(), chain),
+            incarnation: store.incarnation(),
+            stopped: None,
+            turned: true,
+            holds: false,
+            table: Table::new(alloc, front),
+            known: front,
+            ticket: 1,
+            desk: Desk::new(alloc),
+            found: None,
+            commit: None,
+            store,
+        }
+    }
+
+    /// Why it stopped, if it did.
+    pub fn stopped(&self) -> Option<Cause>
+        ensures { result ≡ self.now.state.stopped }
+    {
+        self.stopped
+    }
+
+    /// The number of its last applied write.
+    pub fn applied(&self) -> u64
+        ensures { result ≡ last_of self.now.state }
+    {
+        self.table.applied()
+    }
+
+    /// Stops it: all its tokens are refused with EIO, in the order in which they were taken.
+    pub fn stop(&mut self) -> Out
+        ensures { IsStep self.old self.new result (stop Cause.Told self.old.state) }
+    {
+        self.stop_by(Cause::Told)
+    }
+
+    /// Stops it for this cause.
+    pub(crate) fn stop_by(&mut self, cause: Cause) -> Out
+        ensures step { IsStep self.old self.new result (stop cause self.old.state) }
+        ensures board { self.new.state.board ≡ self.old.state.board }
+    {
+        self.stopped = Some(cause);
+        self.found = None;
+        self.commit = None;
+        Out {
+            messages: Vec::new(self.alloc),
+            replies: self.desk.refuse_all(self.alloc),
+        }
+    }
+
+    /// Gives the member up, and its store back. The tokens that wait are abandoned.
+    pub fn abandon(self) -> S
+        ensures { result ≡ self.store }
+    {
+        let Node {
+            alloc: _,
+            board: _,
+            place: _,
+            incarnation: _,
+            stopped: _,
+            turned: _,
+            holds: _,
+            store,
+            table: _,
+            known: _,
+            ticket: _,
+            desk,
+            found: _,
+            commit: _,
+        } = self;
+        desk.abandon();
+        store
+    }
+}

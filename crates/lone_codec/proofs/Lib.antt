@@ -1,0 +1,13 @@
+pub mod Basics
+pub mod BigNumbers
+pub mod FaultLaws
+pub mod FindingLaws
+pub mod FlagLaws
+pub mod InfoLaws
+pub mod Magics
+pub mod Maps
+pub mod OptionFaults
+pub mod OptionLaws
+pub mod Parts
+pub mod ReplyLaws
+pub mod RequestLaws

@@ -1,0 +1,10 @@
+pub mod Checked
+pub mod ClientOption
+pub mod Fields
+pub mod Findings
+pub mod Handshake
+pub mod Laws
+pub mod Numbers
+pub mod OptionReply
+pub mod Reply
+pub mod Request

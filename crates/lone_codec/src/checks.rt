@@ -1,0 +1,119 @@
+//! The tests of a request that need the export's size.
+
+ghost use Rattle.std.specs.Prelude.{◌≡◌, ◌<◌, ◌+◌, ◌↔◌, IsTrue};
+ghost use Rattle.lone_codec.specs.Request.{request_view};
+ghost use Rattle.lone_codec.specs.Checked.{IsForVolume, read_checked, write_checked, flush_checked, checked};
+
+use crate::constants::*;
+use crate::replies::NbdError;
+use crate::requests::Request;
+
+/// What is to become of a request.
+#[derive(Clone, Copy, Debug, PartialEq, Eq)]
+pub enum Checked {
+    /// The volume is asked.
+    Volume,
+    /// It is answered with error 0, and nothing is done: its length is 0.
+    Done,
+    /// It is answered with this error.
+    Refused(NbdError),
+    /// The session ends; there is no reply.
+    Disconnect,
+}
+
+/// Whether a flag other than FUA is set.
+fn has_unknown_flag(flags: u16) -> bool
+    ensures { IsTrue result ↔ (FLAG_FUA < flags) }
+{
+    flags & !FLAG_FUA != 0
+}
+
+/// Whether a range leads past the end of an export of that size.
+fn is_past_end(offset: u64, length: u64, size: u64) -> bool
+    ensures { IsTrue result ↔ (size < offset + length) }
+{
+    offset > size || length > size - offset
+}
+
+fn check_read(flags: u16, offset: u64, length: u32, size: u64, max_payload: u32) -> Checked
+    ensures { result ≡ read_checked flags offset length size max_payload }
+{
+    if has_unknown_flag(flags) {
+        return Checked::Refused(NbdError::Invalid);
+    }
+    if length > max_payload {
+        return Checked::Refused(NbdError::Invalid);
+    }
+    if is_past_end(offset, u64::from(length), size) {
+        return Checked::Refused(NbdError::Invalid);
+    }
+    if length == 0 {
+        return Checked::Done;
+    }
+    Checked::Volume
+}
+
+fn check_write(flags: u16, offset: u64, length: usize, size: u64) -> Checked
+    ensures { result ≡ write_checked flags offset length size }
+{
+    if has_unknown_flag(flags) {
+        return Checked::Refused(NbdError::Invalid);
+    }
+    if is_past_end(offset, length as u64, size) {
+        return Checked::Refused(NbdError::NoSpace);
+    }
+    if length == 0 {
+        return Checked::Done;
+    }
+    Checked::Volume
+}
+
+fn check_flush(flags: u16, offset: u64, length: u32) -> Checked
+    ensures { result ≡ flush_checked flags offset length }
+{
+    if has_unknown_flag(flags) {
+        return Checked::Refused(NbdError::Invalid);
+    }
+    if offset != 0 || length != 0 {
+        return Checked::Refused(NbdError::Invalid);
+    }
+    Checked::Volume
+}
+
+/// What is to become of a request to an export of `size` bytes, of which at most `max_payload` are
+/// read at once. A payload that is too long has ended the session before.
+pub fn check(request: &Request, size: u64, max_payload: u32) -> Checked
+    // The volume is asked exactly for what can be done.
+    ensures volume { (result ≡ Checked.Volume)
+        ↔ IsForVolume size max_payload (request_view request.now) }
+    // The tests in their order, and what the first one that fails gives.
+    ensures exact { result ≡ checked size max_payload (request_view request.now) }
+{
+    match request {
+        Request::Read {
+            flags,
+            offset,
+            length,
+            ..
+        } => check_read(*flags, *offset, *length, size, max_payload),
+        Request::Write {
+            flags,
+            offset,
+            payload,
+            ..
+        } => check_write(*flags, *offset, payload.len(), size),
+        Request::Disc { .. } => Checked::Disconnect,
+        Request::Flush {
+            flags,
+            offset,
+            length,
+            ..
+        } => {
+            if SERVES_FLUSH {
+                return check_flush(*flags, *offset, *length);
+            }
+            Checked::Refused(NbdError::Invalid)
+        }
+        Request::Other { .. } => Checked::Refused(NbdError::Invalid),
+    }
+}

@@ -1,0 +1,38 @@
+//! The bytes of the NBD protocol as the world of one member takes them: one request in flight, and no FLUSH. `nbd_codec`
+//! takes its place once a world of many members stands on it.
+//!
+//! The bytes of the NBD protocol, server side: fixed newstyle negotiation and transmission with
+//! simple replies, after doc/proto.md of the NBD project.
+//!
+//! For the layer above: each writer writes the one spelling of its value, and each reader answers
+//! the value and its length exactly where a spelling stands at the front of the bytes that came,
+//! that more is needed exactly where they are a proper front of a spelling, and otherwise the fault
+//! that ends the session.
+//!
+//! It leaves to others what a session does with what was read: phases, what was kept of earlier
+//! input, skipping the data of an oversized option, and the volume itself.
+#![tactic(auto)]
+
+mod checks;
+pub mod constants;
+mod fields;
+mod findings;
+mod handshake;
+mod laws;
+mod numbers;
+mod option_replies;
+mod options;
+mod replies;
+mod requests;
+
+pub use checks::{Checked, check};
+pub use findings::{Fault, Reading};
+pub use handshake::{ClientFlags, greeting, read_client_flags};
+pub use laws::{
+    client_flags_are_apart, exports_are_apart, numbers_are_the_standards, option_replies_are_apart,
+    options_are_apart, replies_are_apart, requests_are_apart,
+};
+pub use option_replies::{OptionReply, write_export, write_option_reply};
+pub use options::{ClientOption, InfoData, read_option};
+pub use replies::{NbdError, SimpleReply, write_reply};
+pub use requests::{Request, read_request};

@@ -1,0 +1,12 @@
+use Rattle.std.proofs.Common.{rules, ◌≡◌, subst}
+use Rattle.lone_session.specs.Lawful.{Stands, replied}
+use Rattle.lone_session.specs.Replies.{answered, reply_seen}
+use Rattle.lone_session.proofs.Endings.{stands_replied}
+use Rattle.lone_session.proofs.session.Session.done.Goals as goal
+
+pub returns-clause-lawful : goal.returns-clause-lawful
+returns-clause-lawful c history stands =
+    let now = c.args.self.now in
+    let reply = reply_seen c.args.reply in
+    let is : answered now reply ≡ c.end_if_left.new.self = search rules in
+    subst (λ s. Stands s (replied now history reply)) is (stands_replied now history reply stands)

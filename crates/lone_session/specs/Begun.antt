@@ -1,0 +1,20 @@
+-- A session before anything came.
+use Rattle.std.specs.Prelude.{[]}
+use Rattle.std.proofs.Common.{refl, inr}
+use Rattle.board.specs.Seats.{BoardId}
+use Rattle.flush_barrier.specs.declared.session_id.SessionId.{SessionId}
+use Rattle.lone_codec.specs.Fields.{limited_at, number_at}
+use Rattle.lone_codec.specs.Handshake.{flags_at, greeting_spelling}
+use Rattle.lone_session.specs.declared.negotiation.Export.{Export}
+use Rattle.lone_session.specs.declared.phase.Phase.TheVariants.{Greeted}
+use Rattle.lone_session.specs.Session.{Holds, State}
+use Rattle.lone_session.specs.Turn.{turn_in}
+
+-- a session of a board's chain, at an export, whose greeting waits to go out
+abbrev pub greeted : BoardId → SessionId → Export → State
+greeted board id export = record { board = board; id = id; export = export; phase = Greeted; in_flight = 0; kept = []; output = greeting_spelling }
+
+-- no request stands in its input
+pub greeted_holds_none : (board : BoardId) (id : SessionId) (export : Export) → Holds (greeted board id export) []
+unfolding turn_in flags_at limited_at number_at
+greeted_holds_none board id export = (greeted board id export, record { turns = 0; there = refl; done = inr refl })

@@ -1,0 +1,83 @@
+-- What holds of each session: however its client's text is cut, and of all that it puts out.
+use Rattle.std.specs.Prelude.{◌≡◌, ◌<◌, ◌^◌, false, List, [], ◌++◌, ℕ, length}
+use Rattle.lone_codec.specs.Findings.{AreBytes}
+use Rattle.lone_session.specs.declared.session.TheConstants.{LIMIT_IN_FLIGHT}
+use Rattle.lone_session.specs.Demand.{Asked}
+use Rattle.lone_session.specs.Lawful.{GoesOnIn, History, IsLawful, NeedsMore, Stands, fed_and_asked, handed_out, most_kept, replied, sent_by}
+use Rattle.lone_codec.specs.Reply.{PlainReply}
+use Rattle.lone_session.specs.Replies.{answered}
+use Rattle.lone_session.specs.Session.{Feeds, Holds, State}
+use Rattle.lone_session.specs.Turn.{is_over}
+
+-- a piece leaves the session in one way, and asks one thing of the volume
+abbrev pub FeedsInOneWay : Type 0
+FeedsInOneWay = (old : State) (piece : List ℕ) (one other : State) (asked asked_too : List Asked)
+    → Feeds old piece one asked → Feeds old piece other asked_too
+    → (one ≡ other) × (asked ≡ asked_too)
+
+-- two pieces, one after the other, leave the session and ask of the volume what the two joined do, unless the first
+-- ends the session
+abbrev pub CuttingsAgree : Type 0
+CuttingsAgree = (old mid two one : State) (first second : List ℕ) (asked_first asked_second asked : List Asked)
+    → AreBytes (old.kept ++ first) → old.export.max_payload < 2 ^ 32
+    → Feeds old first mid asked_first → is_over mid.phase ≡ false → Feeds mid second two asked_second
+    → Feeds old (first ++ second) one asked
+    → (one ≡ two) × (asked ≡ asked_first ++ asked_second)
+
+-- a piece leaves the session with its history, and this piece and what it asks
+abbrev pub FeedsLawfully : Type 0
+FeedsLawfully = (old new : State) (history : History) (piece : List ℕ) (asked : List Asked)
+    → AreBytes (old.kept ++ piece) → old.export.max_payload < 2 ^ 32 → is_over old.phase ≡ false
+    → Stands old history → Feeds old piece new asked → Stands new (fed_and_asked history piece asked)
+
+-- a reply to a demand leaves the session with its history, and this reply where one is owed
+abbrev pub RepliesAreLawful : Type 0
+RepliesAreLawful = (session : State) (history : History) (reply : PlainReply)
+    → Stands session history → Stands (answered session reply) (replied session history reply)
+
+-- output that is handed out leaves the session with its history, and this output
+abbrev pub OutputIsLawful : Type 0
+OutputIsLawful = (session : State) (history : History)
+    → Stands session history → Stands (record session { output = [] }) (handed_out session history)
+
+-- whoever has this history put out what is lawful
+abbrev pub HistoriesAreLawful : Type 0
+HistoriesAreLawful = (session : State) (history : History)
+    → Stands session history → IsLawful session.export history.fed (sent_by session history) history.asked history.replies
+
+-- a piece after which the session still takes input leaves less than a whole thing of it
+abbrev pub FeedsTakeAll : Type 0
+FeedsTakeAll = (old new : State) (piece : List ℕ) (asked : List Asked)
+    → AreBytes (old.kept ++ piece) → old.export.max_payload < 2 ^ 32 → Feeds old piece new asked
+    → is_over new.phase ≡ false → new.in_flight < LIMIT_IN_FLIGHT
+    → NeedsMore new.phase new.export.max_payload new.kept × (length new.kept < most_kept new.phase new.export.max_payload)
+
+-- a session that needs more is in the middle of its negotiation, or of its transcript
+abbrev pub NeedyGoOn : Type 0
+NeedyGoOn = (session : State) (history : History)
+    → Stands session history → NeedsMore session.phase session.export.max_payload session.kept → GoesOnIn session.phase session history
+
+-- the requests that stand whole in a session's input are some, and no others
+abbrev pub HoldsInOneWay : Type 0
+HoldsInOneWay = (session : State) (asked others : List Asked) → Holds session asked → Holds session others → asked ≡ others
+
+abbrev pub HoldsSome : Type 0
+HoldsSome = (session : State) → AreBytes session.kept → session.export.max_payload < 2 ^ 32 → (asked : List Asked) × Holds session asked
+
+-- what a piece asks of the volume stood first in the input, and the session holds the rest
+abbrev pub FeedsTakeFirst : Type 0
+FeedsTakeFirst = (old new : State) (piece : List ℕ) (asked rest : List Asked)
+    → Feeds old piece new asked → Holds new rest → Holds (record old { kept = old.kept ++ piece }) (asked ++ rest)
+
+-- a piece more holds what was held, and perhaps more
+abbrev pub PiecesAdd : Type 0
+PiecesAdd = (session : State) (piece : List ℕ) (asked : List Asked)
+    → AreBytes (session.kept ++ piece) → session.export.max_payload < 2 ^ 32 → Holds session asked
+    → (more : List Asked) × Holds (record session { kept = session.kept ++ piece }) (asked ++ more)
+
+-- a reply, and output that is handed out, change nothing of it
+abbrev pub RepliesKeep : Type 0
+RepliesKeep = (session : State) (reply : PlainReply) (asked : List Asked) → Holds session asked → Holds (answered session reply) asked
+
+abbrev pub OutputKeeps : Type 0
+OutputKeeps = (session : State) (asked : List Asked) → Holds session asked → Holds (record session { output = [] }) asked

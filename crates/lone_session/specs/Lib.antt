@@ -1,0 +1,11 @@
+pub mod Answers
+pub mod Begun
+pub mod Demand
+pub mod Lawful
+pub mod Laws
+pub mod Negotiation
+pub mod Refusal
+pub mod Replies
+pub mod Session
+pub mod Transcript
+pub mod Turn

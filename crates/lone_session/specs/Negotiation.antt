@@ -1,0 +1,108 @@
+-- Negotiation: how the whole text from a client, the whole text to it and its end belong together.
+use Rattle.std.specs.Prelude.{◌≡◌, ◌⊎◌, ℕ, ◌+◌, ◌<◌, ◌==◌, Bool, List, ◌++◌, length, All, if◌then◌else◌}
+use Rattle.std.specs.List.{flat_map}
+use Rattle.lone_codec.specs.ClientOption.{PlainInfo, Asks, Malformed, PlainOption, ExportName, Abort, Lists, StartTls, Info, Go, StructuredReply, Other, Oversized, IsOption, spelling}
+use Rattle.lone_codec.specs.Findings.{IsImpossible, IsProperFront}
+use Rattle.lone_codec.specs.Handshake.{AreFlags, flags_spelling, greeting_spelling}
+use Rattle.lone_session.specs.declared.negotiation.Export.{Export}
+use Rattle.lone_session.specs.Answers.{answer_to}
+
+-- what an option does: negotiation goes on, the session is over, or transmission begins
+pub data Effect : Type 0 where
+  Haggles : Effect
+  Ends : Effect
+  Begins : Effect
+
+-- transmission begins with GO where it names the one export
+abbrev pub effect_of_go : PlainInfo → Effect
+effect_of_go (Asks name types) = if length name == 0 then Begins else Haggles
+effect_of_go (Malformed bytes) = Haggles
+
+abbrev pub effect_of : PlainOption → Effect
+effect_of ExportName = Begins
+effect_of (Abort bytes) = Ends
+effect_of (Lists bytes) = Haggles
+effect_of (StartTls bytes) = Haggles
+effect_of (Info info) = Haggles
+effect_of (Go info) = effect_of_go info
+effect_of (StructuredReply bytes) = Haggles
+effect_of (Other number bytes) = Haggles
+effect_of (Oversized number len) = Haggles
+
+-- an option, and the data behind it that is passed over
+pub record Told : Type 0 where
+  pub option : PlainOption
+  pub passed : List ℕ
+
+-- data is passed over behind an option that is too long, all of it, and behind no other
+abbrev pub passed_len : PlainOption → ℕ
+passed_len ExportName = 0
+passed_len (Abort bytes) = 0
+passed_len (Lists bytes) = 0
+passed_len (StartTls bytes) = 0
+passed_len (Info info) = 0
+passed_len (Go info) = 0
+passed_len (StructuredReply bytes) = 0
+passed_len (Other number bytes) = 0
+passed_len (Oversized number len) = len
+
+-- an option that is whole, and does this
+pub record IsTold (effect : Effect) (told : Told) : Type 0 where
+  pub option : IsOption told.option
+  pub passed : length told.passed ≡ passed_len told.option
+  pub does : effect_of told.option ≡ effect
+
+-- the option's spelling, and what is passed over
+abbrev pub told_spelling : Told → List ℕ
+told_spelling told = spelling told.option ++ told.passed
+
+-- the answer to it
+abbrev pub told_answer : Export → Bool → Told → List ℕ
+told_answer export no_zeroes told = answer_to export no_zeroes told.option
+
+-- client flags, options after which negotiation went on, and this rest came in; the greeting and their answers went out
+pub record Haggled (export : Export) (no_zeroes : Bool) (from to rest : List ℕ) : Type 0 where
+  pub options : List Told
+  pub each : All (IsTold Haggles) options
+  pub came : from ≡ flags_spelling (record { no_zeroes = no_zeroes }) ++ (flat_map told_spelling options ++ rest)
+  pub went : to ≡ greeting_spelling ++ flat_map (told_answer export no_zeroes) options
+
+-- behind such options came one that does this, and then this rest; its answer went out last
+pub record HasLast (export : Export) (effect : Effect) (from to rest : List ℕ) : Type 0 where
+  pub no_zeroes : Bool
+  pub out : List ℕ
+  pub last : Told
+  pub is_told : IsTold effect last
+  pub before : Haggled export no_zeroes from out (told_spelling last ++ rest)
+  pub went : to ≡ out ++ told_answer export no_zeroes last
+
+-- an option that is too long, with less of its data than it says
+pub record IsPassing (option left : ℕ) (bytes : List ℕ) : Type 0 where
+  pub len : ℕ
+  pub passed : List ℕ
+  pub is_option : IsOption (Oversized option len)
+  pub whole : bytes ≡ spelling (Oversized option len) ++ passed
+  pub more : length passed + left ≡ len
+  pub some : 0 < left
+
+-- what is no whole option yet
+abbrev pub IsUnfinished : List ℕ → Type 0
+IsUnfinished rest = IsProperFront spelling IsOption rest ⊎ ((option : ℕ) × (left : ℕ) × IsPassing option left rest)
+
+-- how a negotiation ends, so far
+pub data End : Type 0 where
+  GoesOn : End
+  IsOver : End
+  Transmits : (rest : List ℕ) → End
+
+-- it goes on while client flags or an option aren't whole; it is over where none can come, and after an option that
+-- ends it; transmission begins after an option that begins it
+abbrev pub Negotiation : Export → (from to : List ℕ) → End → Type 0
+Negotiation export from to GoesOn =
+    ((to ≡ greeting_spelling) × IsProperFront flags_spelling AreFlags from)
+    ⊎ ((no_zeroes : Bool) × (rest : List ℕ) × Haggled export no_zeroes from to rest × IsUnfinished rest)
+Negotiation export from to IsOver =
+    ((to ≡ greeting_spelling) × IsImpossible flags_spelling AreFlags from)
+    ⊎ (((no_zeroes : Bool) × (rest : List ℕ) × Haggled export no_zeroes from to rest × IsImpossible spelling IsOption rest)
+    ⊎ ((rest : List ℕ) × HasLast export Ends from to rest))
+Negotiation export from to (Transmits rest) = HasLast export Begins from to rest

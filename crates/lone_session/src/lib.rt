@@ -1,0 +1,24 @@
+//! The session that the world of one member takes: one request in flight, and no FLUSH. `nbd_session` takes its place once a
+//! world of many members stands on it.
+//!
+//! A session with one NBD client: bytes in, demands and bytes out.
+//!
+//! Its contract for the layer above: in whatever pieces a client's text comes, the session asks of the volume and puts
+//! out the same, and what it puts out is lawful by Negotiation and Transcript for all that came in. Demands lie inside
+//! the volume and carry tokens of their session and its board; every other request is answered here; a refused call leaves
+//! the session as it was. What becomes of a demand is left to the layer above, which hands the token's reply back.
+#![tactic(auto)]
+
+mod demand;
+mod laws;
+mod negotiation;
+mod phase;
+mod refusal;
+mod session;
+mod transmission;
+mod turn;
+
+pub use demand::Demand;
+pub use laws::{cuttings_agree, feeds_are_lawful, requests_are_held};
+pub use refusal::Refusal;
+pub use session::{LIMIT_IN_FLIGHT, Session};
