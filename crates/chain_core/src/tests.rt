@@ -24,7 +24,9 @@ fn chain(rt: &impl Abort, alloc: Global) -> Record {
     for number in 0..3 {
         let slot = Slot::new(number).expect(rt, "a slot");
         let incarnation = Incarnation::new(1).expect(rt, "an incarnation");
-        members.push(Member { slot, incarnation }).expect(rt, "memory");
+        members
+            .push(Member { slot, incarnation })
+            .expect(rt, "memory");
     }
     let epoch = Epoch::new(1).expect(rt, "an epoch");
     Record::new(epoch, members).expect(rt, "a chain")
@@ -70,7 +72,8 @@ fn pass<S: StoreLike + Drop>(
     assert_eq!(rt; to, node.place.slot());
     assert!(rt; is_inside(node, &envelope.message));
     let from = Slot::new(from).expect(rt, "a slot");
-    node.deliver(from, &envelope).expect(rt, "a message that is taken")
+    node.deliver(from, &envelope)
+        .expect(rt, "a message that is taken")
 }
 
 #[test]
@@ -85,11 +88,13 @@ fn a_write_goes_down_and_its_ack_comes_back(rt: HostRuntime) {
     let payload = Bytes::copy_from_slice(alloc, &[1, 2, 3]).expect(&rt, "memory");
     let submitted = match middle.submit(WriteToken::Plain(token), Write::new(4_095, payload)) {
         Ok(out) => out.messages,
-        Err(Refused {
-            token,
-            refusal: _,
-            replies: _,
-        }) => {
+        Err(
+            Refused {
+                token,
+                refusal: _,
+                replies: _,
+            },
+        ) => {
             token.abandon();
             Vec::new(alloc)
         }

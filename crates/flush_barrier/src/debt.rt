@@ -6,6 +6,7 @@ use crate::board_name::BoardName;
 use crate::error_code::ErrorCode;
 use crate::reply::Reply;
 use crate::session_id::SessionId;
+use bytes::Bytes;
 use std::fmt;
 use std::marker::Model;
 use std::snapshot::Snapshot;
@@ -56,8 +57,8 @@ impl Debt {
     }
 
     /// The one reply.
-    pub(crate) fn into_reply(self, error: Option<ErrorCode>, payload: Vec<u8>) -> Reply
-        ensures { Answers self.session self.cookie error payload.items result }
+    pub(crate) fn into_reply(self, error: Option<ErrorCode>, payload: Bytes) -> Reply
+        ensures { Answers self.session self.cookie error payload result }
     {
         let Debt {
             session,

@@ -8,6 +8,7 @@ use crate::error_code::ErrorCode;
 use crate::reply::Reply;
 use crate::session_id::SessionId;
 use board::Floor;
+use bytes::Bytes;
 use std::alloc::Global;
 use std::marker::Model;
 
@@ -81,21 +82,21 @@ impl OwedFua {
         self.numbered().is_some_and(|n| n <= floor.front())
     }
 
-    /// The reply that the write is on every disk that counts. The allocator only makes the empty payload.
-    pub fn settle(self, alloc: Global, floor: &Floor) -> Reply
+    /// The reply that the write is on every disk that counts.
+    pub fn settle(self, _alloc: Global, floor: &Floor) -> Reply
         requires of_board { floor.now.board ≡ self.board }
         requires paid { IsSomeAnd self.number (λ n. n ≤ floor.now.front) }
         ensures { Answers self.session self.cookie None [] result }
     {
         let _by = floor;
-        self.into_debt().into_reply(None, Vec::new(alloc))
+        self.into_debt().into_reply(None, Bytes::new())
     }
 
-    /// The reply that refuses the request. The allocator only makes the empty payload.
-    pub fn refuse(self, alloc: Global, code: ErrorCode) -> Reply
+    /// The reply that refuses the request.
+    pub fn refuse(self, _alloc: Global, code: ErrorCode) -> Reply
         ensures { Answers self.session self.cookie (Some code) [] result }
     {
-        self.into_debt().into_reply(Some(code), Vec::new(alloc))
+        self.into_debt().into_reply(Some(code), Bytes::new())
     }
 
     /// Ends the token without a reply, since its session is gone.

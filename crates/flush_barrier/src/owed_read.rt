@@ -7,6 +7,7 @@ use crate::debt::Debt;
 use crate::error_code::ErrorCode;
 use crate::reply::Reply;
 use crate::session_id::SessionId;
+use bytes::Bytes;
 use std::alloc::Global;
 use std::marker::Model;
 
@@ -50,17 +51,17 @@ impl OwedRead {
     }
 
     /// The reply with the bytes that were read.
-    pub fn settle(self, payload: Vec<u8>) -> Reply
-        ensures { Answers self.session self.cookie None payload.items result }
+    pub fn settle(self, payload: Bytes) -> Reply
+        ensures { Answers self.session self.cookie None payload result }
     {
         self.into_debt().into_reply(None, payload)
     }
 
-    /// The reply that refuses the request. The allocator only makes the empty payload.
-    pub fn refuse(self, alloc: Global, code: ErrorCode) -> Reply
+    /// The reply that refuses the request.
+    pub fn refuse(self, _alloc: Global, code: ErrorCode) -> Reply
         ensures { Answers self.session self.cookie (Some code) [] result }
     {
-        self.into_debt().into_reply(Some(code), Vec::new(alloc))
+        self.into_debt().into_reply(Some(code), Bytes::new())
     }
 
     /// Ends the token without a reply, since its session is gone.

@@ -7,6 +7,7 @@ use crate::debt::Debt;
 use crate::error_code::ErrorCode;
 use crate::reply::Reply;
 use crate::session_id::SessionId;
+use bytes::Bytes;
 use std::alloc::Global;
 use std::marker::Model;
 
@@ -49,18 +50,18 @@ impl OwedWrite {
         self.debt.cookie()
     }
 
-    /// The reply that the write is committed. The allocator only makes the empty payload.
-    pub fn settle(self, alloc: Global) -> Reply
+    /// The reply that the write is committed.
+    pub fn settle(self, _alloc: Global) -> Reply
         ensures { Answers self.session self.cookie None [] result }
     {
-        self.into_debt().into_reply(None, Vec::new(alloc))
+        self.into_debt().into_reply(None, Bytes::new())
     }
 
-    /// The reply that refuses the request. The allocator only makes the empty payload.
-    pub fn refuse(self, alloc: Global, code: ErrorCode) -> Reply
+    /// The reply that refuses the request.
+    pub fn refuse(self, _alloc: Global, code: ErrorCode) -> Reply
         ensures { Answers self.session self.cookie (Some code) [] result }
     {
-        self.into_debt().into_reply(Some(code), Vec::new(alloc))
+        self.into_debt().into_reply(Some(code), Bytes::new())
     }
 
     /// Ends the token without a reply, since its session is gone.

@@ -3,6 +3,7 @@ ghost use Rattle.flush_barrier.specs.Reply.{Answers};
 
 use crate::error_code::ErrorCode;
 use crate::session_id::SessionId;
+use bytes::Bytes;
 use std::marker::Model;
 
 /// The one reply to a volume request. Only a token's calls make it, and each of them uses the token up.
@@ -11,7 +12,7 @@ pub struct Reply {
     session: SessionId,
     cookie: u64,
     error: Option<ErrorCode>,
-    payload: Vec<u8>,
+    payload: Bytes,
 }
 
 impl Model for Reply {
@@ -23,7 +24,7 @@ impl Model for Reply {
       session = reply.session;
       cookie = reply.cookie;
       error = reply.error;
-      payload = reply.payload.items;
+      payload = reply.payload;
     } };
 }
 
@@ -33,9 +34,9 @@ impl Reply {
         session: SessionId,
         cookie: u64,
         error: Option<ErrorCode>,
-        payload: Vec<u8>,
+        payload: Bytes,
     ) -> Reply
-        ensures { Answers session cookie error payload.items result }
+        ensures { Answers session cookie error payload result }
     {
         Reply {
             session,

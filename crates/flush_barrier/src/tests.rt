@@ -4,6 +4,7 @@ ghost use Rattle.board.specs.declared.evidence.TheConstants.Front.{GREATEST};
 
 use crate::{BoardName, ErrorCode, OwedFlush, OwedFua, OwedRead, OwedWrite, Reply, SessionId};
 use board::{Board, Floor, Seat};
+use bytes::Bytes;
 use std::alloc::Global;
 use std::process::Abort;
 use std::test::Fail;
@@ -46,7 +47,7 @@ fn a_token_without_a_sync_is_answered(rt: HostRuntime) -> Result<(), Fail> {
     let alloc = rt.alloc();
     let (board, _seat) = opened(alloc, 3, 3)?;
     let name = BoardName::of(&board);
-    let payload = vec![in alloc; 7, 8]?;
+    let payload = Bytes::copy_from_slice(alloc, &[7, 8])?;
     let read = || OwedRead::new(&name, SESSION, COOKIE);
     assert_reply(&rt, &read().settle(payload), None, &[7, 8]);
     assert_reply(&rt, &read().refuse(alloc, ErrorCode::Io), Some(5), &[]);

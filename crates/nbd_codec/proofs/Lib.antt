@@ -1,3 +1,4 @@
+pub mod Appends
 pub mod Basics
 pub mod BigNumbers
 pub mod FaultLaws
@@ -9,5 +10,7 @@ pub mod Maps
 pub mod OptionFaults
 pub mod OptionLaws
 pub mod Parts
+pub mod PayloadLaws
 pub mod ReplyLaws
 pub mod RequestLaws
+pub mod TellingLaws

@@ -3,11 +3,11 @@ use Rattle.std.proofs.Common.{◌+◌, ◌≡◌, ℕ, ◌^◌, ◌<◌, ◌≤�
 use Rattle.std.proofs.lemmas.Bool.{eqb-true, eqb-false, ne_eqb, cases_Bool, cond-true, cond-false, cond_both, ltb-true, ltb-false}
 use Rattle.std.proofs.lemmas.List.{length-replicate, nil_from_length}
 use Rattle.byteorder.specs.Endian.{big_bytes}
-use Rattle.nbd_codec.specs.declared.constants.TheConstants.{OPTION_HEADER, OPTION_MAGIC, OPTION_EXPORT_NAME, OPTION_ABORT, OPTION_LIST, OPTION_STARTTLS, OPTION_INFO, OPTION_GO, OPTION_STRUCTURED_REPLY, MAX_OPTION_DATA}
+use Rattle.nbd_codec.specs.declared.constants.TheConstants.{OPTION_HEADER, OPTION_MAGIC, OPTION_EXPORT_NAME, OPTION_ABORT, OPTION_LIST, OPTION_INFO, OPTION_GO, MAX_OPTION_DATA}
 use Rattle.nbd_codec.specs.declared.findings.Fault.TheVariants as faults
 use Rattle.nbd_codec.specs.declared.fields.Ending.{Ending}
 use Rattle.nbd_codec.specs.Fields.{◌>>=◌, magic_at, number_at, limited_at, bytes_at}
-use Rattle.nbd_codec.specs.ClientOption.{PlainOption, ExportName, Abort, Lists, StartTls, Info, Go, StructuredReply, Other, Oversized, number_of, content_of, length_of, spelling, IsKnown, IsData, InfoFits, ContentFits, IsOption, info_spelling, info_of, data_option, option_of, length_at, option_at}
+use Rattle.nbd_codec.specs.ClientOption.{PlainOption, ExportName, Abort, Lists, Info, Go, Other, Oversized, number_of, content_of, length_of, spelling, IsKnown, IsData, InfoFits, ContentFits, IsOption, info_spelling, info_of, option_of, length_at, option_at}
 use Rattle.nbd_codec.proofs.Parts.{IsField, IsField-both}
 use Rattle.nbd_codec.proofs.BigNumbers.{AreBytes-zeros, width4}
 use Rattle.nbd_codec.proofs.Basics.{AreSome, IsField-number, IsField-limited, IsField-bytes, IsField-made}
@@ -32,14 +32,12 @@ info_fits bytes fits =
 info_length : (bytes : List ℕ) → IsData bytes → length (info_spelling (info_of bytes)) ≡ length bytes
 info_length bytes fits = ap length (info_into bytes fits.1).1
 
-unknown : (n : ℕ) → (n ≡ OPTION_EXPORT_NAME → ⊥) → (n ≡ OPTION_ABORT → ⊥) → (n ≡ OPTION_LIST → ⊥) → (n ≡ OPTION_STARTTLS → ⊥) → (n ≡ OPTION_INFO → ⊥) → (n ≡ OPTION_GO → ⊥) → (n ≡ OPTION_STRUCTURED_REPLY → ⊥) → IsKnown n → ⊥
-unknown n n1 n2 n3 n5 n6 n7 n8 (inl e) = n1 e
-unknown n n1 n2 n3 n5 n6 n7 n8 (inr (inl e)) = n2 e
-unknown n n1 n2 n3 n5 n6 n7 n8 (inr (inr (inl e))) = n3 e
-unknown n n1 n2 n3 n5 n6 n7 n8 (inr (inr (inr (inl e)))) = n5 e
-unknown n n1 n2 n3 n5 n6 n7 n8 (inr (inr (inr (inr (inl e))))) = n6 e
-unknown n n1 n2 n3 n5 n6 n7 n8 (inr (inr (inr (inr (inr (inl e)))))) = n7 e
-unknown n n1 n2 n3 n5 n6 n7 n8 (inr (inr (inr (inr (inr (inr e)))))) = n8 e
+unknown : (n : ℕ) → (n ≡ OPTION_EXPORT_NAME → ⊥) → (n ≡ OPTION_ABORT → ⊥) → (n ≡ OPTION_LIST → ⊥) → (n ≡ OPTION_INFO → ⊥) → (n ≡ OPTION_GO → ⊥) → IsKnown n → ⊥
+unknown n n1 n2 n3 n6 n7 (inl e) = n1 e
+unknown n n1 n2 n3 n6 n7 (inr (inl e)) = n2 e
+unknown n n1 n2 n3 n6 n7 (inr (inr (inl e))) = n3 e
+unknown n n1 n2 n3 n6 n7 (inr (inr (inr (inl e)))) = n6 e
+unknown n n1 n2 n3 n6 n7 (inr (inr (inr (inr e)))) = n7 e
 
 -- one test of a number: the option is that of the number, or a later one
 step : (number own : ℕ) (bytes : List ℕ) (x y : PlainOption) → (number ≡ own → Holds number bytes x) → ((number ≡ own → ⊥) → Holds number bytes y) → Holds number bytes (cond (eqb number own) x y)
@@ -50,21 +48,16 @@ module _ (number : ℕ) (bytes : List ℕ) (fits : IsData bytes) where
   own_data : (option : PlainOption) → ContentFits option → content_of option ≡ bytes → length_of option ≡ length bytes → number ≡ number_of option → Holds number bytes option
   own_data option ok content len e = record { is_number = sym e; is_content = content; is_length = len; fits = ok }
 
-  data_holds : (number ≡ OPTION_EXPORT_NAME → ⊥) → (number ≡ OPTION_INFO → ⊥) → (number ≡ OPTION_GO → ⊥) → Holds number bytes (data_option number bytes)
-  data_holds n1 n6 n7 =
-      step number OPTION_ABORT bytes _ _ (own_data (Abort bytes) fits refl refl) (λ n2.
-      step number OPTION_LIST bytes _ _ (own_data (Lists bytes) fits refl refl) (λ n3.
-      step number OPTION_STARTTLS bytes _ _ (own_data (StartTls bytes) fits refl refl) (λ n5.
-      step number OPTION_STRUCTURED_REPLY bytes _ _ (own_data (StructuredReply bytes) fits refl refl) (λ n8.
-      own_data (Other number bytes) (unknown number n1 n2 n3 n5 n6 n7 n8, fits) refl refl refl))))
-
   holds : (number ≡ OPTION_EXPORT_NAME → bytes ≡ []) → Holds number bytes (option_of number bytes)
   holds none =
       let info = info_fits bytes fits in
       let same = (info_into bytes fits.1).1 in
       step number OPTION_EXPORT_NAME bytes _ _ (λ e. own_data ExportName tt (sym (none e)) (ap length (sym (none e))) e) (λ n1.
+      step number OPTION_ABORT bytes _ _ (own_data (Abort bytes) fits refl refl) (λ n2.
+      step number OPTION_LIST bytes _ _ (own_data (Lists bytes) fits refl refl) (λ n3.
       step number OPTION_INFO bytes _ _ (own_data (Info (info_of bytes)) info same (info_length bytes fits)) (λ n6.
-      step number OPTION_GO bytes _ _ (own_data (Go (info_of bytes)) info same (info_length bytes fits)) (λ n7. data_holds n1 n6 n7)))
+      step number OPTION_GO bytes _ _ (own_data (Go (info_of bytes)) info same (info_length bytes fits)) (λ n7.
+      own_data (Other number bytes) (unknown number n1 n2 n3 n6 n7, fits) refl refl refl)))))
 
 -- an option that isn't oversized is that of its number with its data
 record IsWhole (option : PlainOption) : Type 0 where
@@ -76,29 +69,23 @@ is_whole : (option : PlainOption) → ContentFits option → length_of option �
 is_whole ExportName fits le = record { again = refl; is_length = refl; is_data = (omega arith, λ i. omega arith) }
 is_whole (Abort bytes) fits le = record { again = refl; is_length = refl; is_data = fits }
 is_whole (Lists bytes) fits le = record { again = refl; is_length = refl; is_data = fits }
-is_whole (StartTls bytes) fits le = record { again = refl; is_length = refl; is_data = fits }
 is_whole (Info info) fits le = record { again = ap Info (info_back info fits.0 fits.1.1); is_length = refl; is_data = fits.1 }
 is_whole (Go info) fits le = record { again = ap Go (info_back info fits.0 fits.1.1); is_length = refl; is_data = fits.1 }
-is_whole (StructuredReply bytes) fits le = record { again = refl; is_length = refl; is_data = fits }
 is_whole (Other number bytes) fits le =
     let e1 = ne_eqb number OPTION_EXPORT_NAME (λ k. fits.0 (inl k)) in
     let e2 = ne_eqb number OPTION_ABORT (λ k. fits.0 (inr (inl k))) in
     let e3 = ne_eqb number OPTION_LIST (λ k. fits.0 (inr (inr (inl k)))) in
-    let e5 = ne_eqb number OPTION_STARTTLS (λ k. fits.0 (inr (inr (inr (inl k))))) in
-    let e6 = ne_eqb number OPTION_INFO (λ k. fits.0 (inr (inr (inr (inr (inl k)))))) in
-    let e7 = ne_eqb number OPTION_GO (λ k. fits.0 (inr (inr (inr (inr (inr (inl k))))))) in
-    let e8 = ne_eqb number OPTION_STRUCTURED_REPLY (λ k. fits.0 (inr (inr (inr (inr (inr (inr k))))))) in
-    record { again = rw (e1, e6, e7, e2, e3, e5, e8) refl; is_length = refl; is_data = fits.1 }
+    let e6 = ne_eqb number OPTION_INFO (λ k. fits.0 (inr (inr (inr (inl k))))) in
+    let e7 = ne_eqb number OPTION_GO (λ k. fits.0 (inr (inr (inr (inr k))))) in
+    record { again = rw (e1, e2, e3, e6, e7) refl; is_length = refl; is_data = fits.1 }
 is_whole (Oversized number len) fits le = absurd (omega (arith, fits.0))
 
 is_oversized : (option : PlainOption) → ContentFits option → MAX_OPTION_DATA < length_of option → option ≡ Oversized (number_of option) (length_of option)
 is_oversized ExportName fits lt = absurd (omega arith)
 is_oversized (Abort bytes) fits lt = absurd (omega (arith, fits.0))
 is_oversized (Lists bytes) fits lt = absurd (omega (arith, fits.0))
-is_oversized (StartTls bytes) fits lt = absurd (omega (arith, fits.0))
 is_oversized (Info info) fits lt = absurd (omega (arith, fits.1.0))
 is_oversized (Go info) fits lt = absurd (omega (arith, fits.1.0))
-is_oversized (StructuredReply bytes) fits lt = absurd (omega (arith, fits.0))
 is_oversized (Other number bytes) fits lt = absurd (omega (arith, fits.1.0))
 is_oversized (Oversized number len) fits lt = refl
 
@@ -111,10 +98,8 @@ length_fits : (option : PlainOption) → ContentFits option → IsLength (number
 length_fits ExportName fits = (omega arith, λ e. refl)
 length_fits (Abort bytes) fits = (omega (arith, fits.0), λ e. absurd (omega arith))
 length_fits (Lists bytes) fits = (omega (arith, fits.0), λ e. absurd (omega arith))
-length_fits (StartTls bytes) fits = (omega (arith, fits.0), λ e. absurd (omega arith))
 length_fits (Info info) fits = (omega (arith, fits.1.0), λ e. absurd (omega arith))
 length_fits (Go info) fits = (omega (arith, fits.1.0), λ e. absurd (omega arith))
-length_fits (StructuredReply bytes) fits = (omega (arith, fits.0), λ e. absurd (omega arith))
 length_fits (Other number bytes) fits = (omega (arith, fits.1.0), λ e. absurd (fits.0 (inl e)))
 length_fits (Oversized number len) fits = (fits.1, λ e. absurd (fits.2 e))
 
@@ -250,10 +235,8 @@ content_short : (option : PlainOption) → ContentFits option → length (conten
 content_short ExportName fits = omega arith
 content_short (Abort bytes) fits = fits.0
 content_short (Lists bytes) fits = fits.0
-content_short (StartTls bytes) fits = fits.0
 content_short (Info info) fits = fits.1.0
 content_short (Go info) fits = fits.1.0
-content_short (StructuredReply bytes) fits = fits.0
 content_short (Other number bytes) fits = fits.1.0
 content_short (Oversized number len) fits = omega arith
 

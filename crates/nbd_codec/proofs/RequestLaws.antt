@@ -244,7 +244,7 @@ IsField-request limit small =
 
 -- ---- its length
 
-head_len : (h : Head) → length (head_spelling h) ≡ 24
+pub head_len : (h : Head) → length (head_spelling h) ≡ 24
 unfolding head_spelling
 head_len h = refl
 

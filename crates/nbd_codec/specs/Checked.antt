@@ -1,10 +1,24 @@
--- The tests of requests, each type's in their order.
-use Rattle.std.specs.Prelude.{◌≡◌, ◌<◌, ◌≤◌, ℕ, ◌+◌, IsTrue, ◌||◌, not, length, nat_lt, ◌==◌, if◌then◌else◌}
-use Rattle.nbd_codec.specs.declared.constants.TheConstants.{FLAG_FUA, SERVES_FLUSH}
+-- The tests of requests, each type's in their order, and what a request asks of the volume.
+use Rattle.std.specs.Prelude.{◌≡◌, ◌<◌, ◌≤◌, ℕ, ◌+◌, Bool, Option, Some, None, ⊤, ◌||◌, not, length, bit_and, nat_lt, ◌==◌, if◌then◌else◌}
+use Rattle.nbd_codec.specs.declared.constants.TheConstants.{FLAG_FUA}
 use Rattle.nbd_codec.specs.declared.replies.NbdError.TheVariants.{Invalid, NoSpace}
+use Rattle.nbd_codec.specs.declared.checks.Ask.{Ask}
+use Rattle.nbd_codec.specs.declared.checks.Ask.TheVariants as asks
 use Rattle.nbd_codec.specs.declared.checks.Checked.{Checked}
 use Rattle.nbd_codec.specs.declared.checks.Checked.TheVariants.{Volume, Done, Refused, Disconnect}
 use Rattle.nbd_codec.specs.Request.{PlainRequest, Read, Write, Disc, Flush, Other}
+
+-- the flag FUA is set
+abbrev pub has_fua : (flags : ℕ) → Bool
+has_fua flags = not (bit_and flags FLAG_FUA == 0)
+
+-- what a request asks of the volume: FUA changes a WRITE alone
+abbrev pub asked_by : PlainRequest → Option Ask
+asked_by (Read flags cookie offset len) = Some (asks.Read offset len)
+asked_by (Write flags cookie offset payload) = Some (asks.Write offset (length payload) (has_fua flags))
+asked_by (Disc flags cookie offset len) = None
+asked_by (Flush flags cookie offset len) = Some asks.Flush
+asked_by (Other kind flags cookie offset len) = None
 
 -- a flag other than FUA, a length that is too great, a range past the end, no bytes
 abbrev pub read_checked : (flags offset len size max_payload : ℕ) → Checked
@@ -12,27 +26,27 @@ read_checked flags offset len size max_payload =
     if nat_lt FLAG_FUA flags then Refused Invalid
     else (if nat_lt max_payload len then Refused Invalid
     else (if nat_lt size (offset + len) then Refused Invalid
-    else (if len == 0 then Done else Volume)))
+    else (if len == 0 then Done else Volume (asks.Read offset len))))
 
 -- a flag other than FUA, a range past the end, no bytes
 abbrev pub write_checked : (flags offset len size : ℕ) → Checked
 write_checked flags offset len size =
     if nat_lt FLAG_FUA flags then Refused Invalid
     else (if nat_lt size (offset + len) then Refused NoSpace
-    else (if len == 0 then Done else Volume))
+    else (if len == 0 then Done else Volume (asks.Write offset len (has_fua flags))))
 
 -- a flag other than FUA, a range
 abbrev pub flush_checked : (flags offset len : ℕ) → Checked
 flush_checked flags offset len =
     if nat_lt FLAG_FUA flags then Refused Invalid
-    else (if not (offset == 0) || not (len == 0) then Refused Invalid else Volume)
+    else (if not (offset == 0) || not (len == 0) then Refused Invalid else Volume asks.Flush)
 
 -- what is to become of a request to an export of that size
 abbrev pub checked : (size max_payload : ℕ) → PlainRequest → Checked
 checked size max_payload (Read flags cookie offset len) = read_checked flags offset len size max_payload
 checked size max_payload (Write flags cookie offset payload) = write_checked flags offset (length payload) size
 checked size max_payload (Disc flags cookie offset len) = Disconnect
-checked size max_payload (Flush flags cookie offset len) = if SERVES_FLUSH then flush_checked flags offset len else Refused Invalid
+checked size max_payload (Flush flags cookie offset len) = flush_checked flags offset len
 checked size max_payload (Other kind flags cookie offset len) = Refused Invalid
 
 -- some bytes within the export, and no flag other than FUA
@@ -46,5 +60,19 @@ abbrev pub IsForVolume : (size max_payload : ℕ) → PlainRequest → Type 0
 IsForVolume size max_payload (Read flags cookie offset len) = IsRange flags offset len size × (len ≤ max_payload)
 IsForVolume size max_payload (Write flags cookie offset payload) = IsRange flags offset (length payload) size
 IsForVolume size max_payload (Disc flags cookie offset len) = ⊥
-IsForVolume size max_payload (Flush flags cookie offset len) = IsTrue SERVES_FLUSH × (flags ≤ FLAG_FUA) × (offset ≡ 0) × (len ≡ 0)
+IsForVolume size max_payload (Flush flags cookie offset len) = (flags ≤ FLAG_FUA) × (offset ≡ 0) × (len ≡ 0)
 IsForVolume size max_payload (Other kind flags cookie offset len) = ⊥
+
+-- the volume is asked
+abbrev pub IsVolume : Checked → Type 0
+IsVolume (Volume ask) = ⊤
+IsVolume Done = ⊥
+IsVolume (Refused error) = ⊥
+IsVolume Disconnect = ⊥
+
+-- the fact for what the volume is asked, if it is
+abbrev pub IfVolume : Checked → (Ask → Type 0) → Type 0
+IfVolume (Volume ask) P = P ask
+IfVolume Done P = ⊤
+IfVolume (Refused error) P = ⊤
+IfVolume Disconnect P = ⊤

@@ -1,14 +1,14 @@
 -- The spelling of options, and how they are read from left to right.
-use Rattle.std.specs.Prelude.{◌≡◌, ◌≢◌, ℕ, ◌+◌, ◌*◌, ◌<◌, ◌≤◌, ◌^◌, ◌⊎◌, List, [], ◌∷◌, ◌++◌, length, slice_index, nat_lt, Result, Ok, Err, ◌==◌, if◌then◌else◌}
-use Rattle.std.specs.List.{flat_map}
+use Rattle.std.specs.Prelude.{◌≡◌, ◌≢◌, ℕ, ◌+◌, ◌*◌, ◌<◌, ◌≤◌, ◌^◌, ◌⊎◌, List, [], ◌∷◌, ◌++◌, length, slice_index, not, nat_lt, Result, Ok, Err, ◌==◌, if◌then◌else◌}
+use Rattle.std.specs.List.{flat_map, list_any}
 use Rattle.byteorder.specs.Endian.{big_bytes, big_number}
-use Rattle.nbd_codec.specs.declared.constants.TheConstants.{OPTION_MAGIC, OPTION_EXPORT_NAME, OPTION_ABORT, OPTION_LIST, OPTION_STARTTLS, OPTION_INFO, OPTION_GO, OPTION_STRUCTURED_REPLY, MAX_OPTION_DATA}
+use Rattle.nbd_codec.specs.declared.constants.TheConstants.{OPTION_MAGIC, OPTION_EXPORT_NAME, OPTION_ABORT, OPTION_LIST, OPTION_INFO, OPTION_GO, INFO_BLOCK_SIZE, MAX_OPTION_DATA}
 use Rattle.nbd_codec.specs.declared.findings.Reading.{Reading}
 use Rattle.nbd_codec.specs.declared.findings.Fault.TheVariants as faults
 use Rattle.nbd_codec.specs.declared.fields.Ending.{Ending}
 use Rattle.nbd_codec.specs.declared.fields.Ending.TheVariants.{Short}
-use Rattle.nbd_codec.specs.declared.options.InfoData.{InfoData}
-use Rattle.nbd_codec.specs.declared.options.InfoData.TheVariants as infos
+use Rattle.nbd_codec.specs.declared.options.Information.{Information}
+use Rattle.nbd_codec.specs.declared.options.Information.TheVariants as infos
 use Rattle.nbd_codec.specs.declared.options.ClientOption.{ClientOption}
 use Rattle.nbd_codec.specs.declared.options.ClientOption.TheVariants as options
 use Rattle.nbd_codec.specs.Fields.{◌>>=◌, magic_at, number_at, limited_at, bytes_at}
@@ -24,29 +24,25 @@ pub data PlainOption : Type 0 where
   ExportName : PlainOption
   Abort : (bytes : List ℕ) → PlainOption
   Lists : (bytes : List ℕ) → PlainOption
-  StartTls : (bytes : List ℕ) → PlainOption
   Info : (info : PlainInfo) → PlainOption
   Go : (info : PlainInfo) → PlainOption
-  StructuredReply : (bytes : List ℕ) → PlainOption
   Other : (number : ℕ) → (bytes : List ℕ) → PlainOption
   Oversized : (number len : ℕ) → PlainOption
 
--- the data of INFO and GO as contracts see it
-abbrev pub info_view : InfoData → PlainInfo
-info_view (infos.Asks name types) = Asks name.items types.items
-info_view (infos.Malformed bytes) = Malformed bytes.items
+-- what is told of the data of INFO and GO
+abbrev pub information_of : PlainInfo → Information
+information_of (Asks name types) = infos.Asked (not (length name == 0)) (list_any (λ n. n == INFO_BLOCK_SIZE) types)
+information_of (Malformed bytes) = infos.Malformed
 
--- an option as contracts see it
-abbrev pub option_view : ClientOption → PlainOption
-option_view options.ExportName = ExportName
-option_view (options.Abort bytes) = Abort bytes.items
-option_view (options.List bytes) = Lists bytes.items
-option_view (options.StartTls bytes) = StartTls bytes.items
-option_view (options.Info info) = Info (info_view info)
-option_view (options.Go info) = Go (info_view info)
-option_view (options.StructuredReply bytes) = StructuredReply bytes.items
-option_view (options.Other number bytes) = Other number bytes.items
-option_view (options.Oversized number len) = Oversized number len
+-- what is told of an option
+abbrev pub told_of : PlainOption → ClientOption
+told_of ExportName = options.ExportName
+told_of (Abort bytes) = options.Abort
+told_of (Lists bytes) = options.List (not (length bytes == 0))
+told_of (Info info) = options.Info (information_of info)
+told_of (Go info) = options.Go (information_of info)
+told_of (Other number bytes) = options.Other number
+told_of (Oversized number len) = options.Oversized number len
 
 -- the name behind its length, and the types behind their count; or bytes that don't spell that
 unfoldable pub info_spelling : PlainInfo → List ℕ
@@ -58,10 +54,8 @@ abbrev pub number_of : PlainOption → ℕ
 number_of ExportName = OPTION_EXPORT_NAME
 number_of (Abort bytes) = OPTION_ABORT
 number_of (Lists bytes) = OPTION_LIST
-number_of (StartTls bytes) = OPTION_STARTTLS
 number_of (Info info) = OPTION_INFO
 number_of (Go info) = OPTION_GO
-number_of (StructuredReply bytes) = OPTION_STRUCTURED_REPLY
 number_of (Other number bytes) = number
 number_of (Oversized number len) = number
 
@@ -70,10 +64,8 @@ abbrev pub content_of : PlainOption → List ℕ
 content_of ExportName = []
 content_of (Abort bytes) = bytes
 content_of (Lists bytes) = bytes
-content_of (StartTls bytes) = bytes
 content_of (Info info) = info_spelling info
 content_of (Go info) = info_spelling info
-content_of (StructuredReply bytes) = bytes
 content_of (Other number bytes) = bytes
 content_of (Oversized number len) = []
 
@@ -82,10 +74,8 @@ abbrev pub length_of : PlainOption → ℕ
 length_of ExportName = 0
 length_of (Abort bytes) = length bytes
 length_of (Lists bytes) = length bytes
-length_of (StartTls bytes) = length bytes
 length_of (Info info) = length (info_spelling info)
 length_of (Go info) = length (info_spelling info)
-length_of (StructuredReply bytes) = length bytes
 length_of (Other number bytes) = length bytes
 length_of (Oversized number len) = len
 
@@ -95,9 +85,7 @@ spelling option = big_bytes 8 OPTION_MAGIC ++ (big_bytes 4 (number_of option) ++
 
 -- a number of an option that has a variant of its own
 abbrev pub IsKnown : ℕ → Type 0
-IsKnown number =
-    (number ≡ OPTION_EXPORT_NAME) ⊎ ((number ≡ OPTION_ABORT) ⊎ ((number ≡ OPTION_LIST) ⊎ ((number ≡ OPTION_STARTTLS)
-    ⊎ ((number ≡ OPTION_INFO) ⊎ ((number ≡ OPTION_GO) ⊎ (number ≡ OPTION_STRUCTURED_REPLY))))))
+IsKnown number = (number ≡ OPTION_EXPORT_NAME) ⊎ ((number ≡ OPTION_ABORT) ⊎ ((number ≡ OPTION_LIST) ⊎ ((number ≡ OPTION_INFO) ⊎ (number ≡ OPTION_GO))))
 
 -- data that is taken
 abbrev pub IsData : List ℕ → Type 0
@@ -120,10 +108,8 @@ abbrev pub ContentFits : PlainOption → Type 0
 ContentFits ExportName = Unit {0}
 ContentFits (Abort bytes) = IsData bytes
 ContentFits (Lists bytes) = IsData bytes
-ContentFits (StartTls bytes) = IsData bytes
 ContentFits (Info info) = InfoFits info × IsData (info_spelling info)
 ContentFits (Go info) = InfoFits info × IsData (info_spelling info)
-ContentFits (StructuredReply bytes) = IsData bytes
 ContentFits (Other number bytes) = (¬ IsKnown number) × IsData bytes
 ContentFits (Oversized number len) = (MAX_OPTION_DATA < len) × (len < 2 ^ 32) × (number ≢ OPTION_EXPORT_NAME)
 
@@ -156,22 +142,15 @@ asks_or bytes (Err e) = Malformed bytes
 abbrev pub info_of : List ℕ → PlainInfo
 info_of bytes = asks_or bytes (asks_at bytes)
 
--- the option whose data is passed on as it is
-abbrev pub data_option : ℕ → List ℕ → PlainOption
-data_option number bytes =
-    if number == OPTION_ABORT then Abort bytes
-    else (if number == OPTION_LIST then Lists bytes
-    else (if number == OPTION_STARTTLS then StartTls bytes
-    else (if number == OPTION_STRUCTURED_REPLY then StructuredReply bytes
-    else Other number bytes)))
-
 -- the option of that number with that data, of which EXPORT_NAME has none
 abbrev pub option_of : ℕ → List ℕ → PlainOption
 option_of number bytes =
     if number == OPTION_EXPORT_NAME then ExportName
+    else (if number == OPTION_ABORT then Abort bytes
+    else (if number == OPTION_LIST then Lists bytes
     else (if number == OPTION_INFO then Info (info_of bytes)
     else (if number == OPTION_GO then Go (info_of bytes)
-    else data_option number bytes))
+    else Other number bytes))))
 
 -- the length of the data of the option of that number, which is 0 for EXPORT_NAME
 unfoldable pub length_at : ℕ → List ℕ → Result (ℕ × List ℕ) Ending

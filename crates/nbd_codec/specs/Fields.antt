@@ -5,8 +5,6 @@ use Rattle.byteorder.specs.Endian.{big_number}
 use Rattle.nbd_codec.specs.declared.findings.Fault.{Fault}
 use Rattle.nbd_codec.specs.declared.fields.Ending.{Ending}
 use Rattle.nbd_codec.specs.declared.fields.Ending.TheVariants as endings
-use Rattle.nbd_codec.specs.declared.fields.Stop.{Stop}
-use Rattle.nbd_codec.specs.declared.fields.Stop.TheVariants as stops
 
 -- one field, and then what the rest gives
 infixl 10 ◌>>=◌
@@ -14,15 +12,15 @@ abbrev pub ◌>>=◌ : {A B : Type 0} → Result A Ending → (A → Result B En
 (Ok x) >>= f = f x
 (Err e) >>= f = Err e
 
--- a function stopped as reading did, unless memory ran out
-abbrev pub Stops : {Y : Type 0} → Stop → Result Y Ending → Type 0
-Stops stops.Memory read = Unit {0}
-Stops (stops.Ending e) read = read ≡ Err e
+-- what reading gives, seen by f
+abbrev pub read_as : {X Y : Type 0} → (X → Y) → Result X Ending → Result Y Ending
+read_as f (Ok x) = Ok (f x)
+read_as f (Err e) = Err e
 
--- what a function returned, seen by view, is what reading gives, unless memory ran out
-abbrev pub Gives : {X Y : Type 0} → (X → Y) → Result X Stop → Result Y Ending → Type 0
+-- what a function returned, seen by view, is what reading gives
+abbrev pub Gives : {X Y : Type 0} → (X → Y) → Result X Ending → Result Y Ending → Type 0
 Gives view (Ok x) read = read ≡ Ok (view x)
-Gives view (Err e) read = Stops e read
+Gives view (Err e) read = read ≡ Err e
 
 -- the bytes are those of the magic, as far as both go
 abbrev pub agrees : List ℕ → List ℕ → Bool

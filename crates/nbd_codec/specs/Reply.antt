@@ -1,6 +1,6 @@
 -- The spelling of simple replies.
-use Rattle.std.specs.Prelude.{ℕ, List, ◌++◌, Result, Ok, Err}
-use Rattle.std.specs.Global.{Vec}
+use Rattle.std.specs.Prelude.{ℕ, List, [], ◌++◌, Result, Ok, Err}
+use Rattle.std.specs.Borrow.{Bor}
 use Rattle.byteorder.specs.Endian.{big_bytes}
 use Rattle.nbd_codec.specs.declared.constants.TheConstants.{NO_ERROR, SIMPLE_REPLY_MAGIC, ERROR_IO, ERROR_NO_MEMORY, ERROR_INVALID, ERROR_NO_SPACE}
 use Rattle.nbd_codec.specs.declared.replies.NbdError.{NbdError}
@@ -20,15 +20,19 @@ pub data PlainReply : Type 0 where
   Refused : (cookie : ℕ) → (error : NbdError) → PlainReply
 
 -- the reply with this cookie and this outcome
-abbrev pub outcome_view : ℕ → Result (Vec ℕ) NbdError → PlainReply
-outcome_view cookie (Ok payload) = Done cookie payload.items
+abbrev pub outcome_view : ℕ → Result (Bor (List ℕ)) NbdError → PlainReply
+outcome_view cookie (Ok payload) = Done cookie payload.now
 outcome_view cookie (Err error) = Refused cookie error
 
 -- a reply as contracts see it
 abbrev pub reply_view : SimpleReply → PlainReply
 reply_view reply = outcome_view reply.cookie reply.outcome
 
--- sixteen bytes, and behind error 0 the payload
+-- sixteen bytes, and what stands behind them
+abbrev pub reply_spelling : (number cookie : ℕ) → List ℕ → List ℕ
+reply_spelling number cookie payload = big_bytes 4 SIMPLE_REPLY_MAGIC ++ (big_bytes 4 number ++ (big_bytes 8 cookie ++ payload))
+
+-- a payload goes out behind error 0 alone
 abbrev pub spelling : PlainReply → List ℕ
-spelling (Done cookie payload) = big_bytes 4 SIMPLE_REPLY_MAGIC ++ (big_bytes 4 NO_ERROR ++ (big_bytes 8 cookie ++ payload))
-spelling (Refused cookie error) = big_bytes 4 SIMPLE_REPLY_MAGIC ++ (big_bytes 4 (error_number error) ++ big_bytes 8 cookie)
+spelling (Done cookie payload) = reply_spelling NO_ERROR cookie payload
+spelling (Refused cookie error) = reply_spelling (error_number error) cookie []

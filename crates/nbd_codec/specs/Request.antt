@@ -1,5 +1,5 @@
 -- The spelling of requests, and how they are read from left to right.
-use Rattle.std.specs.Prelude.{◌≡◌, ℕ, ◌<◌, ◌≤◌, ◌^◌, ◌⊎◌, List, ◌++◌, length, Result, Ok, ◌==◌, if◌then◌else◌}
+use Rattle.std.specs.Prelude.{◌≡◌, ℕ, ◌<◌, ◌≤◌, ◌^◌, ◌⊎◌, List, [], ◌++◌, length, Result, Ok, ◌==◌, if◌then◌else◌}
 use Rattle.byteorder.specs.Endian.{big_bytes, big_number}
 use Rattle.nbd_codec.specs.declared.constants.TheConstants.{REQUEST_MAGIC, REQUEST_READ, REQUEST_WRITE, REQUEST_DISC, REQUEST_FLUSH}
 use Rattle.nbd_codec.specs.declared.findings.Reading.{Reading}
@@ -22,10 +22,18 @@ pub data PlainRequest : Type 0 where
 -- a request as contracts see it
 abbrev pub request_view : Request → PlainRequest
 request_view (requests.Read flags cookie offset len) = Read flags cookie offset len
-request_view (requests.Write flags cookie offset payload) = Write flags cookie offset payload.items
+request_view (requests.Write flags cookie offset payload) = Write flags cookie offset payload.now
 request_view (requests.Disc flags cookie offset len) = Disc flags cookie offset len
 request_view (requests.Flush flags cookie offset len) = Flush flags cookie offset len
 request_view (requests.Other kind flags cookie offset len) = Other kind flags cookie offset len
+
+-- the payload, which only a WRITE has
+abbrev pub payload_of : PlainRequest → List ℕ
+payload_of (Read flags cookie offset len) = []
+payload_of (Write flags cookie offset payload) = payload
+payload_of (Disc flags cookie offset len) = []
+payload_of (Flush flags cookie offset len) = []
+payload_of (Other kind flags cookie offset len) = []
 
 -- the numbers of a request before its length
 abbrev pub head_of : PlainRequest → Head

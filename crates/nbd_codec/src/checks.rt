@@ -1,18 +1,37 @@
 //! The tests of a request that need the export's size.
 
-ghost use Rattle.std.specs.Prelude.{◌≡◌, ◌<◌, ◌+◌, ◌↔◌, IsTrue};
+ghost use Rattle.std.specs.Prelude.{◌≡◌, ◌<◌, ◌+◌, ◌↔◌, IsTrue, Some};
 ghost use Rattle.nbd_codec.specs.Request.{request_view};
-ghost use Rattle.nbd_codec.specs.Checked.{IsForVolume, read_checked, write_checked, flush_checked, checked};
+ghost use Rattle.nbd_codec.specs.Checked.{IfVolume, IsForVolume, IsVolume, asked_by, has_fua, read_checked, write_checked, flush_checked, checked};
 
 use crate::constants::*;
 use crate::replies::NbdError;
 use crate::requests::Request;
 
+/// What a request asks of the volume. Offsets and lengths are in bytes.
+#[derive(Clone, Copy, Debug, PartialEq, Eq)]
+pub enum Ask {
+    /// The bytes of a range that isn't empty.
+    Read {
+        offset: u64,
+        length: u32,
+    },
+    /// To write the request's payload, which has `length` bytes and isn't empty; with `fua` the reply
+    /// waits until it is on permanent storage.
+    Write {
+        offset: u64,
+        length: usize,
+        fua: bool,
+    },
+    /// A reply once all that was answered before is on permanent storage.
+    Flush,
+}
+
 /// What is to become of a request.
 #[derive(Clone, Copy, Debug, PartialEq, Eq)]
 pub enum Checked {
-    /// The volume is asked.
-    Volume,
+    /// The volume is asked this.
+    Volume(Ask),
     /// It is answered with error 0, and nothing is done: its length is 0.
     Done,
     /// It is answered with this error.
@@ -26,6 +45,13 @@ fn has_unknown_flag(flags: u16) -> bool
     ensures { IsTrue result ↔ (FLAG_FUA < flags) }
 {
     flags & !FLAG_FUA != 0
+}
+
+/// Whether the flag FUA is set.
+fn is_fua(flags: u16) -> bool
+    ensures { result ≡ has_fua flags }
+{
+    flags & FLAG_FUA != 0
 }
 
 /// Whether a range leads past the end of an export of that size.
@@ -50,7 +76,7 @@ fn check_read(flags: u16, offset: u64, length: u32, size: u64, max_payload: u32)
     if length == 0 {
         return Checked::Done;
     }
-    Checked::Volume
+    Checked::Volume(Ask::Read { offset, length })
 }
 
 fn check_write(flags: u16, offset: u64, length: usize, size: u64) -> Checked
@@ -65,7 +91,12 @@ fn check_write(flags: u16, offset: u64, length: usize, size: u64) -> Checked
     if length == 0 {
         return Checked::Done;
     }
-    Checked::Volume
+    let fua = is_fua(flags);
+    Checked::Volume(Ask::Write {
+        offset,
+        length,
+        fua,
+    })
 }
 
 fn check_flush(flags: u16, offset: u64, length: u32) -> Checked
@@ -77,43 +108,39 @@ fn check_flush(flags: u16, offset: u64, length: u32) -> Checked
     if offset != 0 || length != 0 {
         return Checked::Refused(NbdError::Invalid);
     }
-    Checked::Volume
+    Checked::Volume(Ask::Flush)
 }
 
 /// What is to become of a request to an export of `size` bytes, of which at most `max_payload` are
 /// read at once. A payload that is too long has ended the session before.
 pub fn check(request: &Request, size: u64, max_payload: u32) -> Checked
     // The volume is asked exactly for what can be done.
-    ensures volume { (result ≡ Checked.Volume)
-        ↔ IsForVolume size max_payload (request_view request.now) }
+    ensures volume { IsVolume result ↔ IsForVolume size max_payload (request_view request.now) }
+    // What it is asked is what the request asks.
+    ensures own { IfVolume result (λ ask. asked_by (request_view request.now) ≡ Some ask) }
     // The tests in their order, and what the first one that fails gives.
     ensures exact { result ≡ checked size max_payload (request_view request.now) }
 {
-    match request {
+    match *request {
         Request::Read {
             flags,
             offset,
             length,
             ..
-        } => check_read(*flags, *offset, *length, size, max_payload),
+        } => check_read(flags, offset, length, size, max_payload),
         Request::Write {
             flags,
             offset,
             payload,
             ..
-        } => check_write(*flags, *offset, payload.len(), size),
+        } => check_write(flags, offset, payload.len(), size),
         Request::Disc { .. } => Checked::Disconnect,
         Request::Flush {
             flags,
             offset,
             length,
             ..
-        } => {
-            if SERVES_FLUSH {
-                return check_flush(*flags, *offset, *length);
-            }
-            Checked::Refused(NbdError::Invalid)
-        }
+        } => check_flush(flags, offset, length),
         Request::Other { .. } => Checked::Refused(NbdError::Invalid),
     }
 }

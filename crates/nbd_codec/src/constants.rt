@@ -29,14 +29,10 @@ pub const OPTION_EXPORT_NAME: u32 = 1;
 pub const OPTION_ABORT: u32 = 2;
 /// The option LIST.
 pub const OPTION_LIST: u32 = 3;
-/// The option STARTTLS.
-pub const OPTION_STARTTLS: u32 = 5;
 /// The option INFO.
 pub const OPTION_INFO: u32 = 6;
 /// The option GO.
 pub const OPTION_GO: u32 = 7;
-/// The option STRUCTURED_REPLY.
-pub const OPTION_STRUCTURED_REPLY: u32 = 8;
 /// How many bytes an option has before its data.
 pub const OPTION_HEADER: usize = 16;
 /// The most bytes of data that an option may have.
@@ -93,8 +89,10 @@ pub const REQUEST_FLUSH: u16 = 3;
 pub const FLAG_FUA: u16 = 0x0001;
 /// How many bytes a request has before a payload.
 pub const REQUEST_HEADER: usize = 28;
-/// Whether FLUSH is served: while it is not, it is refused as an unknown type is.
-pub const SERVES_FLUSH: bool = false;
+/// How many bytes a simple reply has before a payload.
+pub const REPLY_HEADER: usize = 16;
+/// The profile's limit of requests in flight in a session.
+pub const MAX_IN_FLIGHT: usize = 64;
 
 /// What a reply carries in place of an error.
 pub const NO_ERROR: u32 = 0;

@@ -7,7 +7,7 @@ ghost use Rattle.nbd_codec.specs.OptionReply.{export_spelling};
 ghost use Rattle.nbd_codec.specs.Request.{spelling as request_spelling, IsRequest, request_in};
 ghost use Rattle.nbd_codec.specs.Reply.{spelling as reply_spelling};
 ghost use Rattle.nbd_codec.specs.Laws.{AreApart, IsAtLeast, IsAtMost, IsKept, IsReplyOf, IsSpelled, NeedsSome, NumberedFits, numbered_spelling};
-ghost use Rattle.nbd_codec.specs.Numbers.{AreErrors, AreFlagBits, AreMagics, AreOptionReplies, AreOptions, AreRequests};
+ghost use Rattle.nbd_codec.specs.Numbers.{AreErrors, AreFlagBits, AreLengths, AreMagics, AreOptionData, AreOptionReplies, AreOptions, AreRequests};
 
 use crate::constants::*;
 
@@ -66,12 +66,14 @@ pub fn replies_are_apart()
     ensures { (len : ℕ) → AreApart reply_spelling (IsReplyOf len) }
 {}
 
-/// The numbers on the wire are those of the standard.
+/// The numbers on the wire are those of the standard, and the project's own limits are these.
 pub fn numbers_are_the_standards()
     ensures magics { AreMagics }
     ensures flags { AreFlagBits }
     ensures options { AreOptions }
     ensures option_replies { AreOptionReplies }
+    ensures option_data { AreOptionData }
+    ensures lengths { AreLengths }
     ensures requests { AreRequests }
     ensures errors { AreErrors }
 {}

@@ -1,11 +1,20 @@
 //! Replies to options: doc/proto.md, "Option haggling", "Option reply types".
 
-ghost use Rattle.std.specs.Prelude.{◌≡◌, ◌++◌, IfOk, OnOk};
+ghost use Rattle.std.specs.Prelude.{◌≡◌, ◌+◌, ◌<◌, ◌≤◌, ◌++◌, length, OnErr, OnOk};
+ghost use Rattle.byteorder.specs.Endian.{big_bytes};
 ghost use Rattle.nbd_codec.specs.OptionReply.{type_of, reply_data, option_reply_spelling, export_spelling};
 
 use crate::constants::*;
 use crate::numbers::{put_u16, put_u32, put_u64};
-use std::alloc::{AllocError, Global};
+use bytes::BytesMut;
+use std::alloc::AllocError;
+
+/// How many bytes an option reply has before the length of its data.
+const OPTION_REPLY_HEAD: usize = 16;
+/// How many bytes the length of its data has.
+const LENGTH_LEN: usize = 4;
+/// How many bytes the answer to EXPORT_NAME has before its zeros.
+const EXPORT_LEN: usize = 10;
 
 /// A reply to an option.
 #[derive(Clone, Copy, Debug, PartialEq, Eq)]
@@ -43,30 +52,62 @@ impl OptionReply {
             OptionReply::ErrTooBig => REPLY_ERR_TOO_BIG,
         }
     }
+
+    /// How many bytes its data has, with its length.
+    #[tactic(auto, unfolding(crate::specs::OptionReply::reply_data))]
+    fn data_len(self) -> usize
+        ensures data { result ≡ length (reply_data self) }
+        ensures most { result ≤ LENGTH_LEN + INFO_BLOCK_SIZE_LEN }
+    {
+        let len = match self {
+            OptionReply::Server => SERVER_LEN,
+            OptionReply::Export { .. } => INFO_EXPORT_LEN,
+            OptionReply::BlockSize { .. } => INFO_BLOCK_SIZE_LEN,
+            OptionReply::Ack
+            | OptionReply::ErrUnsup
+            | OptionReply::ErrInvalid
+            | OptionReply::ErrUnknown
+            | OptionReply::ErrTooBig => NO_DATA_LEN,
+        };
+        LENGTH_LEN + len as usize
+    }
 }
 
-/// Puts the length of the reply's data, and the data, at the end.
-#[tactic(auto, unfolding(crate::specs::OptionReply::reply_data))]
-fn put_data(out: &mut Vec<u8>, reply: &OptionReply) -> Result<(), AllocError>
-    ensures { OnOk result (out.new.items ≡ out.old.items ++ reply_data reply.now) }
+/// Puts what stands before the length of a reply's data into the room that was made.
+fn put_head(out: &mut BytesMut, option: u32, reply: OptionReply)
+    requires { OPTION_REPLY_HEAD ≤ out.old.spare }
+    ensures head { out.new.items ≡ out.old.items
+        ++ (big_bytes 8 OPTION_REPLY_MAGIC ++ (big_bytes 4 option ++ big_bytes 4 (type_of reply))) }
+    ensures room { out.new.spare + OPTION_REPLY_HEAD ≡ out.old.spare }
 {
-    match *reply {
+    put_u64(out, OPTION_REPLY_MAGIC);
+    put_u32(out, option);
+    put_u32(out, reply.number());
+}
+
+/// Puts the length of the reply's data, and the data, into the room that was made.
+#[tactic(auto, unfolding(crate::specs::OptionReply::reply_data))]
+fn put_data(out: &mut BytesMut, reply: OptionReply)
+    requires { length (reply_data reply) ≤ out.old.spare }
+    ensures { out.new.items ≡ out.old.items ++ reply_data reply }
+{
+    match reply {
         OptionReply::Server => {
-            put_u32(out, SERVER_LEN)?;
-            put_u32(out, SERVER_NAME_LEN)
+            put_u32(out, SERVER_LEN);
+            put_u32(out, SERVER_NAME_LEN);
         }
         OptionReply::Export { size } => {
-            put_u32(out, INFO_EXPORT_LEN)?;
-            put_u16(out, INFO_EXPORT)?;
-            put_u64(out, size)?;
-            put_u16(out, TRANSMISSION_FLAGS)
+            put_u32(out, INFO_EXPORT_LEN);
+            put_u16(out, INFO_EXPORT);
+            put_u64(out, size);
+            put_u16(out, TRANSMISSION_FLAGS);
         }
         OptionReply::BlockSize { max_payload } => {
-            put_u32(out, INFO_BLOCK_SIZE_LEN)?;
-            put_u16(out, INFO_BLOCK_SIZE)?;
-            put_u32(out, MINIMUM_BLOCK)?;
-            put_u32(out, PREFERRED_BLOCK)?;
-            put_u32(out, max_payload)
+            put_u32(out, INFO_BLOCK_SIZE_LEN);
+            put_u16(out, INFO_BLOCK_SIZE);
+            put_u32(out, MINIMUM_BLOCK);
+            put_u32(out, PREFERRED_BLOCK);
+            put_u32(out, max_payload);
         }
         OptionReply::Ack
         | OptionReply::ErrUnsup
@@ -76,34 +117,42 @@ fn put_data(out: &mut Vec<u8>, reply: &OptionReply) -> Result<(), AllocError>
     }
 }
 
-/// The one spelling of a reply to the option of that number. It fails only for want of memory.
+/// Puts the one spelling of a reply to the option of that number at the end, with one growth at most.
+/// It fails only for want of memory.
 #[tactic(auto, unfolding(crate::specs::OptionReply::option_reply_spelling))]
 pub fn write_option_reply(
-    alloc: Global,
+    out: &mut BytesMut,
     option: u32,
-    reply: &OptionReply,
-) -> Result<Vec<u8>, AllocError>
-    ensures { IfOk result (λ bytes. bytes.items ≡ option_reply_spelling option reply.now) }
+    reply: OptionReply,
+) -> Result<(), AllocError>
+    ensures ok { OnOk result (out.new.items
+        ≡ out.old.items ++ option_reply_spelling option reply) }
+    // A refused growth leaves what was there.
+    ensures err { OnErr result (out.new.items ≡ out.old.items) }
+    // It is asked for only where the room is too small.
+    ensures short { OnErr result (out.old.spare < length (option_reply_spelling option reply)) }
 {
-    let mut out = Vec::new(alloc);
-    put_u64(&mut out, OPTION_REPLY_MAGIC)?;
-    put_u32(&mut out, option)?;
-    put_u32(&mut out, reply.number())?;
-    put_data(&mut out, reply)?;
-    Ok(out)
+    out.reserve(OPTION_REPLY_HEAD + reply.data_len())?;
+    put_head(out, option, reply);
+    put_data(out, reply);
+    Ok(())
 }
 
-/// The answer to EXPORT_NAME: the size in bytes, the transmission flags, and 124 zeros unless both
-/// sides set NO_ZEROES. It fails only for want of memory.
+/// Puts the answer to EXPORT_NAME at the end, with one growth at most: the size in bytes, the
+/// transmission flags, and 124 zeros unless both sides set NO_ZEROES. It fails only for want of
+/// memory.
 #[tactic(auto, unfolding(crate::specs::OptionReply::export_spelling))]
-pub fn write_export(alloc: Global, size: u64, no_zeroes: bool) -> Result<Vec<u8>, AllocError>
-    ensures { IfOk result (λ bytes. bytes.items ≡ export_spelling size no_zeroes) }
+pub fn write_export(out: &mut BytesMut, size: u64, no_zeroes: bool) -> Result<(), AllocError>
+    ensures ok { OnOk result (out.new.items ≡ out.old.items ++ export_spelling size no_zeroes) }
+    // A refused growth leaves what was there.
+    ensures err { OnErr result (out.new.items ≡ out.old.items) }
+    // It is asked for only where the room is too small.
+    ensures short { OnErr result (out.old.spare < length (export_spelling size no_zeroes)) }
 {
-    let mut out = Vec::new(alloc);
-    put_u64(&mut out, size)?;
-    put_u16(&mut out, TRANSMISSION_FLAGS)?;
-    if !no_zeroes {
-        out.extend_from_slice(&[0; EXPORT_ZEROS])?;
-    }
-    Ok(out)
+    let zeros: &[u8] = if no_zeroes { &[] } else { &[0; EXPORT_ZEROS] };
+    out.reserve(EXPORT_LEN + zeros.len())?;
+    put_u64(out, size);
+    put_u16(out, TRANSMISSION_FLAGS);
+    out.extend_reserved(zeros);
+    Ok(())
 }

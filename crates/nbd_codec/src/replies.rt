@@ -1,11 +1,12 @@
 //! Simple replies: doc/proto.md, "Simple reply message".
 
-ghost use Rattle.std.specs.Prelude.{◌≡◌, ◌++◌, IfOk, OnOk};
-ghost use Rattle.nbd_codec.specs.Reply.{error_number, reply_view, spelling};
+ghost use Rattle.std.specs.Prelude.{◌≡◌, ◌+◌, ◌<◌, ◌++◌, length, OnErr, OnOk};
+ghost use Rattle.nbd_codec.specs.Reply.{error_number, reply_spelling, reply_view, spelling};
 
 use crate::constants::*;
 use crate::numbers::{put_u32, put_u64};
-use std::alloc::{AllocError, Global};
+use bytes::BytesMut;
+use std::alloc::AllocError;
 
 /// The error that a reply carries.
 #[derive(Clone, Copy, Debug, PartialEq, Eq)]
@@ -36,28 +37,40 @@ impl NbdError {
 
 /// The reply to a request: the bytes of a READ that was done, no bytes for another request that was
 /// done, or an error.
-#[derive(Debug, PartialEq, Eq, Drop)]
-pub struct SimpleReply {
+#[derive(Clone, Copy, Debug, PartialEq, Eq)]
+pub struct SimpleReply<'a> {
     /// The cookie of the request.
     pub cookie: u64,
     /// What became of the request. A payload goes out only behind error 0.
-    pub outcome: Result<Vec<u8>, NbdError>,
+    pub outcome: Result<&'a [u8], NbdError>,
 }
 
-/// The one spelling of the reply. It fails only for want of memory.
-pub fn write_reply(alloc: Global, reply: &SimpleReply) -> Result<Vec<u8>, AllocError>
-    ensures { IfOk result (λ bytes. bytes.items ≡ spelling (reply_view reply.now)) }
+/// Puts a reply with this error's number at the end, and the payload behind it.
+fn put_reply(out: &mut BytesMut, cookie: u64, number: u32, payload: &[u8]) -> Result<(), AllocError>
+    ensures ok { OnOk result (out.new.items ≡ out.old.items
+        ++ reply_spelling number cookie payload.now) }
+    ensures err { OnErr result (out.new.items ≡ out.old.items) }
+    ensures short { OnErr result (out.old.spare < REPLY_HEADER + length payload.now) }
 {
-    let number = match &reply.outcome {
-        Ok(_) => NO_ERROR,
-        Err(error) => error.number(),
-    };
-    let mut out = Vec::new(alloc);
-    put_u32(&mut out, SIMPLE_REPLY_MAGIC)?;
-    put_u32(&mut out, number)?;
-    put_u64(&mut out, reply.cookie)?;
-    if let Ok(payload) = &reply.outcome {
-        out.extend_from_slice(payload)?;
+    out.reserve(REPLY_HEADER + payload.len())?;
+    put_u32(out, SIMPLE_REPLY_MAGIC);
+    put_u32(out, number);
+    put_u64(out, cookie);
+    out.extend_reserved(payload);
+    Ok(())
+}
+
+/// Puts the one spelling of the reply at the end, with one growth at most. It fails only for want of
+/// memory.
+pub fn write_reply(out: &mut BytesMut, reply: &SimpleReply) -> Result<(), AllocError>
+    ensures ok { OnOk result (out.new.items ≡ out.old.items ++ spelling (reply_view reply.now)) }
+    // A refused growth leaves what was there.
+    ensures err { OnErr result (out.new.items ≡ out.old.items) }
+    // It is asked for only where the room is too small.
+    ensures short { OnErr result (out.old.spare < length (spelling (reply_view reply.now))) }
+{
+    match reply.outcome {
+        Ok(payload) => put_reply(out, reply.cookie, NO_ERROR, payload),
+        Err(error) => put_reply(out, reply.cookie, error.number(), &[]),
     }
-    Ok(out)
 }

@@ -1,19 +1,18 @@
 //! Requests: doc/proto.md, "Request message".
 
-ghost use Rattle.std.specs.Prelude.{false, ◌≡◌, ◌≤◌, ◌++◌, List, ℕ, length, IfOk, IsTrue, ◌↔◌, IsBitSet};
+ghost use Rattle.std.specs.Prelude.{false, ◌≡◌, ◌≤◌, ◌++◌, ◌↔◌, List, ℕ, length, slice_range};
 ghost use Rattle.byteorder.specs.Endian.{big_bytes};
 ghost use Rattle.nbd_codec.specs.Fields.{Gives, agrees};
 ghost use Rattle.nbd_codec.specs.Findings.{IfValue, IsFault, IsImpossible, IsProperFront, Takes, seen_by};
-ghost use Rattle.nbd_codec.specs.Request.{HasLongPayload, PlainRequest, IsRequest, spelling, request_view, head_of, head_at, body_at, request_at, request_in, plain};
+ghost use Rattle.nbd_codec.specs.Request.{HasLongPayload, PlainRequest, IsRequest, spelling, request_view, payload_of, head_of, head_at, body_at, request_at, request_in, plain};
 
 use crate::constants::*;
-use crate::fields::{Ending, Stop, limited_u32, magic, taken, u16_at, u32_at, u64_at};
+use crate::fields::{Ending, limited_u32, magic, taken, u16_at, u32_at, u64_at};
 use crate::findings::{Fault, Reading};
-use std::alloc::{AllocError, Global};
 
 /// A request, with what its spelling holds. Offsets and lengths are in bytes.
-#[derive(Debug, PartialEq, Eq, Drop)]
-pub enum Request {
+#[derive(Clone, Copy, Debug, PartialEq, Eq)]
+pub enum Request<'a> {
     /// READ.
     Read {
         flags: u16,
@@ -26,7 +25,7 @@ pub enum Request {
         flags: u16,
         cookie: u64,
         offset: u64,
-        payload: Vec<u8>,
+        payload: &'a [u8],
     },
     /// DISC: the client goes. None of its numbers is looked at.
     Disc {
@@ -52,20 +51,7 @@ pub enum Request {
     },
 }
 
-impl Request {
-    /// The flags.
-    pub fn flags(&self) -> u16
-        ensures { result ≡ (head_of (request_view self.now)).flags }
-    {
-        match *self {
-            Request::Read { flags, .. }
-            | Request::Write { flags, .. }
-            | Request::Disc { flags, .. }
-            | Request::Flush { flags, .. }
-            | Request::Other { flags, .. } => flags,
-        }
-    }
-
+impl Request<'_> {
     /// The cookie, by which the client knows the reply.
     pub fn cookie(&self) -> u64
         ensures { result ≡ (head_of (request_view self.now)).cookie }
@@ -77,13 +63,6 @@ impl Request {
             | Request::Flush { cookie, .. }
             | Request::Other { cookie, .. } => cookie,
         }
-    }
-
-    /// Whether the flag FUA is set: the reply waits until what was written is on permanent storage.
-    pub fn is_fua(&self) -> bool
-        ensures { IsTrue result ↔ IsBitSet ((head_of (request_view self.now)).flags) 0 }
-    {
-        self.flags() & FLAG_FUA != 0
     }
 }
 
@@ -98,7 +77,7 @@ struct Head {
 
 /// The magic and the head.
 #[tactic(auto, unfolding(crate::specs::Request::head_at))]
-fn head_of(bytes: &[u8]) -> Result<(Head, &[u8]), Stop>
+fn head_of(bytes: &[u8]) -> Result<(Head, &[u8]), Ending>
     ensures { Gives (λ x. (x.0, x.1.now)) result (head_at bytes.now) }
 {
     let rest = magic(&REQUEST_MAGIC.to_be_bytes(), Fault::RequestMagic, bytes)?;
@@ -116,7 +95,7 @@ fn head_of(bytes: &[u8]) -> Result<(Head, &[u8]), Stop>
 }
 
 /// The request that has no payload.
-fn without_payload(head: Head, length: u32) -> Request
+fn without_payload(head: Head, length: u32) -> Request<'static>
     ensures { request_view result ≡ plain head length }
 {
     let Head {
@@ -156,12 +135,7 @@ fn without_payload(head: Head, length: u32) -> Request
 
 /// The length, and behind that of a WRITE the payload.
 #[tactic(auto, unfolding(crate::specs::Request::body_at))]
-fn body_of(
-    alloc: Global,
-    head: Head,
-    max_payload: u32,
-    bytes: &[u8],
-) -> Result<(Request, &[u8]), Stop>
+fn body_of(head: Head, max_payload: u32, bytes: &[u8]) -> Result<(Request<'_>, &[u8]), Ending>
     ensures { Gives (λ x. (request_view x.0, x.1.now)) result (body_at max_payload head bytes.now) }
 {
     if head.kind != REQUEST_WRITE {
@@ -170,7 +144,6 @@ fn body_of(
     }
     let (length, rest) = limited_u32(bytes, max_payload, Fault::PayloadTooLong)?;
     let (payload, rest) = taken(rest, length)?;
-    let payload = Vec::from_slice(alloc, payload)?;
     let request = Request::Write {
         flags: head.flags,
         cookie: head.cookie,
@@ -182,66 +155,54 @@ fn body_of(
 
 /// The request at the front, and the bytes after it.
 #[tactic(auto, unfolding(crate::specs::Request::request_at))]
-fn request_of(alloc: Global, bytes: &[u8], max_payload: u32) -> Result<(Request, &[u8]), Stop>
+fn request_of(bytes: &[u8], max_payload: u32) -> Result<(Request<'_>, &[u8]), Ending>
     ensures { Gives (λ x. (request_view x.0, x.1.now)) result
         (request_at max_payload bytes.now) }
 {
     let (head, rest) = head_of(bytes)?;
-    body_of(alloc, head, max_payload, rest)
+    body_of(head, max_payload, rest)
 }
 
 /// What is found at the front, without what follows from it.
-fn find_request(
-    alloc: Global,
-    input: &[u8],
-    max_payload: u32,
-) -> Result<Reading<Request>, AllocError>
-    ensures { IfOk result (λ reading.
-        seen_by request_view reading ≡ request_in max_payload input.now) }
+fn find_request(input: &[u8], max_payload: u32) -> Reading<Request<'_>>
+    ensures { seen_by request_view result ≡ request_in max_payload input.now }
 {
-    match request_of(alloc, input, max_payload) {
-        Ok((request, rest)) => Ok(Reading::Value(request, input.len() - rest.len())),
-        Err(Stop::Ending(Ending::Short)) => Ok(Reading::More),
-        Err(Stop::Ending(Ending::Fault(fault))) => Ok(Reading::Fault(fault)),
-        Err(Stop::Memory) => Err(AllocError),
+    match request_of(input, max_payload) {
+        Ok((request, rest)) => Reading::Value(request, input.len() - rest.len()),
+        Err(Ending::Short) => Reading::More,
+        Err(Ending::Fault(fault)) => Reading::Fault(fault),
     }
 }
 
 /// Reads the request at the front. A WRITE is whole with its payload, of at most `max_payload` bytes.
-/// The session ends at the first byte that can't be of a request that is taken. It fails only for
-/// want of memory, of which it takes as much as the payload has bytes.
-pub fn read_request(
-    alloc: Global,
-    input: &[u8],
-    max_payload: u32,
-) -> Result<Reading<Request>, AllocError>
+/// The session ends at the first byte that can't be of a request that is taken.
+pub fn read_request(input: &[u8], max_payload: u32) -> Reading<Request<'_>>
     // A request stands at the front, spelled so.
-    ensures found { IfOk result (λ reading. IfValue reading (λ request len.
-        Takes spelling (IsRequest max_payload) input.now (request_view request) len)) }
+    ensures found { IfValue result (λ request len.
+        Takes spelling (IsRequest max_payload) input.now (request_view request) len) }
     // It has a whole header, and no more bytes than came.
-    ensures within { IfOk result (λ reading. IfValue reading (λ request len.
-        (REQUEST_HEADER ≤ len) × (len ≤ length input.now))) }
+    ensures within { IfValue result (λ request len.
+        (REQUEST_HEADER ≤ len) × (len ≤ length input.now)) }
+    // Its payload is all behind its header, and none but a WRITE has one.
+    ensures payload { IfValue result (λ request len.
+        slice_range input.now REQUEST_HEADER len ≡ payload_of (request_view request)) }
     // A request that stands at the front is read.
     ensures only { (request : PlainRequest) (rest : List ℕ) →
         IsRequest max_payload request → input.now ≡ spelling request ++ rest →
-        IfOk result (λ reading.
-        seen_by request_view reading ≡ Reading.Value request (length (spelling request))) }
+        seen_by request_view result ≡ Reading.Value request (length (spelling request)) }
     // More is needed exactly where a request has begun and is not whole.
-    ensures more { IfOk result (λ reading.
-        (reading ≡ Reading.More) ↔ IsProperFront spelling (IsRequest max_payload) input.now) }
+    ensures more { (result ≡ Reading.More)
+        ↔ IsProperFront spelling (IsRequest max_payload) input.now }
     // A fault is found exactly where no request can come, however the bytes go on.
-    ensures fault { IfOk result (λ reading.
-        IsFault reading ↔ IsImpossible spelling (IsRequest max_payload) input.now) }
+    ensures fault { IsFault result ↔ IsImpossible spelling (IsRequest max_payload) input.now }
     // The magic is wrong exactly where the bytes differ from it as far as they go.
-    ensures magic { IfOk result (λ reading.
-        (reading ≡ Reading.Fault Fault.RequestMagic)
-        ↔ (agrees (big_bytes 4 REQUEST_MAGIC) input.now ≡ false)) }
+    ensures magic { (result ≡ Reading.Fault Fault.RequestMagic)
+        ↔ (agrees (big_bytes 4 REQUEST_MAGIC) input.now ≡ false) }
     // A payload is too long exactly where a WRITE has begun whose length is above the limit.
-    ensures too_long { IfOk result (λ reading.
-        (reading ≡ Reading.Fault Fault.PayloadTooLong) ↔ HasLongPayload max_payload input.now) }
+    ensures too_long { (result ≡ Reading.Fault Fault.PayloadTooLong)
+        ↔ HasLongPayload max_payload input.now }
     // All of this at once: what reading from left to right gives.
-    ensures exact { IfOk result (λ reading.
-        seen_by request_view reading ≡ request_in max_payload input.now) }
+    ensures exact { seen_by request_view result ≡ request_in max_payload input.now }
 {
-    find_request(alloc, input, max_payload)
+    find_request(input, max_payload)
 }

@@ -1,4 +1,6 @@
+use super::constants::REQUEST_HEADER;
 use super::*;
+use bytes::BytesMut;
 use std::alloc::{AllocError, Global};
 use std::process::Abort;
 use std::test::Fail;
@@ -10,6 +12,12 @@ const SIZE: u64 = 32_768;
 const EXPORT_NAME: &[u8] = b"IHAVEOPT\0\0\0\x01\0\0\0\0";
 
 const LIST: &[u8] = b"IHAVEOPT\0\0\0\x03\0\0\0\0";
+
+const ABORT: &[u8] = b"IHAVEOPT\0\0\0\x02\0\0\0\x02hi";
+
+const LIST_WITH_DATA: &[u8] = b"IHAVEOPT\0\0\0\x03\0\0\0\x01x";
+
+const STARTTLS: &[u8] = b"IHAVEOPT\0\0\0\x05\0\0\0\0";
 
 const LONG_LIST: &[u8] = b"IHAVEOPT\0\0\0\x03\0\0\x10\x01";
 
@@ -31,6 +39,8 @@ const WRITE: &[u8] =
     b"\x25\x60\x95\x13\0\x01\0\x01\0\0\0\0\0\0\0\x01\0\0\0\0\0\0\x0f\xff\0\0\0\x03ABC";
 
 const DISC: &[u8] = b"\x25\x60\x95\x13\0\0\0\x02\0\0\0\0\0\0\0\x03\0\0\0\0\0\0\0\0\0\0\0\0";
+
+const FLUSH: &[u8] = b"\x25\x60\x95\x13\0\0\0\x03\0\0\0\0\0\0\0\x05\0\0\0\0\0\0\0\0\0\0\0\0";
 
 const FAR_READ: &[u8] =
     b"\x25\x60\x95\x13\0\0\0\0\0\0\0\0\0\0\0\x04\xff\xff\xff\xff\xff\xff\xff\xff\xff\xff\xff\xff";
@@ -63,66 +73,56 @@ fn handshake(rt: HostRuntime) {
 }
 
 // The option is read from its whole text, and more is needed wherever that is cut.
-fn option_is(
-    rt: &impl Abort,
-    alloc: Global,
-    text: &[u8],
-    want: ClientOption,
-) -> Result<(), AllocError> {
-    assert_eq!(rt; read_option(alloc, text)?, Reading::Value(want, text.len()));
+fn option_is(rt: &impl Abort, text: &[u8], want: ClientOption) {
+    assert_eq!(rt; read_option(text), Reading::Value(want, text.len()));
     for len in 0..text.len() {
-        assert_eq!(rt;
-            read_option(alloc, &text[..len])?,
-            Reading::More,
-            "cut at {len}"
-        );
+        assert_eq!(rt; read_option(&text[..len]), Reading::More, "cut at {len}");
     }
-    Ok(())
-}
-
-fn asks(alloc: Global, name: &[u8], types: &[u16]) -> Result<InfoData, AllocError> {
-    let name = Vec::from_slice(alloc, name)?;
-    let types = Vec::from_slice(alloc, types)?;
-    Ok(InfoData::Asks { name, types })
 }
 
 #[test]
-fn options(rt: HostRuntime) -> Result<(), Fail> {
-    let alloc = rt.alloc();
-    option_is(&rt, alloc, EXPORT_NAME, ClientOption::ExportName)?;
-    let data = Vec::new(alloc);
-    option_is(&rt, alloc, LIST, ClientOption::List { data })?;
-    let number = 3;
-    for (text, len) in [(LONG_LIST, 4097), (LONGEST_LIST, u32::MAX)] {
-        option_is(&rt, alloc, text, ClientOption::Oversized { number, len })?;
-    }
-    let foreign = read_option(alloc, b"IHAVEOPX")?;
-    assert_eq!(rt; foreign, Reading::Fault(Fault::OptionMagic));
-    Ok(())
-}
-
-#[test]
-fn options_that_ask(rt: HostRuntime) -> Result<(), Fail> {
-    let alloc = rt.alloc();
-    option_is(&rt, alloc, INFO, ClientOption::Info(asks(alloc, b"", &[])?))?;
-    for (text, name, types) in [
-        (GO_SIZES, b"".as_slice(), [3].as_slice()),
-        (GO, b"", &[3, 9]),
-        (GO_TO_X, b"x", &[]),
+fn options(rt: HostRuntime) {
+    let asked = |has_name, block_size| Information::Asked {
+        has_name,
+        block_size,
+    };
+    for (text, want) in [
+        (EXPORT_NAME, ClientOption::ExportName),
+        (ABORT, ClientOption::Abort),
+        (LIST, ClientOption::List { has_data: false }),
+        (LIST_WITH_DATA, ClientOption::List { has_data: true }),
+        (STARTTLS, ClientOption::Other { number: 5 }),
+        (INFO, ClientOption::Info(asked(false, false))),
+        (GO, ClientOption::Go(asked(false, true))),
+        (GO_SIZES, ClientOption::Go(asked(false, true))),
+        (GO_TO_X, ClientOption::Go(asked(true, false))),
+        (GO_NOWHERE, ClientOption::Go(Information::Malformed)),
+        (
+            LONG_LIST,
+            ClientOption::Oversized {
+                number: 3,
+                len: 4097,
+            },
+        ),
+        (
+            LONGEST_LIST,
+            ClientOption::Oversized {
+                number: 3,
+                len: u32::MAX,
+            },
+        ),
     ] {
-        let asked = asks(alloc, name, types)?;
-        option_is(&rt, alloc, text, ClientOption::Go(asked))?;
+        option_is(&rt, text, want);
     }
-    let data = Vec::from_slice(alloc, b"\xff\xff\xff\xff")?;
-    let malformed = InfoData::Malformed { data };
-    option_is(&rt, alloc, GO_NOWHERE, ClientOption::Go(malformed))?;
-    Ok(())
+    assert_eq!(rt;
+        read_option(b"IHAVEOPX"),
+        Reading::Fault(Fault::OptionMagic)
+    );
 }
 
 // The first byte of the name's length that isn't 0 ends the session, and before it more is needed.
 #[test]
-fn other_exports(rt: HostRuntime) -> Result<(), Fail> {
-    let alloc = rt.alloc();
+fn other_exports(rt: HostRuntime) {
     for (text, end) in [
         (b"IHAVEOPT\0\0\0\x01\0\0\0\x01x".as_slice(), 16),
         (b"IHAVEOPT\0\0\0\x01\0\0\x10\0x", 15),
@@ -135,14 +135,12 @@ fn other_exports(rt: HostRuntime) -> Result<(), Fail> {
             } else {
                 Reading::Fault(Fault::ExportName)
             };
-            let found = read_option(alloc, &text[..len])?;
-            assert_eq!(rt; found, want, "{len} bytes of {text:?}");
+            assert_eq!(rt; read_option(&text[..len]), want, "{len} bytes of {text:?}");
         }
     }
-    Ok(())
 }
 
-// The reply is the magic, and behind it what is wanted.
+// Behind what was there the reply is the magic, and then what is wanted.
 fn reply_is(
     rt: &impl Abort,
     alloc: Global,
@@ -150,11 +148,13 @@ fn reply_is(
     reply: OptionReply,
     want: &[u8],
 ) -> Result<(), AllocError> {
-    let magic = b"\0\x03\xe8\x89\x04\x55\x65\xa9";
-    let written = write_option_reply(alloc, option, &reply)?;
-    assert!(rt; written.starts_with(magic), "{reply:?}");
-    assert!(rt; written.ends_with(want), "{reply:?}");
-    assert_eq!(rt; written.len(), magic.len() + want.len());
+    let front = b"before\0\x03\xe8\x89\x04\x55\x65\xa9";
+    let mut out = BytesMut::new(alloc);
+    out.extend_from_slice(b"before")?;
+    write_option_reply(&mut out, option, reply)?;
+    assert!(rt; out.starts_with(front), "{reply:?}");
+    assert!(rt; out.ends_with(want), "{reply:?}");
+    assert_eq!(rt; out.len(), front.len() + want.len());
     Ok(())
 }
 
@@ -213,37 +213,30 @@ fn option_replies_with_data(rt: HostRuntime) -> Result<(), Fail> {
 
 #[test]
 fn exports(rt: HostRuntime) -> Result<(), Fail> {
-    let alloc = rt.alloc();
     let export = b"\0\0\0\0\0\0\x80\0\x01\x0d";
-    assert_eq!(rt;
-        write_export(alloc, SIZE, true)?.as_slice(),
-        export.as_slice()
-    );
-    let padded = write_export(alloc, SIZE, false)?;
-    assert_eq!(rt; padded.len(), 134);
-    assert!(rt; padded.starts_with(export));
+    let mut out = BytesMut::new(rt.alloc());
+    write_export(&mut out, SIZE, true)?;
+    assert_eq!(rt; out.as_slice(), export.as_slice());
+    write_export(&mut out, SIZE, false)?;
+    assert_eq!(rt; out.len(), 144);
+    assert!(rt; out[10..].starts_with(export));
+    assert!(rt; out[20..].iter().all(|b| *b == 0));
     Ok(())
 }
 
 // The request is read from its whole text, and more is needed wherever that is cut.
-fn request_is(
-    rt: &impl Abort,
-    alloc: Global,
-    text: &[u8],
-    want: Request,
-) -> Result<(), AllocError> {
+fn request_is(rt: &impl Abort, text: &[u8], want: Request) {
     assert_eq!(rt;
-        read_request(alloc, text, MAX_PAYLOAD)?,
+        read_request(text, MAX_PAYLOAD),
         Reading::Value(want, text.len())
     );
     for len in 0..text.len() {
-        let cut = read_request(alloc, &text[..len], MAX_PAYLOAD)?;
+        let cut = read_request(&text[..len], MAX_PAYLOAD);
         assert_eq!(rt; cut, Reading::More, "cut at {len}");
     }
-    Ok(())
 }
 
-fn read_of(flags: u16, offset: u64, length: u32) -> Request {
+fn read_of(flags: u16, offset: u64, length: u32) -> Request<'static> {
     let cookie = 2;
     Request::Read {
         flags,
@@ -253,79 +246,109 @@ fn read_of(flags: u16, offset: u64, length: u32) -> Request {
     }
 }
 
-fn write_of(alloc: Global, offset: u64, payload: &[u8]) -> Result<Request, AllocError> {
-    let payload = Vec::from_slice(alloc, payload)?;
-    Ok(Request::Write {
-        flags: 1,
-        cookie: 1,
+fn write_of(flags: u16, offset: u64, payload: &[u8]) -> Request<'_> {
+    let cookie = 1;
+    Request::Write {
+        flags,
+        cookie,
         offset,
         payload,
-    })
+    }
+}
+
+fn flush_of(flags: u16, offset: u64, length: u32) -> Request<'static> {
+    let cookie = 5;
+    Request::Flush {
+        flags,
+        cookie,
+        offset,
+        length,
+    }
 }
 
 #[test]
-fn requests(rt: HostRuntime) -> Result<(), Fail> {
-    let alloc = rt.alloc();
-    request_is(&rt, alloc, READ, read_of(0, 4094, 5))?;
-    request_is(&rt, alloc, WRITE, write_of(alloc, 4095, b"ABC")?)?;
-    request_is(
-        &rt,
-        alloc,
-        DISC,
-        Request::Disc {
-            flags: 0,
-            cookie: 3,
-            offset: 0,
-            length: 0,
-        },
-    )?;
+fn requests(rt: HostRuntime) {
+    let disc = Request::Disc {
+        flags: 0,
+        cookie: 3,
+        offset: 0,
+        length: 0,
+    };
     let far = Request::Read {
         flags: 0,
         cookie: 4,
         offset: u64::MAX,
         length: u32::MAX,
     };
-    request_is(&rt, alloc, FAR_READ, far)?;
+    for (text, want) in [
+        (READ, read_of(0, 4094, 5)),
+        (WRITE, write_of(1, 4095, b"ABC")),
+        (DISC, disc),
+        (FLUSH, flush_of(0, 0, 0)),
+        (FAR_READ, far),
+    ] {
+        request_is(&rt, text, want);
+    }
+    assert_eq!(rt; &WRITE[REQUEST_HEADER..], b"ABC".as_slice());
+    assert_eq!(rt; write_of(1, 4095, b"ABC").cookie(), 1);
+    for (text, fault) in [
+        (b"\x25\x60\x95\x12".as_slice(), Fault::RequestMagic),
+        (LONG_WRITE, Fault::PayloadTooLong),
+    ] {
+        assert_eq!(rt; read_request(text, MAX_PAYLOAD), Reading::Fault(fault));
+    }
+}
 
-    let foreign = read_request(alloc, b"\x25\x60\x95\x12", MAX_PAYLOAD)?;
-    assert_eq!(rt; foreign, Reading::Fault(Fault::RequestMagic));
-    let long = read_request(alloc, LONG_WRITE, MAX_PAYLOAD)?;
-    assert_eq!(rt; long, Reading::Fault(Fault::PayloadTooLong));
-    let write = write_of(alloc, 0, b"")?;
-    assert!(rt; write.is_fua());
-    assert_eq!(rt; (write.flags(), write.cookie()), (1, 1));
-    Ok(())
+// What becomes of each request is what is wanted.
+fn checks_are(rt: &impl Abort, rows: &[(Request, Checked)]) {
+    for (request, want) in rows {
+        assert_eq!(rt; check(request, SIZE, MAX_PAYLOAD), *want, "{request:?}");
+    }
+}
+
+const INVALID: Checked = Checked::Refused(NbdError::Invalid);
+
+#[test]
+fn checks_of_reads(rt: HostRuntime) {
+    let read = |offset| Checked::Volume(Ask::Read { offset, length: 4 });
+    checks_are(
+        &rt,
+        &[
+            (read_of(0, 32_764, 4), read(32_764)),
+            (read_of(1, 0, 4), read(0)),
+            (read_of(0, 32_765, 4), INVALID),
+            (read_of(0x20, 0, 4), INVALID),
+            (read_of(0, 0, MAX_PAYLOAD + 1), INVALID),
+            (read_of(0, u64::MAX, u32::MAX), INVALID),
+            (read_of(0, 32_768, 0), Checked::Done),
+        ],
+    );
 }
 
 #[test]
-fn checks_of_ranges(rt: HostRuntime) -> Result<(), Fail> {
-    let alloc = rt.alloc();
-    let invalid = Checked::Refused(NbdError::Invalid);
+fn checks_of_writes(rt: HostRuntime) {
     let no_space = Checked::Refused(NbdError::NoSpace);
-    let four = b"four";
-    for (request, want) in [
-        (read_of(0, 32_764, 4), Checked::Volume),
-        (read_of(0, 32_765, 4), invalid),
-        (read_of(0x20, 0, 4), invalid),
-        (read_of(0, u64::MAX, u32::MAX), invalid),
-        (read_of(0, 32_768, 0), Checked::Done),
-        (write_of(alloc, 32_764, four)?, Checked::Volume),
-        (write_of(alloc, 32_765, four)?, no_space),
-        (write_of(alloc, 32_768, b"")?, Checked::Done),
-    ] {
-        assert_eq!(rt; check(&request, SIZE, MAX_PAYLOAD), want, "{request:?}");
-    }
-    Ok(())
+    let write = |fua| {
+        Checked::Volume(Ask::Write {
+            offset: 32_764,
+            length: 4,
+            fua,
+        })
+    };
+    checks_are(
+        &rt,
+        &[
+            (write_of(0, 32_764, b"four"), write(false)),
+            (write_of(1, 32_764, b"four"), write(true)),
+            (write_of(2, 32_764, b"four"), INVALID),
+            (write_of(1, 32_765, b"four"), no_space),
+            (write_of(1, 32_768, b""), Checked::Done),
+        ],
+    );
 }
 
 #[test]
 fn checks_of_others(rt: HostRuntime) {
-    let flush = Request::Flush {
-        flags: 0,
-        cookie: 5,
-        offset: 0,
-        length: 1,
-    };
     let other = Request::Other {
         kind: 9,
         flags: 0,
@@ -339,27 +362,30 @@ fn checks_of_others(rt: HostRuntime) {
         offset: 9,
         length: 9,
     };
-    let invalid = Checked::Refused(NbdError::Invalid);
-    for (request, want) in [
-        (flush, invalid),
-        (other, invalid),
-        (disc, Checked::Disconnect),
-    ] {
-        assert_eq!(rt; check(&request, SIZE, MAX_PAYLOAD), want, "{request:?}");
-    }
+    checks_are(
+        &rt,
+        &[
+            (flush_of(0, 0, 0), Checked::Volume(Ask::Flush)),
+            (flush_of(1, 0, 0), Checked::Volume(Ask::Flush)),
+            (flush_of(2, 0, 0), INVALID),
+            (flush_of(0, 0, 1), INVALID),
+            (flush_of(0, 1, 0), INVALID),
+            (other, INVALID),
+            (disc, Checked::Disconnect),
+        ],
+    );
 }
 
 #[test]
 fn replies(rt: HostRuntime) -> Result<(), Fail> {
-    let alloc = rt.alloc();
-    let payload = Vec::from_slice(alloc, b"\0ABC\0")?;
+    let mut out = BytesMut::new(rt.alloc());
     for (outcome, want) in [
         (
-            Ok(payload),
+            Ok(b"\0ABC\0".as_slice()),
             b"\x67\x44\x66\x98\0\0\0\0\0\0\0\0\0\0\0\x02\0ABC\0".as_slice(),
         ),
         (
-            Ok(Vec::new(alloc)),
+            Ok(b"".as_slice()),
             b"\x67\x44\x66\x98\0\0\0\0\0\0\0\0\0\0\0\x02",
         ),
         (
@@ -379,8 +405,10 @@ fn replies(rt: HostRuntime) -> Result<(), Fail> {
             b"\x67\x44\x66\x98\0\0\0\x1c\0\0\0\0\0\0\0\x02",
         ),
     ] {
+        let before = out.len();
         let reply = SimpleReply { cookie: 2, outcome };
-        assert_eq!(rt; write_reply(alloc, &reply)?.as_slice(), want, "{reply:?}");
+        write_reply(&mut out, &reply)?;
+        assert_eq!(rt; &out[before..], want, "{reply:?}");
     }
     Ok(())
 }

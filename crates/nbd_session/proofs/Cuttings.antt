@@ -17,107 +17,107 @@ use Rattle.nbd_codec.specs.Handshake.{AreFlags, flags_in, flags_spelling}
 use Rattle.nbd_codec.specs.Laws.{IsKept, IsSpelled}
 use Rattle.nbd_codec.specs.OptionReply.{option_reply_spelling}
 use Rattle.nbd_codec.specs.Request.{IsRequest, PlainRequest, request_in, spelling as request_spelling}
-use Rattle.nbd_session.specs.declared.negotiation.Export.{Export}
+use Rattle.nbd_session.specs.declared.answer.Export.{Export}
 use Rattle.nbd_session.specs.declared.phase.Phase.{Phase}
 use Rattle.nbd_session.specs.declared.phase.Phase.TheVariants.{Greeted, Negotiating, Skipping, Transmitting, Leaving, Over}
 use Rattle.nbd_session.specs.Demand.{Asked}
 use Rattle.nbd_session.specs.Laws.{CuttingsAgree, FeedsInOneWay}
-use Rattle.nbd_session.specs.Session.{Course, IsDone, Settles, State, after_turn, fed, is_free, limit_in_flight, more_in_flight, play, step}
-use Rattle.nbd_session.specs.Turn.{Turned, checked_turn, flags_turn, is_over, option_turn, phase_after, request_turn, skip_turn, turn_in}
-use Rattle.nbd_session.proofs.Courses.{done_stays, is_over-phase_after, limited, over_stays, turns}
+use Rattle.nbd_session.specs.Session.{Course, IsDone, Settles, State, after_progress, fed, is_free, limit_in_flight, more_in_flight, play, step}
+use Rattle.nbd_session.specs.Progress.{Progress, checked_progress, flags_progress, is_over, option_progress, phase_after, request_progress, skip_progress, progress_in}
+use Rattle.nbd_session.proofs.Courses.{done_stays, is_over-phase_after, limited, over_stays, progresses}
 
 -- ---- more input
 
 abbrev pub more : List ℕ → Course → Course
 more text c = record c { session = record c.session { kept = c.session.kept ++ text } }
 
--- a turn that is the same whatever follows the input
-record Stays (export : Export) (phase : Phase) (input : List ℕ) (turn : Turned) : Type 0 where
-  same : (text : List ℕ) → turn_in export phase (input ++ text) ≡ Some turn
-  within : turn.taken ≤ length input
+-- a step that is the same whatever follows the input
+record Stays (export : Export) (phase : Phase) (input : List ℕ) (progress : Progress) : Type 0 where
+  same : (text : List ℕ) → progress_in export phase (input ++ text) ≡ Some progress
+  within : progress.used ≤ length input
 
-taken_within : {A : Type 0} (spelling : A → List ℕ) (Fits : A → Type 0) (bytes : List ℕ) (x : A) (n : ℕ) → Takes spelling Fits bytes x n → n ≤ length bytes
-taken_within spelling Fits bytes x n w = omega (arith, w.len, ap length w.whole, length-append (spelling x) (drop n bytes))
+used_within : {A : Type 0} (spelling : A → List ℕ) (Fits : A → Type 0) (bytes : List ℕ) (x : A) (n : ℕ) → Takes spelling Fits bytes x n → n ≤ length bytes
+used_within spelling Fits bytes x n w = omega (arith, w.len, ap length w.whole, length-append (spelling x) (drop n bytes))
 
 pub some_is : {A : Type 0} {x y : A} → Some x ≡ Some y → x ≡ y
 some_is is = cc
 
-flags_stay : (export : Export) (input : List ℕ) (turn : Turned) → IsKept flags_in → IsSpelled flags_spelling AreFlags flags_in → AreBytes input → flags_turn (length input) (flags_in input) ≡ Some turn → is_over turn.phase ≡ false → Stays export Greeted input turn
-unfolding turn_in
-flags_stay export input turn kept spelled bytes is open_still = go (flags_in input) refl is
+flags_stay : (export : Export) (input : List ℕ) (progress : Progress) → IsKept flags_in → IsSpelled flags_spelling AreFlags flags_in → AreBytes input → flags_progress (length input) (flags_in input) ≡ Some progress → is_over progress.phase ≡ false → Stays export Greeted input progress
+unfolding progress_in
+flags_stay export input progress kept spelled bytes is open_still = go (flags_in input) refl is
   where
-    go : (reading : Reading Flags) → flags_in input ≡ reading → flags_turn (length input) reading ≡ Some turn → Stays export Greeted input turn
+    go : (reading : Reading Flags) → flags_in input ≡ reading → flags_progress (length input) reading ≡ Some progress → Stays export Greeted input progress
     go (Value flags len) found is = record {
-      same = λ text. ap (flags_turn (length (input ++ text))) (kept input text bytes (λ none. let wrong = sym found ∙ none in absurd cc) ∙ found) ∙ is;
-      within = subst (λ n. n ≤ length input) (ap (λ t. t.taken) (some_is is)) (taken_within flags_spelling AreFlags input flags len (spelled.value input flags len bytes found));
+      same = λ text. ap (flags_progress (length (input ++ text))) (kept input text bytes (λ none. let wrong = sym found ∙ none in absurd cc) ∙ found) ∙ is;
+      within = subst (λ n. n ≤ length input) (ap (λ t. t.used) (some_is is)) (used_within flags_spelling AreFlags input flags len (spelled.value input flags len bytes found));
     }
     go More found is = absurd cc
-    go (Fault fault) found is = let over : true ≡ is_over turn.phase = ap (λ t. is_over t.phase) (some_is is) in absurd cc
+    go (Fault fault) found is = let over : true ≡ is_over progress.phase = ap (λ t. is_over t.phase) (some_is is) in absurd cc
 
-option_stays : (export : Export) (no_zeroes : Bool) (input : List ℕ) (turn : Turned) → IsKept option_in → IsSpelled option_spelling IsOption option_in → AreBytes input → option_turn export no_zeroes (length input) (option_in input) ≡ Some turn → is_over turn.phase ≡ false
-    → Stays export (Negotiating no_zeroes) input turn
-unfolding turn_in
-option_stays export no_zeroes input turn kept spelled bytes is open_still = go (option_in input) refl is
+option_stays : (export : Export) (no_zeroes : Bool) (input : List ℕ) (progress : Progress) → IsKept option_in → IsSpelled option_spelling IsOption option_in → AreBytes input → option_progress export no_zeroes (length input) (option_in input) ≡ Some progress → is_over progress.phase ≡ false
+    → Stays export (Negotiating no_zeroes) input progress
+unfolding progress_in
+option_stays export no_zeroes input progress kept spelled bytes is open_still = go (option_in input) refl is
   where
-    go : (reading : Reading PlainOption) → option_in input ≡ reading → option_turn export no_zeroes (length input) reading ≡ Some turn → Stays export (Negotiating no_zeroes) input turn
+    go : (reading : Reading PlainOption) → option_in input ≡ reading → option_progress export no_zeroes (length input) reading ≡ Some progress → Stays export (Negotiating no_zeroes) input progress
     go (Value option len) found is = record {
-      same = λ text. ap (option_turn export no_zeroes (length (input ++ text))) (kept input text bytes (λ none. let wrong = sym found ∙ none in absurd cc) ∙ found) ∙ is;
-      within = subst (λ n. n ≤ length input) (ap (λ t. t.taken) (some_is is)) (taken_within option_spelling IsOption input option len (spelled.value input option len bytes found));
+      same = λ text. ap (option_progress export no_zeroes (length (input ++ text))) (kept input text bytes (λ none. let wrong = sym found ∙ none in absurd cc) ∙ found) ∙ is;
+      within = subst (λ n. n ≤ length input) (ap (λ t. t.used) (some_is is)) (used_within option_spelling IsOption input option len (spelled.value input option len bytes found));
     }
     go More found is = absurd cc
-    go (Fault fault) found is = let over : true ≡ is_over turn.phase = ap (λ t. is_over t.phase) (some_is is) in absurd cc
+    go (Fault fault) found is = let over : true ≡ is_over progress.phase = ap (λ t. is_over t.phase) (some_is is) in absurd cc
 
-pub checked_taken : (request : PlainRequest) (len : ℕ) (how : Checked) → (checked_turn request len how).taken ≡ len
-checked_taken request len checks.Volume = refl
-checked_taken request len checks.Done = refl
-checked_taken request len (checks.Refused error) = refl
-checked_taken request len checks.Disconnect = refl
+pub checked_used : (request : PlainRequest) (len : ℕ) (how : Checked) → (checked_progress request len how).used ≡ len
+checked_used request len (checks.Volume ask) = refl
+checked_used request len checks.Done = refl
+checked_used request len (checks.Refused error) = refl
+checked_used request len checks.Disconnect = refl
 
-request_stays : (export : Export) (input : List ℕ) (turn : Turned) → IsKept (request_in export.max_payload) → IsSpelled request_spelling (IsRequest export.max_payload) (request_in export.max_payload) → AreBytes input → request_turn export (length input) (request_in export.max_payload input) ≡ Some turn → is_over turn.phase ≡ false
-    → Stays export Transmitting input turn
-unfolding turn_in
-request_stays export input turn kept spelled bytes is open_still = go (request_in export.max_payload input) refl is
+request_stays : (export : Export) (input : List ℕ) (progress : Progress) → IsKept (request_in export.max_payload) → IsSpelled request_spelling (IsRequest export.max_payload) (request_in export.max_payload) → AreBytes input → request_progress export (length input) (request_in export.max_payload input) ≡ Some progress → is_over progress.phase ≡ false
+    → Stays export Transmitting input progress
+unfolding progress_in
+request_stays export input progress kept spelled bytes is open_still = go (request_in export.max_payload input) refl is
   where
-    go : (reading : Reading PlainRequest) → request_in export.max_payload input ≡ reading → request_turn export (length input) reading ≡ Some turn → Stays export Transmitting input turn
+    go : (reading : Reading PlainRequest) → request_in export.max_payload input ≡ reading → request_progress export (length input) reading ≡ Some progress → Stays export Transmitting input progress
     go (Value request len) found is = record {
-      same = λ text. ap (request_turn export (length (input ++ text))) (kept input text bytes (λ none. let wrong = sym found ∙ none in absurd cc) ∙ found) ∙ is;
-      within = subst (λ n. n ≤ length input) (sym (checked_taken request len (checked export.size export.max_payload request)) ∙ ap (λ t. t.taken) (some_is is)) (taken_within request_spelling (IsRequest export.max_payload) input request len (spelled.value input request len bytes found));
+      same = λ text. ap (request_progress export (length (input ++ text))) (kept input text bytes (λ none. let wrong = sym found ∙ none in absurd cc) ∙ found) ∙ is;
+      within = subst (λ n. n ≤ length input) (sym (checked_used request len (checked export.size export.max_payload request)) ∙ ap (λ t. t.used) (some_is is)) (used_within request_spelling (IsRequest export.max_payload) input request len (spelled.value input request len bytes found));
     }
     go More found is = absurd cc
-    go (Fault fault) found is = let over : true ≡ is_over turn.phase = ap (λ t. is_over t.phase) (some_is is) in absurd cc
+    go (Fault fault) found is = let over : true ≡ is_over progress.phase = ap (λ t. is_over t.phase) (some_is is) in absurd cc
 
 -- the end of the data that is passed over came, or less than that
-abbrev pub passed : Bool → ℕ → ℕ → Turned
-passed no_zeroes option left = record { phase = Negotiating no_zeroes; taken = left; output = option_reply_spelling option ErrTooBig; asked = None }
+abbrev pub passed : Bool → ℕ → ℕ → Progress
+passed no_zeroes option left = record { phase = Negotiating no_zeroes; used = left; output = option_reply_spelling option ErrTooBig; asked = None }
 
-abbrev pub passing : Bool → ℕ → ℕ → ℕ → Turned
-passing no_zeroes option left came = record { phase = Skipping no_zeroes option (left - came); taken = came; output = []; asked = None }
+abbrev pub passing : Bool → ℕ → ℕ → ℕ → Progress
+passing no_zeroes option left came = record { phase = Skipping no_zeroes option (left - came); used = came; output = []; asked = None }
 
-pub skip_passed : (no_zeroes : Bool) (option left came : ℕ) → 0 < came → left ≤ came → skip_turn no_zeroes option left came ≡ Some (passed no_zeroes option left)
+pub skip_passed : (no_zeroes : Bool) (option left came : ℕ) → 0 < came → left ≤ came → skip_progress no_zeroes option left came ≡ Some (passed no_zeroes option left)
 skip_passed no_zeroes option left came some enough =
     cond-false (nat_eq came 0) _ _ (ne_eqb came 0 (λ e. omega arith)) ∙ cond-false (nat_lt came left) _ _ (le-ltb came left enough)
 
-pub skip_passing : (no_zeroes : Bool) (option left came : ℕ) → 0 < came → came < left → skip_turn no_zeroes option left came ≡ Some (passing no_zeroes option left came)
+pub skip_passing : (no_zeroes : Bool) (option left came : ℕ) → 0 < came → came < left → skip_progress no_zeroes option left came ≡ Some (passing no_zeroes option left came)
 skip_passing no_zeroes option left came some less =
     cond-false (nat_eq came 0) _ _ (ne_eqb came 0 (λ e. omega arith)) ∙ cond-true (nat_lt came left) _ _ (lt-ltb came left less)
 
-pub skip_none : (no_zeroes : Bool) (option left came : ℕ) → came ≡ 0 → skip_turn no_zeroes option left came ≡ None
+pub skip_none : (no_zeroes : Bool) (option left came : ℕ) → came ≡ 0 → skip_progress no_zeroes option left came ≡ None
 skip_none no_zeroes option left came is = cond-true (nat_eq came 0) _ _ (eq-eqb came 0 is)
 
 -- the course at another place
 abbrev placed : Course → Phase → (kept output : List ℕ) → Course
 placed c phase kept output = record { session = record c.session { phase = phase; kept = kept; output = output }; asked = c.asked }
 
--- the course after a turn that doesn't end the session, with this input left
-abbrev pub moved : Course → Turned → List ℕ → Course
-moved c turn kept = record {
+-- the course after a step that doesn't end the session, with this input left
+abbrev pub moved : Course → Progress → List ℕ → Course
+moved c progress kept = record {
   session = record c.session {
-    phase = phase_after turn.phase c.session.in_flight;
-    in_flight = more_in_flight c.session.in_flight turn.asked;
+    phase = phase_after progress.phase c.session.in_flight;
+    in_flight = more_in_flight c.session.in_flight progress.asked;
     kept = kept;
-    output = c.session.output ++ turn.output;
+    output = c.session.output ++ progress.output;
   };
-  asked = c.asked ++ option_to_list turn.asked;
+  asked = c.asked ++ option_to_list progress.asked;
 }
 
 none_is_nil : (text : List ℕ) → length text ≡ 0 → text ≡ []
@@ -132,7 +132,7 @@ pub record Keeps (old new : State) : Type 0 where
 module _ (limit : Option ℕ) where
   -- ---- settling
 
-  -- once no turn comes, none does
+  -- once no step comes, none does
   pub play_done : (n : ℕ) (c : Course) → step limit c ≡ c → play limit n c ≡ c
   play_done zero c done = refl
   play_done (suc n) c done = ap (play limit n) done ∙ play_done n c done
@@ -144,54 +144,54 @@ module _ (limit : Option ℕ) where
 
   -- a course settles in one way
   pub one_way : (c d e : Course) → Settles limit c d → Settles limit c e → d ≡ e
-  one_way c d e one other = one_end one.turns other.turns c d e one.there (done_stays limit d one.done) other.there (done_stays limit e other.done)
+  one_way c d e one other = one_end one.steps other.steps c d e one.there (done_stays limit d one.done) other.there (done_stays limit e other.done)
 
   pub before : (c d : Course) → Settles limit (step limit c) d → Settles limit c d
-  before c d settles = record { turns = suc settles.turns; there = settles.there; done = settles.done }
+  before c d settles = record { steps = suc settles.steps; there = settles.there; done = settles.done }
 
-  behind_turns : (n : ℕ) (c d : Course) → play limit n c ≡ d → IsDone limit d → Settles limit (step limit c) d
-  behind_turns zero c d there done = record { turns = 0; there = ap (step limit) there ∙ done_stays limit d done; done = done }
-  behind_turns (suc n) c d there done = record { turns = n; there = there; done = done }
+  behind_steps : (n : ℕ) (c d : Course) → play limit n c ≡ d → IsDone limit d → Settles limit (step limit c) d
+  behind_steps zero c d there done = record { steps = 0; there = ap (step limit) there ∙ done_stays limit d done; done = done }
+  behind_steps (suc n) c d there done = record { steps = n; there = there; done = done }
 
-  -- courses with one next turn settle alike
+  -- courses with one next step settle alike
   joined : (c e d : Course) → step limit c ≡ step limit e → Settles limit e d → Settles limit c d
-  joined c e d same settles = before c d (subst (λ x. Settles limit x d) (sym same) (behind_turns settles.turns e d settles.there settles.done))
+  joined c e d same settles = before c d (subst (λ x. Settles limit x d) (sym same) (behind_steps settles.steps e d settles.there settles.done))
 
-  pub is_moved : (c : Course) (turn : Turned) → is_free limit c.session.in_flight ≡ true → turn_in c.session.export c.session.phase c.session.kept ≡ Some turn → is_over turn.phase ≡ false → step limit c ≡ moved c turn (drop turn.taken c.session.kept)
-  is_moved c turn free is open_still = turns limit c (Some turn) free is ∙ cond-false (is_over turn.phase) _ _ open_still
+  pub is_moved : (c : Course) (progress : Progress) → is_free limit c.session.in_flight ≡ true → progress_in c.session.export c.session.phase c.session.kept ≡ Some progress → is_over progress.phase ≡ false → step limit c ≡ moved c progress (drop progress.used c.session.kept)
+  is_moved c progress free is open_still = progresses limit c (Some progress) free is ∙ cond-false (is_over progress.phase) _ _ open_still
 
-  -- a turn that stays may come before more input or after it
-  stays_more : (c : Course) (turn : Turned) (text : List ℕ) → is_free limit c.session.in_flight ≡ true → turn_in c.session.export c.session.phase c.session.kept ≡ Some turn → is_over turn.phase ≡ false
-      → Stays c.session.export c.session.phase c.session.kept turn → step limit (more text c) ≡ more text (step limit c)
-  stays_more c turn text free is open_still stays =
-      is_moved (more text c) turn free (stays.same text) open_still
-      ∙ ap (moved c turn) (drop-append-le turn.taken c.session.kept text stays.within)
-      ∙ sym (ap (more text) (is_moved c turn free is open_still))
+  -- a step that stays may come before more input or after it
+  stays_more : (c : Course) (progress : Progress) (text : List ℕ) → is_free limit c.session.in_flight ≡ true → progress_in c.session.export c.session.phase c.session.kept ≡ Some progress → is_over progress.phase ≡ false
+      → Stays c.session.export c.session.phase c.session.kept progress → step limit (more text c) ≡ more text (step limit c)
+  stays_more c progress text free is open_still stays =
+      is_moved (more text c) progress free (stays.same text) open_still
+      ∙ ap (moved c progress) (drop-append-le progress.used c.session.kept text stays.within)
+      ∙ sym (ap (more text) (is_moved c progress free is open_still))
 
   -- ---- data that is passed over
 
   module _ (c : Course) (no_zeroes : Bool) (option left : ℕ) (phase : c.session.phase ≡ Skipping no_zeroes option left) (free : is_free limit c.session.in_flight ≡ true) where
-    at_turn : (turn : Option Turned) → skip_turn no_zeroes option left (length c.session.kept) ≡ turn → turn_in c.session.export c.session.phase c.session.kept ≡ turn
-    unfolding turn_in
-    at_turn turn is = ap (λ p. turn_in c.session.export p c.session.kept) phase ∙ is
+    at_progress : (progress : Option Progress) → skip_progress no_zeroes option left (length c.session.kept) ≡ progress → progress_in c.session.export c.session.phase c.session.kept ≡ progress
+    unfolding progress_in
+    at_progress progress is = ap (λ p. progress_in c.session.export p c.session.kept) phase ∙ is
 
     step_none : length c.session.kept ≡ 0 → step limit c ≡ c
-    step_none none = turns limit c None free (at_turn None (skip_none no_zeroes option left _ none))
+    step_none none = progresses limit c None free (at_progress None (skip_none no_zeroes option left _ none))
 
     step_passing : 0 < length c.session.kept → length c.session.kept < left → step limit c ≡ placed c (Skipping no_zeroes option (left - length c.session.kept)) [] c.session.output
     step_passing some less =
-        let turn = passing no_zeroes option left (length c.session.kept) in
-        is_moved c turn free (at_turn (Some turn) (skip_passing no_zeroes option left _ some less)) refl
-        ∙ ap (moved c turn) (drop_all (length c.session.kept) c.session.kept (omega arith))
-        ∙ ap (λ (o : List ℕ). record { session = record c.session { phase = turn.phase; kept = []; output = o }; asked = c.asked ++ [] }) (append-nil c.session.output)
-        ∙ ap (λ (a : List Asked). record { session = record c.session { phase = turn.phase; kept = [] }; asked = a }) (append-nil c.asked)
+        let progress = passing no_zeroes option left (length c.session.kept) in
+        is_moved c progress free (at_progress (Some progress) (skip_passing no_zeroes option left _ some less)) refl
+        ∙ ap (moved c progress) (drop_all (length c.session.kept) c.session.kept (omega arith))
+        ∙ ap (λ (o : List ℕ). record { session = record c.session { phase = progress.phase; kept = []; output = o }; asked = c.asked ++ [] }) (append-nil c.session.output)
+        ∙ ap (λ (a : List Asked). record { session = record c.session { phase = progress.phase; kept = [] }; asked = a }) (append-nil c.asked)
 
     step_passed : 0 < length c.session.kept → left ≤ length c.session.kept
         → step limit c ≡ placed c (Negotiating no_zeroes) (drop left c.session.kept) (c.session.output ++ option_reply_spelling option ErrTooBig)
     step_passed some enough =
-        let turn = passed no_zeroes option left in
-        is_moved c turn free (at_turn (Some turn) (skip_passed no_zeroes option left _ some enough)) refl
-        ∙ ap (λ (a : List Asked). record { session = record c.session { phase = turn.phase; kept = drop left c.session.kept; output = c.session.output ++ turn.output }; asked = a }) (append-nil c.asked)
+        let progress = passed no_zeroes option left in
+        is_moved c progress free (at_progress (Some progress) (skip_passed no_zeroes option left _ some enough)) refl
+        ∙ ap (λ (a : List Asked). record { session = record c.session { phase = progress.phase; kept = drop left c.session.kept; output = c.session.output ++ progress.output }; asked = a }) (append-nil c.asked)
 
   -- more input after a part of that data comes to what it comes to with it
   skip_more : (c : Course) (no_zeroes : Bool) (option left : ℕ) (text : List ℕ) → c.session.phase ≡ Skipping no_zeroes option left → is_free limit c.session.in_flight ≡ true
@@ -224,19 +224,19 @@ module _ (limit : Option ℕ) where
   pub step_keeps : (c : Course) → AreBytes c.session.kept → Keeps c.session (step limit c).session
   step_keeps c bytes =
       elim (cases_Bool (is_free limit c.session.in_flight)) [
-        | inl free ↦ go free (turn_in c.session.export c.session.phase c.session.kept) refl
+        | inl free ↦ go free (progress_in c.session.export c.session.phase c.session.kept) refl
         | inr full ↦ subst (λ x. Keeps c.session x.session) (sym (limited limit c full)) same
       ]
     where
       same : Keeps c.session c.session
       same = record { bytes = bytes; export = refl }
 
-      go : is_free limit c.session.in_flight ≡ true → (turn : Option Turned) → turn_in c.session.export c.session.phase c.session.kept ≡ turn → Keeps c.session (step limit c).session
-      go free None is = subst (λ x. Keeps c.session x.session) (sym (turns limit c None free is)) same
-      go free (Some turn) is = elim (cases_Bool (is_over turn.phase)) [
-        | inl over ↦ subst (λ x. Keeps c.session x.session) (sym (turns limit c (Some turn) free is ∙ cond-true (is_over turn.phase) _ _ over)) (record { bytes = λ i. omega arith; export = refl })
-        | inr open_still ↦ subst (λ x. Keeps c.session x.session) (sym (is_moved c turn free is open_still))
-            (record { bytes = λ i. subst (λ (x : ℕ). x < 256) (sym (get_or-drop turn.taken c.session.kept i 0)) (bytes (turn.taken + i)); export = refl })
+      go : is_free limit c.session.in_flight ≡ true → (progress : Option Progress) → progress_in c.session.export c.session.phase c.session.kept ≡ progress → Keeps c.session (step limit c).session
+      go free None is = subst (λ x. Keeps c.session x.session) (sym (progresses limit c None free is)) same
+      go free (Some progress) is = elim (cases_Bool (is_over progress.phase)) [
+        | inl over ↦ subst (λ x. Keeps c.session x.session) (sym (progresses limit c (Some progress) free is ∙ cond-true (is_over progress.phase) _ _ over)) (record { bytes = λ i. omega arith; export = refl })
+        | inr open_still ↦ subst (λ x. Keeps c.session x.session) (sym (is_moved c progress free is open_still))
+            (record { bytes = λ i. subst (λ (x : ℕ). x < 256) (sym (get_or-drop progress.used c.session.kept i 0)) (bytes (progress.used + i)); export = refl })
       ]
 
   -- ---- what was asked before
@@ -247,20 +247,20 @@ module _ (limit : Option ℕ) where
   step_asked : (past : List Asked) (c : Course) → step limit (asked_before past c) ≡ asked_before past (step limit c)
   step_asked past c =
       elim (cases_Bool (is_free limit c.session.in_flight)) [
-        | inl free ↦ go free (turn_in c.session.export c.session.phase c.session.kept) refl
+        | inl free ↦ go free (progress_in c.session.export c.session.phase c.session.kept) refl
         | inr full ↦ limited limit (asked_before past c) full ∙ sym (ap (asked_before past) (limited limit c full))
       ]
     where
-      go : is_free limit c.session.in_flight ≡ true → (turn : Option Turned) → turn_in c.session.export c.session.phase c.session.kept ≡ turn → step limit (asked_before past c) ≡ asked_before past (step limit c)
-      go free None is = turns limit (asked_before past c) None free is ∙ sym (ap (asked_before past) (turns limit c None free is))
-      go free (Some turn) is = elim (cases_Bool (is_over turn.phase)) [
+      go : is_free limit c.session.in_flight ≡ true → (progress : Option Progress) → progress_in c.session.export c.session.phase c.session.kept ≡ progress → step limit (asked_before past c) ≡ asked_before past (step limit c)
+      go free None is = progresses limit (asked_before past c) None free is ∙ sym (ap (asked_before past) (progresses limit c None free is))
+      go free (Some progress) is = elim (cases_Bool (is_over progress.phase)) [
         | inl over ↦
-            turns limit (asked_before past c) (Some turn) free is ∙ cond-true (is_over turn.phase) _ _ over
-            ∙ sym (ap (asked_before past) (turns limit c (Some turn) free is ∙ cond-true (is_over turn.phase) _ _ over))
+            progresses limit (asked_before past c) (Some progress) free is ∙ cond-true (is_over progress.phase) _ _ over
+            ∙ sym (ap (asked_before past) (progresses limit c (Some progress) free is ∙ cond-true (is_over progress.phase) _ _ over))
         | inr open_still ↦
-            is_moved (asked_before past c) turn free is open_still
-            ∙ ap (λ (a : List Asked). record (moved c turn (drop turn.taken c.session.kept)) { asked = a }) (append_assoc past c.asked (option_to_list turn.asked))
-            ∙ sym (ap (asked_before past) (is_moved c turn free is open_still))
+            is_moved (asked_before past c) progress free is open_still
+            ∙ ap (λ (a : List Asked). record (moved c progress (drop progress.used c.session.kept)) { asked = a }) (append_assoc past c.asked (option_to_list progress.asked))
+            ∙ sym (ap (asked_before past) (is_moved c progress free is open_still))
       ]
 
   play_asked : (n : ℕ) (past : List Asked) (c : Course) → play limit n (asked_before past c) ≡ asked_before past (play limit n c)
@@ -269,8 +269,8 @@ module _ (limit : Option ℕ) where
 
   pub settles_asked : (past : List Asked) (c d : Course) → Settles limit c d → Settles limit (asked_before past c) (asked_before past d)
   settles_asked past c d settles = record {
-    turns = settles.turns;
-    there = play_asked settles.turns past c ∙ ap (asked_before past) settles.there;
+    steps = settles.steps;
+    there = play_asked settles.steps past c ∙ ap (asked_before past) settles.there;
     done = settles.done;
   }
 
@@ -280,21 +280,21 @@ module _ (limit : Option ℕ) where
       (options_kept : IsKept option_in) (options_spelled : IsSpelled option_spelling IsOption option_in)
       (requests_kept : (max_payload : ℕ) → max_payload < 2 ^ 32 → IsKept (request_in max_payload))
       (requests_spelled : (max_payload : ℕ) → max_payload < 2 ^ 32 → IsSpelled request_spelling (IsRequest max_payload) (request_in max_payload)) where
-    module _ (c d : Course) (text : List ℕ) (bytes : AreBytes c.session.kept) (small : c.session.export.max_payload < 2 ^ 32) (free : is_free limit c.session.in_flight ≡ true) (turn : Turned)
-        (is : turn_in c.session.export c.session.phase c.session.kept ≡ Some turn) (open_still : is_over turn.phase ≡ false) (settles : Settles limit (more text (step limit c)) d) where
-      with_stays : Stays c.session.export c.session.phase c.session.kept turn → Settles limit (more text c) d
-      with_stays stays = before (more text c) d (subst (λ x. Settles limit x d) (sym (stays_more c turn text free is open_still stays)) settles)
+    module _ (c d : Course) (text : List ℕ) (bytes : AreBytes c.session.kept) (small : c.session.export.max_payload < 2 ^ 32) (free : is_free limit c.session.in_flight ≡ true) (progress : Progress)
+        (is : progress_in c.session.export c.session.phase c.session.kept ≡ Some progress) (open_still : is_over progress.phase ≡ false) (settles : Settles limit (more text (step limit c)) d) where
+      with_stays : Stays c.session.export c.session.phase c.session.kept progress → Settles limit (more text c) d
+      with_stays stays = before (more text c) d (subst (λ x. Settles limit x d) (sym (stays_more c progress text free is open_still stays)) settles)
 
-      there : (phase : Phase) → c.session.phase ≡ phase → turn_in c.session.export phase c.session.kept ≡ Some turn
-      there phase at = ap (λ p. turn_in c.session.export p c.session.kept) (sym at) ∙ is
+      there : (phase : Phase) → c.session.phase ≡ phase → progress_in c.session.export phase c.session.kept ≡ Some progress
+      there phase at = ap (λ p. progress_in c.session.export p c.session.kept) (sym at) ∙ is
 
-      from : (phase : Phase) → c.session.phase ≡ phase → Stays c.session.export phase c.session.kept turn → Settles limit (more text c) d
-      from phase at stays = with_stays (subst (λ p. Stays c.session.export p c.session.kept turn) (sym at) stays)
+      from : (phase : Phase) → c.session.phase ≡ phase → Stays c.session.export phase c.session.kept progress → Settles limit (more text c) d
+      from phase at stays = with_stays (subst (λ p. Stays c.session.export p c.session.kept progress) (sym at) stays)
 
       by_phase : (phase : Phase) → c.session.phase ≡ phase → Settles limit (more text c) d
-      unfolding turn_in
-      by_phase Greeted at = from Greeted at (flags_stay c.session.export c.session.kept turn flags_kept flags_spelled bytes (there Greeted at) open_still)
-      by_phase (Negotiating no_zeroes) at = from (Negotiating no_zeroes) at (option_stays c.session.export no_zeroes c.session.kept turn options_kept options_spelled bytes (there (Negotiating no_zeroes) at) open_still)
+      unfolding progress_in
+      by_phase Greeted at = from Greeted at (flags_stay c.session.export c.session.kept progress flags_kept flags_spelled bytes (there Greeted at) open_still)
+      by_phase (Negotiating no_zeroes) at = from (Negotiating no_zeroes) at (option_stays c.session.export no_zeroes c.session.kept progress options_kept options_spelled bytes (there (Negotiating no_zeroes) at) open_still)
       by_phase (Skipping no_zeroes option left) at =
           let came = length c.session.kept in
           elim (cases_eq came 0) [
@@ -302,42 +302,42 @@ module _ (limit : Option ℕ) where
             | inr some ↦ elim (cases_lt came left) [
               | inl less ↦ joined (more text c) (more text (step limit c)) d (skip_more c no_zeroes option left text at free (omega arith) less) settles
               | inr enough ↦
-                  let one : turn ≡ passed no_zeroes option left = some_is (sym (there (Skipping no_zeroes option left) at) ∙ skip_passed no_zeroes option left came (omega arith) enough) in
+                  let one : progress ≡ passed no_zeroes option left = some_is (sym (there (Skipping no_zeroes option left) at) ∙ skip_passed no_zeroes option left came (omega arith) enough) in
                   from (Skipping no_zeroes option left) at (record {
                     same = λ t. skip_passed no_zeroes option left (length (c.session.kept ++ t)) (omega (arith, length-append c.session.kept t)) (omega (arith, length-append c.session.kept t)) ∙ ap (λ x. Some x) (sym one);
-                    within = subst (λ x. x.taken ≤ came) (sym one) enough;
+                    within = subst (λ x. x.used ≤ came) (sym one) enough;
                   })
             ]
           ]
       by_phase Transmitting at =
-          from Transmitting at (request_stays c.session.export c.session.kept turn (requests_kept _ small) (requests_spelled _ small) bytes (there Transmitting at) open_still)
+          from Transmitting at (request_stays c.session.export c.session.kept progress (requests_kept _ small) (requests_spelled _ small) bytes (there Transmitting at) open_still)
       by_phase Leaving at = let wrong = there Leaving at in absurd cc
       by_phase Over at = let wrong = there Over at in absurd cc
 
-    -- more input after a turn comes to what it comes to before it
+    -- more input after a step comes to what it comes to before it
     pub key : (c d : Course) (text : List ℕ) → AreBytes c.session.kept → c.session.export.max_payload < 2 ^ 32 → is_over (step limit c).session.phase ≡ false → Settles limit (more text (step limit c)) d → Settles limit (more text c) d
     key c d text bytes small open_still settles =
         elim (cases_Bool (is_free limit c.session.in_flight)) [
-          | inl free ↦ go free (turn_in c.session.export c.session.phase c.session.kept) refl
+          | inl free ↦ go free (progress_in c.session.export c.session.phase c.session.kept) refl
           | inr full ↦ subst (λ x. Settles limit (more text x) d) (limited limit c full) settles
         ]
       where
-        go : is_free limit c.session.in_flight ≡ true → (turn : Option Turned) → turn_in c.session.export c.session.phase c.session.kept ≡ turn → Settles limit (more text c) d
-        go free None is = subst (λ x. Settles limit (more text x) d) (turns limit c None free is) settles
-        go free (Some turn) is = elim (cases_Bool (is_over turn.phase)) [
+        go : is_free limit c.session.in_flight ≡ true → (progress : Option Progress) → progress_in c.session.export c.session.phase c.session.kept ≡ progress → Settles limit (more text c) d
+        go free None is = subst (λ x. Settles limit (more text x) d) (progresses limit c None free is) settles
+        go free (Some progress) is = elim (cases_Bool (is_over progress.phase)) [
           | inl over ↦
-              let ended : step limit c ≡ after_turn c turn = turns limit c (Some turn) free is in
-              let still : is_over (step limit c).session.phase ≡ true = ap (λ x. is_over x.session.phase) (ended ∙ cond-true (is_over turn.phase) _ _ over) ∙ is_over-phase_after turn.phase c.session.in_flight ∙ over in
+              let ended : step limit c ≡ after_progress c progress = progresses limit c (Some progress) free is in
+              let still : is_over (step limit c).session.phase ≡ true = ap (λ x. is_over x.session.phase) (ended ∙ cond-true (is_over progress.phase) _ _ over) ∙ is_over-phase_after progress.phase c.session.in_flight ∙ over in
               absurd cc
-          | inr open_turn ↦ by_phase c d text bytes small free turn is open_turn settles c.session.phase refl
+          | inr open_progress ↦ by_phase c d text bytes small free progress is open_progress settles c.session.phase refl
         ]
 
-    -- and so it does after any number of turns
-    pub all_turns : (n : ℕ) (c m d : Course) (text : List ℕ) → AreBytes c.session.kept → c.session.export.max_payload < 2 ^ 32 → play limit n c ≡ m → is_over m.session.phase ≡ false → Settles limit (more text m) d → Settles limit (more text c) d
-    all_turns zero c m d text bytes small there open_still settles = subst (λ x. Settles limit (more text x) d) (sym there) settles
-    all_turns (suc n) c m d text bytes small there open_still settles =
+    -- and so it does after any number of steps
+    pub all_steps : (n : ℕ) (c m d : Course) (text : List ℕ) → AreBytes c.session.kept → c.session.export.max_payload < 2 ^ 32 → play limit n c ≡ m → is_over m.session.phase ≡ false → Settles limit (more text m) d → Settles limit (more text c) d
+    all_steps zero c m d text bytes small there open_still settles = subst (λ x. Settles limit (more text x) d) (sym there) settles
+    all_steps (suc n) c m d text bytes small there open_still settles =
         let keeps = step_keeps c bytes in
-        let later = all_turns n (step limit c) m d text keeps.bytes (subst (λ e. e.max_payload < 2 ^ 32) (sym keeps.export) small) there open_still settles in
+        let later = all_steps n (step limit c) m d text keeps.bytes (subst (λ e. e.max_payload < 2 ^ 32) (sym keeps.export) small) there open_still settles in
         key c d text bytes small (elim (cases_Bool (is_over (step limit c).session.phase)) [
           | inl over ↦ let stays : is_over m.session.phase ≡ true = ap (λ x. is_over x.session.phase) (sym there ∙ play_done n (step limit c) (over_stays limit (step limit c) over)) ∙ over in absurd cc
           | inr still ↦ still
@@ -350,10 +350,10 @@ module _ (limit : Option ℕ) where
     pieces_join old mid first second asked_first two asked_second bytes small feeds open_still then =
         let after : Course = record { session = mid; asked = asked_first } in
         let goal : Course = record { session = two; asked = asked_first ++ asked_second } in
-        let second_turns : Settles limit (more second after) goal =
+        let second_steps : Settles limit (more second after) goal =
         subst (λ (a : List Asked). Settles limit (record { session = record mid { kept = mid.kept ++ second }; asked = a }) goal) (append-nil asked_first)
         (settles_asked asked_first (fed mid second) (record { session = two; asked = asked_second }) then) in
-        let both : Settles limit (more second (fed old first)) goal = all_turns feeds.turns (fed old first) after goal second bytes small feeds.there open_still second_turns in
+        let both : Settles limit (more second (fed old first)) goal = all_steps feeds.steps (fed old first) after goal second bytes small feeds.there open_still second_steps in
         subst (λ (k : List ℕ). Settles limit (record { session = record old { kept = k }; asked = [] }) goal) (append_assoc old.kept first second) both
 
 pub feeds_one_way : FeedsInOneWay

@@ -12,7 +12,7 @@ use Rattle.nbd_codec.specs.Handshake.{AreFlags, flags_in, flags_spelling}
 use Rattle.nbd_codec.specs.Laws.{IsAtMost, IsSpelled}
 use Rattle.nbd_codec.specs.Reply.{PlainReply, spelling as reply_spelling}
 use Rattle.nbd_codec.specs.Request.{IsRequest, PlainRequest, request_in, spelling as request_spelling}
-use Rattle.nbd_session.specs.declared.negotiation.Export.{Export}
+use Rattle.nbd_session.specs.declared.answer.Export.{Export}
 use Rattle.nbd_session.specs.declared.phase.Phase.{Phase}
 use Rattle.nbd_session.specs.declared.phase.Phase.TheVariants.{Greeted, Negotiating, Skipping, Transmitting, Leaving, Over}
 use Rattle.nbd_session.specs.Laws.{FeedsTakeAll, HistoriesAreLawful, NeedyGoOn}
@@ -21,7 +21,7 @@ use Rattle.nbd_session.specs.Negotiation.{Haggled, IsOver, Negotiation}
 use Rattle.nbd_session.specs.Replies.{answered, is_owed}
 use Rattle.nbd_session.specs.Session.{Course, State, fed, limit_in_flight, play, step}
 use Rattle.nbd_session.specs.Transcript.{Left}
-use Rattle.nbd_session.specs.Turn.{flags_turn, is_over, option_turn, phase_after, request_turn, skip_turn, turn_in}
+use Rattle.nbd_session.specs.Progress.{flags_progress, is_over, option_progress, phase_after, request_progress, skip_progress, progress_in}
 use Rattle.nbd_session.proofs.Courses.{free_below}
 use Rattle.nbd_session.proofs.Cuttings.{Keeps, skip_passed, skip_passing, step_keeps}
 use Rattle.nbd_session.proofs.Lawfulness.{talks_came}
@@ -148,23 +148,23 @@ module _ (flags_spelled : IsSpelled flags_spelling AreFlags flags_in) (flags_sho
     (options_spelled : IsSpelled option_spelling IsOption option_in) (options_short : IsAtMost (OPTION_HEADER + MAX_OPTION_DATA) option_spelling IsOption)
     (requests_spelled : (max_payload : ℕ) → max_payload < 2 ^ 32 → IsSpelled request_spelling (IsRequest max_payload) (request_in max_payload))
     (requests_short : (max_payload : ℕ) → IsAtMost (REQUEST_HEADER + max_payload) request_spelling (IsRequest max_payload)) where
-  none_at : (export : Export) (phase : Phase) (kept : List ℕ) → AreBytes kept → export.max_payload < 2 ^ 32 → is_over phase ≡ false → turn_in export phase kept ≡ None → NeedsMore phase export.max_payload kept
-  unfolding turn_in
+  none_at : (export : Export) (phase : Phase) (kept : List ℕ) → AreBytes kept → export.max_payload < 2 ^ 32 → is_over phase ≡ false → progress_in export phase kept ≡ None → NeedsMore phase export.max_payload kept
+  unfolding progress_in
   none_at export Greeted kept bytes small open_still none = go (flags_in kept) refl none
     where
-      go : (reading : Reading Flags) → flags_in kept ≡ reading → flags_turn (length kept) reading ≡ None → IsProperFront flags_spelling AreFlags kept
+      go : (reading : Reading Flags) → flags_in kept ≡ reading → flags_progress (length kept) reading ≡ None → IsProperFront flags_spelling AreFlags kept
       go (Value flags len) found is = absurd cc
       go More found is = flags_spelled.more kept bytes found
       go (Fault fault) found is = absurd cc
   none_at export (Negotiating no_zeroes) kept bytes small open_still none = go (option_in kept) refl none
     where
-      go : (reading : Reading PlainOption) → option_in kept ≡ reading → option_turn export no_zeroes (length kept) reading ≡ None → IsProperFront option_spelling IsOption kept
+      go : (reading : Reading PlainOption) → option_in kept ≡ reading → option_progress export no_zeroes (length kept) reading ≡ None → IsProperFront option_spelling IsOption kept
       go (Value option len) found is = absurd cc
       go More found is = options_spelled.more kept bytes found
       go (Fault fault) found is = absurd cc
   none_at export (Skipping no_zeroes option left) kept bytes small open_still none = skipped kept none
     where
-      skipped : (kept : List ℕ) → skip_turn no_zeroes option left (length kept) ≡ None → kept ≡ []
+      skipped : (kept : List ℕ) → skip_progress no_zeroes option left (length kept) ≡ None → kept ≡ []
       skipped [] is = refl
       skipped (b ∷ kept) is = elim (cases_lt (length (b ∷ kept)) left) [
         | inl less ↦ let wrong = sym (skip_passing no_zeroes option left (length (b ∷ kept)) (omega arith) less) ∙ is in absurd cc
@@ -172,7 +172,7 @@ module _ (flags_spelled : IsSpelled flags_spelling AreFlags flags_in) (flags_sho
       ]
   none_at export Transmitting kept bytes small open_still none = go (request_in export.max_payload kept) refl none
     where
-      go : (reading : Reading PlainRequest) → request_in export.max_payload kept ≡ reading → request_turn export (length kept) reading ≡ None → IsProperFront request_spelling (IsRequest export.max_payload) kept
+      go : (reading : Reading PlainRequest) → request_in export.max_payload kept ≡ reading → request_progress export (length kept) reading ≡ None → IsProperFront request_spelling (IsRequest export.max_payload) kept
       go (Value request len) found is = absurd cc
       go More found is = (requests_spelled export.max_payload small).more kept bytes found
       go (Fault fault) found is = absurd cc
@@ -189,7 +189,7 @@ module _ (flags_spelled : IsSpelled flags_spelling AreFlags flags_in) (flags_sho
 
   pub feeds_take_all : FeedsTakeAll
   feeds_take_all old new piece asked bytes small feeds open_still free =
-      let keeps = play_keeps limit_in_flight feeds.turns (fed old piece) (record { session = new; asked = asked }) bytes feeds.there in
+      let keeps = play_keeps limit_in_flight feeds.steps (fed old piece) (record { session = new; asked = asked }) bytes feeds.there in
       let small_too : new.export.max_payload < 2 ^ 32 = subst (λ e. e.max_payload < 2 ^ 32) (sym keeps.export) small in
       let more : NeedsMore new.phase new.export.max_payload new.kept = elim feeds.done [
         | inl full ↦ let wrong = sym (free_below new.in_flight free) ∙ full in absurd cc

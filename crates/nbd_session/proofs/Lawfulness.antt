@@ -1,40 +1,41 @@
--- What a session puts out stays lawful, turn by turn.
+-- What a session puts out stays lawful, step by step.
 use Rattle.std.proofs.Common.{◌≡◌, inl, inr, ℕ, ◌+◌, ◌-◌, ◌<◌, ◌^◌, suc, zero, true, false, Bool, nat_lt, nat_eq, cond, Option, None, List, [], ◌∷◌, ◌++◌, length, take, drop, length-append, length-take, take-append-drop, append_assoc, refl, sym, ◌∙◌, ap, subst, arith}
-use Rattle.std.specs.Prelude.{All}
+use Rattle.std.specs.Prelude.{All, not}
 use Rattle.std.specs.List.{flat_map}
-use Rattle.std.specs.Option.{option_to_list}
 use Rattle.std.proofs.lemmas.Bool.{cases_Bool, cases_lt, cases_eq, cond-true, cond-false}
 use Rattle.std.proofs.lemmas.List.{append-nil, drop_all, flat_map_more}
 use Rattle.std.proofs.lemmas.List.Elements.{All-append}
+use Rattle.nbd_codec.specs.declared.checks.Ask.{Ask}
+use Rattle.nbd_codec.specs.declared.checks.Ask.TheVariants as asks
 use Rattle.nbd_codec.specs.declared.checks.Checked.{Checked}
 use Rattle.nbd_codec.specs.declared.checks.Checked.TheVariants as checks
 use Rattle.nbd_codec.specs.declared.findings.Reading.{Reading}
 use Rattle.nbd_codec.specs.declared.findings.Reading.TheVariants.{Value, More, Fault}
 use Rattle.nbd_codec.specs.declared.handshake.ClientFlags.{ClientFlags as Flags}
 use Rattle.nbd_codec.specs.declared.option_replies.OptionReply.TheVariants.{ErrTooBig}
-use Rattle.nbd_codec.specs.declared.constants.TheConstants.{FLAG_FUA, SERVES_FLUSH}
+use Rattle.nbd_codec.specs.declared.constants.TheConstants.{FLAG_FUA}
 use Rattle.nbd_codec.specs.declared.replies.NbdError.{NbdError}
 use Rattle.nbd_codec.specs.declared.replies.NbdError.TheVariants.{Invalid, NoSpace}
-use Rattle.nbd_codec.specs.Checked.{checked, flush_checked, read_checked, write_checked}
-use Rattle.nbd_codec.specs.ClientOption.{Asks, Malformed, PlainOption, ExportName, Abort, Lists, StartTls, Info, Go, StructuredReply, Other as OtherOption, Oversized, IsOption, option_in, spelling as option_spelling}
+use Rattle.nbd_codec.specs.Checked.{checked, flush_checked, has_fua, read_checked, write_checked}
+use Rattle.nbd_codec.specs.ClientOption.{Asks, Malformed, PlainOption, ExportName, Abort, Lists, Info, Go, Other as OtherOption, Oversized, IsOption, option_in, spelling as option_spelling, told_of}
 use Rattle.nbd_codec.specs.Findings.{AreBytes, IsImpossible, Takes}
 use Rattle.nbd_codec.specs.Handshake.{AreFlags, flags_in, flags_spelling, greeting_spelling}
 use Rattle.nbd_codec.specs.Laws.{IsSpelled}
 use Rattle.nbd_codec.specs.OptionReply.{option_reply_spelling}
 use Rattle.nbd_codec.specs.Reply.{PlainReply, Done, Refused, spelling as reply_spelling}
-use Rattle.nbd_codec.specs.Request.{IsRequest, PlainRequest, Read, Write, Disc, Flush, Other, head_of, request_in, spelling as request_spelling}
-use Rattle.nbd_session.specs.declared.negotiation.Export.{Export}
+use Rattle.nbd_codec.specs.Request.{IsRequest, PlainRequest, Read, Write, Disc, Flush, Other, head_of, payload_of, request_in, spelling as request_spelling}
+use Rattle.nbd_session.specs.declared.answer.Export.{Export}
 use Rattle.nbd_session.specs.declared.phase.Phase.{Phase}
 use Rattle.nbd_session.specs.declared.phase.Phase.TheVariants.{Greeted, Negotiating, Skipping, Transmitting, Leaving, Over}
 use Rattle.nbd_session.specs.Answers.{answer_to}
-use Rattle.nbd_session.specs.Demand.{Asked}
+use Rattle.nbd_session.specs.Demand.{Asked, asked_under}
 use Rattle.nbd_session.specs.Lawful.{Ended, History, IsQuiet, Stands, StandsIn, Transmission, fed_and_asked, sent_by}
-use Rattle.nbd_session.specs.Negotiation.{Begins, Effect, Ends, Haggled, Haggles, HasLast, IsOver, IsPassing, IsTold, Negotiation, Told, effect_of, passed_len, told_answer, told_spelling}
-use Rattle.nbd_session.specs.Session.{Course, Settles, State, after_any, after_turn, fed, is_free, play, step}
+use Rattle.nbd_session.specs.Negotiation.{Begins, Effect, Ends, Haggled, Haggles, HasLast, IsOver, IsPassing, IsBid, Negotiation, Bid, effect_of, passed_len, bid_answer, bid_spelling}
+use Rattle.nbd_session.specs.Session.{Course, Settles, State, after_any, after_progress, fed, is_free, play, step}
 use Rattle.nbd_session.specs.Transcript.{Came, EndsSo, Event, IsDisc, Left, Reached, Reaches, Talks, asked_if, asked_in, own_reply, reached, replies_in, shown}
-use Rattle.nbd_session.proofs.Courses.{limited, turns}
+use Rattle.nbd_session.proofs.Courses.{limited, progresses}
 use Rattle.nbd_session.proofs.Cuttings.{passing, skip_none, skip_passed, skip_passing, step_keeps}
-use Rattle.nbd_session.specs.Turn.{asked_by_request, checked_turn, flags_turn, is_over, option_turn, output_after_option, phase_after_option, request_turn, skip_turn, turn_in}
+use Rattle.nbd_session.specs.Progress.{checked_progress, flags_progress, is_over, option_progress, request_progress, skip_progress, option_step, progress_in}
 
 -- ---- more input
 
@@ -44,8 +45,8 @@ module _ (export : Export) (text : List ℕ) where
     options = h.options;
     each = h.each;
     came = ap (λ (l : List ℕ). l ++ text) h.came
-        ∙ append_assoc (flags_spelling (record { no_zeroes = no_zeroes })) (flat_map told_spelling h.options ++ rest) text
-        ∙ ap (λ (l : List ℕ). flags_spelling (record { no_zeroes = no_zeroes }) ++ l) (append_assoc (flat_map told_spelling h.options) rest text);
+        ∙ append_assoc (flags_spelling (record { no_zeroes = no_zeroes })) (flat_map bid_spelling h.options ++ rest) text
+        ∙ ap (λ (l : List ℕ). flags_spelling (record { no_zeroes = no_zeroes }) ++ l) (append_assoc (flat_map bid_spelling h.options) rest text);
     went = h.went;
   }
 
@@ -54,8 +55,8 @@ module _ (export : Export) (text : List ℕ) where
     no_zeroes = h.no_zeroes;
     out = h.out;
     last = h.last;
-    is_told = h.is_told;
-    before = subst (λ (l : List ℕ). Haggled export h.no_zeroes (from ++ text) h.out l) (append_assoc (told_spelling h.last) rest text) (haggled_more h.no_zeroes from h.out (told_spelling h.last ++ rest) h.before);
+    is_bid = h.is_bid;
+    before = subst (λ (l : List ℕ). Haggled export h.no_zeroes (from ++ text) h.out l) (append_assoc (bid_spelling h.last) rest text) (haggled_more h.no_zeroes from h.out (bid_spelling h.last ++ rest) h.before);
     went = h.went;
   }
 
@@ -99,18 +100,18 @@ stands_more Over s h text open_still stands = absurd cc
 
 -- ---- one option more, one request more, one reply more
 
-all_one : {X : Type 0} (P : X → Type 0) (x : X) → P x → All P (x ∷ [])
+pub all_one : {X : Type 0} (P : X → Type 0) (x : X) → P x → All P (x ∷ [])
 all_one P x holds zero d lt = holds
 all_one P x holds (suc k) d lt = absurd (omega arith)
 
-pub haggled_told : (export : Export) (no_zeroes : Bool) (from to rest : List ℕ) (told : Told) → Haggled export no_zeroes from to (told_spelling told ++ rest) → IsTold Haggles told
-    → Haggled export no_zeroes from (to ++ told_answer export no_zeroes told) rest
-haggled_told export no_zeroes from to rest told h is_told = record {
-  options = h.options ++ told ∷ [];
-  each = All-append (IsTold Haggles) h.options (told ∷ []) h.each (all_one (IsTold Haggles) told is_told);
+pub haggled_bid : (export : Export) (no_zeroes : Bool) (from to rest : List ℕ) (bid : Bid) → Haggled export no_zeroes from to (bid_spelling bid ++ rest) → IsBid Haggles bid
+    → Haggled export no_zeroes from (to ++ bid_answer export no_zeroes bid) rest
+haggled_bid export no_zeroes from to rest bid h is_bid = record {
+  options = h.options ++ bid ∷ [];
+  each = All-append (IsBid Haggles) h.options (bid ∷ []) h.each (all_one (IsBid Haggles) bid is_bid);
   came = h.came ∙ ap (λ (l : List ℕ). flags_spelling (record { no_zeroes = no_zeroes }) ++ l)
-      (sym (append_assoc (flat_map told_spelling h.options) (told_spelling told) rest) ∙ ap (λ (l : List ℕ). l ++ rest) (flat_map_more told_spelling [] h.options told));
-  went = ap (λ (l : List ℕ). l ++ told_answer export no_zeroes told) h.went ∙ flat_map_more (told_answer export no_zeroes) greeting_spelling h.options told;
+      (sym (append_assoc (flat_map bid_spelling h.options) (bid_spelling bid) rest) ∙ ap (λ (l : List ℕ). l ++ rest) (flat_map_more bid_spelling [] h.options bid));
+  went = ap (λ (l : List ℕ). l ++ bid_answer export no_zeroes bid) h.went ∙ flat_map_more (bid_answer export no_zeroes) greeting_spelling h.options bid;
 }
 
 reached-more : (events : List Event) (request : PlainRequest) → reached (events ++ Reached request ∷ []) ≡ reached events ++ request ∷ []
@@ -173,29 +174,29 @@ refused_stays error is = absurd cc
 done_stays : checks.Done ≡ checks.Disconnect → ⊥
 done_stays is = absurd cc
 
-volume_stays : checks.Volume ≡ checks.Disconnect → ⊥
-volume_stays is = absurd cc
+volume_stays : (ask : Ask) → checks.Volume ask ≡ checks.Disconnect → ⊥
+volume_stays ask is = absurd cc
 
 read_stays : (flags offset len size max_payload : ℕ) → read_checked flags offset len size max_payload ≡ checks.Disconnect → ⊥
 read_stays flags offset len size max_payload =
     not_left (nat_lt FLAG_FUA flags) _ _ (refused_stays Invalid)
     (not_left (nat_lt max_payload len) _ _ (refused_stays Invalid)
-    (not_left (nat_lt size (offset + len)) _ _ (refused_stays Invalid) (not_left (nat_eq len 0) _ _ done_stays volume_stays)))
+    (not_left (nat_lt size (offset + len)) _ _ (refused_stays Invalid) (not_left (nat_eq len 0) _ _ done_stays (volume_stays (asks.Read offset len)))))
 
 write_stays : (flags offset len size : ℕ) → write_checked flags offset len size ≡ checks.Disconnect → ⊥
 write_stays flags offset len size =
     not_left (nat_lt FLAG_FUA flags) _ _ (refused_stays Invalid)
-    (not_left (nat_lt size (offset + len)) _ _ (refused_stays NoSpace) (not_left (nat_eq len 0) _ _ done_stays volume_stays))
+    (not_left (nat_lt size (offset + len)) _ _ (refused_stays NoSpace) (not_left (nat_eq len 0) _ _ done_stays (volume_stays (asks.Write offset len (has_fua flags)))))
 
 flush_stays : (flags offset len : ℕ) → flush_checked flags offset len ≡ checks.Disconnect → ⊥
 flush_stays flags offset len =
-    not_left (nat_lt FLAG_FUA flags) _ _ (refused_stays Invalid) (not_left _ _ _ (refused_stays Invalid) volume_stays)
+    not_left (nat_lt FLAG_FUA flags) _ _ (refused_stays Invalid) (not_left _ _ _ (refused_stays Invalid) (volume_stays asks.Flush))
 
 is_disc : (size max_payload : ℕ) (request : PlainRequest) → checked size max_payload request ≡ checks.Disconnect → IsDisc request
 is_disc size max_payload (Read flags cookie offset len) is = absurd (read_stays flags offset len size max_payload is)
 is_disc size max_payload (Write flags cookie offset payload) is = absurd (write_stays flags offset (length payload) size is)
 is_disc size max_payload (Disc flags cookie offset len) is = tt
-is_disc size max_payload (Flush flags cookie offset len) is = absurd (not_left SERVES_FLUSH _ _ (flush_stays flags offset len) (refused_stays Invalid) is)
+is_disc size max_payload (Flush flags cookie offset len) is = absurd (flush_stays flags offset len is)
 is_disc size max_payload (Other kind flags cookie offset len) is = absurd (refused_stays Invalid is)
 
 no_disc : (size max_payload : ℕ) (request : PlainRequest) → (checked size max_payload request ≡ checks.Disconnect → ⊥) → IsDisc request → ⊥
@@ -205,7 +206,7 @@ no_disc size max_payload (Disc flags cookie offset len) not_disc disc = not_disc
 no_disc size max_payload (Flush flags cookie offset len) not_disc disc = disc
 no_disc size max_payload (Other kind flags cookie offset len) not_disc disc = disc
 
--- ---- one turn more
+-- ---- one step more
 
 -- the course has this history behind what it has asked
 abbrev pub Stood : Course → History → Type 0
@@ -234,7 +235,7 @@ module _ (c : Course) (h : History) where
   said out = append_assoc h.handed now.output out
 
   -- client flags
-  at_flags : IsSpelled flags_spelling AreFlags flags_in → AreBytes now.kept → Stands now hist → StandsIn Greeted now hist → (reading : Reading Flags) → flags_in now.kept ≡ reading → Stood (after_any c (flags_turn (length now.kept) reading)) h
+  at_flags : IsSpelled flags_spelling AreFlags flags_in → AreBytes now.kept → Stands now hist → StandsIn Greeted now hist → (reading : Reading Flags) → flags_in now.kept ≡ reading → Stood (after_any c (flags_progress (length now.kept) reading)) h
   at_flags spelled bytes was (fed_is, went, quiet) (Value flags len) found =
       let takes = spelled.value now.kept flags len bytes found in
       let next : State = record now { phase = Negotiating flags.no_zeroes; kept = drop len now.kept; output = now.output ++ [] } in
@@ -255,8 +256,8 @@ module _ (c : Course) (h : History) where
 
   -- an option
   module _ (no_zeroes : Bool) (haggled : Haggled now.export no_zeroes h.fed to now.kept) (quiet : IsQuiet now hist) (option : PlainOption) (len : ℕ) (takes : Takes option_spelling IsOption now.kept option len) (alone : passed_len option ≡ 0) where
-    abbrev told : Told
-    told = record { option = option; passed = [] }
+    abbrev bid : Bid
+    bid = record { option = option; passed = [] }
 
     abbrev answer : List ℕ
     answer = answer_to now.export no_zeroes option
@@ -264,18 +265,18 @@ module _ (c : Course) (h : History) where
     abbrev next : Phase → List ℕ → State
     next phase kept = record now { phase = phase; kept = kept; output = now.output ++ answer }
 
-    is_told : (effect : Effect) → effect_of option ≡ effect → IsTold effect told
-    is_told effect does = record { option = takes.fits; passed = sym alone; does = does }
+    is_bid : (effect : Effect) → effect_of option ≡ effect → IsBid effect bid
+    is_bid effect does = record { option = takes.fits; passed = sym alone; does = does }
 
-    before : Haggled now.export no_zeroes h.fed to (told_spelling told ++ drop len now.kept)
+    before : Haggled now.export no_zeroes h.fed to (bid_spelling bid ++ drop len now.kept)
     before = subst (λ (l : List ℕ). Haggled now.export no_zeroes h.fed to l) (takes.whole ∙ ap (λ (l : List ℕ). l ++ drop len now.kept) (sym (append-nil (option_spelling option)))) haggled
 
     last_one : (effect : Effect) → effect_of option ≡ effect → HasLast now.export effect h.fed (h.handed ++ (now.output ++ answer)) (drop len now.kept)
-    last_one effect does = record { no_zeroes = no_zeroes; out = to; last = told; is_told = is_told effect does; before = before; went = sym (said answer) }
+    last_one effect does = record { no_zeroes = no_zeroes; out = to; last = bid; is_bid = is_bid effect does; before = before; went = sym (said answer) }
 
     goes_on : effect_of option ≡ Haggles → Stands (next (Negotiating no_zeroes) (drop len now.kept)) hist
     goes_on does = (
-      subst (λ (l : List ℕ). Haggled now.export no_zeroes h.fed l (drop len now.kept)) (said answer) (haggled_told now.export no_zeroes h.fed to (drop len now.kept) told before (is_told Haggles does)),
+      subst (λ (l : List ℕ). Haggled now.export no_zeroes h.fed l (drop len now.kept)) (said answer) (haggled_bid now.export no_zeroes h.fed to (drop len now.kept) bid before (is_bid Haggles does)),
       quiet_still (next (Negotiating no_zeroes) (drop len now.kept)) refl quiet,
     )
 
@@ -300,7 +301,7 @@ module _ (c : Course) (h : History) where
 
   -- the answers to options that are whole
   abbrev after_option : Bool → PlainOption → ℕ → Phase → Course
-  after_option no_zeroes option len phase = after_turn c (record { phase = phase; taken = len; output = answer_to now.export no_zeroes option; asked = None })
+  after_option no_zeroes option len phase = after_progress c (record { phase = phase; used = len; output = answer_to now.export no_zeroes option; asked = None })
 
   module _ (no_zeroes : Bool) (stands : StandsIn (Negotiating no_zeroes) now hist) (option : PlainOption) (len : ℕ) (takes : Takes option_spelling IsOption now.kept option len) where
     does_haggle : passed_len option ≡ 0 → effect_of option ≡ Haggles → Stood (after_option no_zeroes option len (Negotiating no_zeroes)) h
@@ -313,22 +314,20 @@ module _ (c : Course) (h : History) where
     does_end alone does = ends no_zeroes stands.0 stands.1 option len takes alone does
 
   option_of : (no_zeroes : Bool) → StandsIn (Negotiating no_zeroes) now hist → (option : PlainOption) (len : ℕ) → Takes option_spelling IsOption now.kept option len
-      → Stood (after_turn c (record { phase = phase_after_option no_zeroes option; taken = len; output = output_after_option now.export no_zeroes option; asked = None })) h
+      → Stood (after_progress c (option_step now.export no_zeroes (told_of option) len)) h
   option_of no_zeroes stands ExportName len takes = does_begin no_zeroes stands ExportName len takes refl refl
   option_of no_zeroes stands (Abort bytes) len takes = does_end no_zeroes stands (Abort bytes) len takes refl refl
   option_of no_zeroes stands (Lists bytes) len takes = does_haggle no_zeroes stands (Lists bytes) len takes refl refl
-  option_of no_zeroes stands (StartTls bytes) len takes = does_haggle no_zeroes stands (StartTls bytes) len takes refl refl
   option_of no_zeroes stands (Info info) len takes = does_haggle no_zeroes stands (Info info) len takes refl refl
   option_of no_zeroes stands (Go (Asks name types)) len takes = elim (cases_Bool (nat_eq (length name) 0)) [
     | inl empty ↦
-        subst (λ phase. Stood (after_option no_zeroes (Go (Asks name types)) len phase) h) (sym (cond-true (nat_eq (length name) 0) Transmitting (Negotiating no_zeroes) empty))
+        subst (λ phase. Stood (after_option no_zeroes (Go (Asks name types)) len phase) h) (sym (cond-false (not (nat_eq (length name) 0)) (Negotiating no_zeroes) Transmitting (ap not empty)))
         (does_begin no_zeroes stands (Go (Asks name types)) len takes refl (cond-true (nat_eq (length name) 0) Begins Haggles empty))
     | inr some ↦
-        subst (λ phase. Stood (after_option no_zeroes (Go (Asks name types)) len phase) h) (sym (cond-false (nat_eq (length name) 0) Transmitting (Negotiating no_zeroes) some))
+        subst (λ phase. Stood (after_option no_zeroes (Go (Asks name types)) len phase) h) (sym (cond-true (not (nat_eq (length name) 0)) (Negotiating no_zeroes) Transmitting (ap not some)))
         (does_haggle no_zeroes stands (Go (Asks name types)) len takes refl (cond-false (nat_eq (length name) 0) Begins Haggles some))
   ]
   option_of no_zeroes stands (Go (Malformed bytes)) len takes = does_haggle no_zeroes stands (Go (Malformed bytes)) len takes refl refl
-  option_of no_zeroes stands (StructuredReply bytes) len takes = does_haggle no_zeroes stands (StructuredReply bytes) len takes refl refl
   option_of no_zeroes stands (OtherOption number bytes) len takes = does_haggle no_zeroes stands (OtherOption number bytes) len takes refl refl
   option_of no_zeroes stands (Oversized number size) len takes =
       let next_state : State = record now { phase = Skipping no_zeroes number size; kept = drop len now.kept; output = now.output ++ [] } in
@@ -346,7 +345,7 @@ module _ (c : Course) (h : History) where
       unasked next_state (option_spelling (Oversized number size), haggled, passing, quiet_still next_state refl stands.1)
 
   at_option : (no_zeroes : Bool) → IsSpelled option_spelling IsOption option_in → AreBytes now.kept → Stands now hist → StandsIn (Negotiating no_zeroes) now hist → (reading : Reading PlainOption) → option_in now.kept ≡ reading
-      → Stood (after_any c (option_turn now.export no_zeroes (length now.kept) reading)) h
+      → Stood (after_any c (option_progress now.export no_zeroes (length now.kept) reading)) h
   at_option no_zeroes spelled bytes was stands (Value option len) found = option_of no_zeroes stands option len (spelled.value now.kept option len bytes found)
   at_option no_zeroes spelled bytes was stands More found = was
   at_option no_zeroes spelled bytes was stands (Fault fault) found =
@@ -356,12 +355,12 @@ module _ (c : Course) (h : History) where
       over
 
   -- data that is passed over
-  at_skipping : (no_zeroes : Bool) (option left : ℕ) → Stands now hist → StandsIn (Skipping no_zeroes option left) now hist → Stood (after_any c (skip_turn no_zeroes option left (length now.kept))) h
+  at_skipping : (no_zeroes : Bool) (option left : ℕ) → Stands now hist → StandsIn (Skipping no_zeroes option left) now hist → Stood (after_any c (skip_progress no_zeroes option left (length now.kept))) h
   at_skipping no_zeroes option left was (bytes, haggled, is_passing, quiet) =
       let came = length now.kept in
       let whole_spelling = option_spelling (Oversized option is_passing.len) in
       elim (cases_eq came 0) [
-        | inl none ↦ subst (λ turn. Stood (after_any c turn) h) (sym (skip_none no_zeroes option left came none)) was
+        | inl none ↦ subst (λ progress. Stood (after_any c progress) h) (sym (skip_none no_zeroes option left came none)) was
         | inr some ↦ elim (cases_lt came left) [
           | inl less ↦
               let next_state : State = record now { phase = Skipping no_zeroes option (left - came); kept = drop came now.kept; output = now.output ++ [] } in
@@ -377,25 +376,25 @@ module _ (c : Course) (h : History) where
               } in
               let haggled_still : Haggled now.export no_zeroes h.fed (h.handed ++ (now.output ++ [])) ((bytes ++ now.kept) ++ drop came now.kept) =
               subst (λ (l : List ℕ). Haggled now.export no_zeroes h.fed l ((bytes ++ now.kept) ++ drop came now.kept)) silent (subst (λ (l : List ℕ). Haggled now.export no_zeroes h.fed to l) all haggled) in
-              subst (λ turn. Stood (after_any c turn) h) (sym (skip_passing no_zeroes option left came (omega arith) less))
+              subst (λ progress. Stood (after_any c progress) h) (sym (skip_passing no_zeroes option left came (omega arith) less))
               (unasked next_state (bytes ++ now.kept, haggled_still, still_passing, quiet_still next_state refl quiet))
           | inr enough ↦
               let answer : List ℕ = option_reply_spelling option ErrTooBig in
               let next_state : State = record now { phase = Negotiating no_zeroes; kept = drop left now.kept; output = now.output ++ answer } in
-              let whole_one : Told = record { option = Oversized option is_passing.len; passed = is_passing.passed ++ take left now.kept } in
-              let is_whole : IsTold Haggles whole_one = record {
+              let whole_one : Bid = record { option = Oversized option is_passing.len; passed = is_passing.passed ++ take left now.kept } in
+              let is_whole : IsBid Haggles whole_one = record {
                 option = is_passing.is_option;
                 passed = omega (arith, is_passing.more, length-append is_passing.passed (take left now.kept), length-take left now.kept);
                 does = refl;
               } in
-              let split : bytes ++ now.kept ≡ told_spelling whole_one ++ drop left now.kept =
+              let split : bytes ++ now.kept ≡ bid_spelling whole_one ++ drop left now.kept =
               ap (λ (l : List ℕ). l ++ now.kept) is_passing.whole ∙ append_assoc whole_spelling is_passing.passed now.kept
               ∙ ap (λ (l : List ℕ). whole_spelling ++ l) (ap (λ (l : List ℕ). is_passing.passed ++ l) (sym (take-append-drop left now.kept)) ∙ sym (append_assoc is_passing.passed (take left now.kept) (drop left now.kept)))
               ∙ sym (append_assoc whole_spelling (is_passing.passed ++ take left now.kept) (drop left now.kept)) in
               let haggled_on : Haggled now.export no_zeroes h.fed (h.handed ++ (now.output ++ answer)) (drop left now.kept) =
               subst (λ (l : List ℕ). Haggled now.export no_zeroes h.fed l (drop left now.kept)) (said answer)
-              (haggled_told now.export no_zeroes h.fed to (drop left now.kept) whole_one (subst (λ (l : List ℕ). Haggled now.export no_zeroes h.fed to l) split haggled) is_whole) in
-              subst (λ turn. Stood (after_any c turn) h) (sym (skip_passed no_zeroes option left came (omega arith) enough))
+              (haggled_bid now.export no_zeroes h.fed to (drop left now.kept) whole_one (subst (λ (l : List ℕ). Haggled now.export no_zeroes h.fed to l) split haggled) is_whole) in
+              subst (λ progress. Stood (after_any c progress) h) (sym (skip_passed no_zeroes option left came (omega arith) enough))
               (unasked next_state (haggled_on, quiet_still next_state refl quiet))
         ]
       ]
@@ -423,9 +422,9 @@ module _ (c : Course) (h : History) where
     request_none = subst (λ (l : List ℕ). Transmission now.export h.fed l (h.asked ++ c.asked) h.replies now.kept) silent stands
 
     checked_one : (request : PlainRequest) (len : ℕ) → Takes request_spelling (IsRequest now.export.max_payload) now.kept request len → (how : Checked) → checked now.export.size now.export.max_payload request ≡ how
-        → Stood (after_turn c (checked_turn request len how)) h
-    checked_one request len takes checks.Volume is =
-        request_more request len [] (option_to_list (asked_by_request request)) takes (λ e. volume_stays (sym is ∙ e)) (ap (own_reply (head_of request).cookie) is) (ap (asked_if request) is)
+        → Stood (after_progress c (checked_progress request len how)) h
+    checked_one request len takes (checks.Volume ask) is =
+        request_more request len [] (asked_under (head_of request).cookie ask (payload_of request) ∷ []) takes (λ e. volume_stays ask (sym is ∙ e)) (ap (own_reply (head_of request).cookie) is) (ap (asked_if request) is)
     checked_one request len takes checks.Done is =
         request_more request len (reply_spelling (Done (head_of request).cookie [])) [] takes (λ e. done_stays (sym is ∙ e)) (ap (own_reply (head_of request).cookie) is) (ap (asked_if request) is)
     checked_one request len takes (checks.Refused error) is =
@@ -440,7 +439,7 @@ module _ (c : Course) (h : History) where
         ]
 
     at_request : IsSpelled request_spelling (IsRequest now.export.max_payload) (request_in now.export.max_payload) → AreBytes now.kept → Stands now hist → (reading : Reading PlainRequest) → request_in now.export.max_payload now.kept ≡ reading
-        → Stood (after_any c (request_turn now.export (length now.kept) reading)) h
+        → Stood (after_any c (request_progress now.export (length now.kept) reading)) h
     at_request spelled bytes was (Value request len) found =
         checked_one request len (spelled.value now.kept request len bytes found) (checked now.export.size now.export.max_payload request) refl
     at_request spelled bytes was More found = was
@@ -452,14 +451,14 @@ module _ (c : Course) (h : History) where
 module _ (flags_spelled : IsSpelled flags_spelling AreFlags flags_in) (options_spelled : IsSpelled option_spelling IsOption option_in)
     (requests_spelled : (max_payload : ℕ) → max_payload < 2 ^ 32 → IsSpelled request_spelling (IsRequest max_payload) (request_in max_payload)) (limit : Option ℕ) where
   step_stood : (c : Course) (h : History) → AreBytes c.session.kept → c.session.export.max_payload < 2 ^ 32 → Stood c h → Stood (step limit c) h
-  unfolding turn_in
+  unfolding progress_in
   step_stood c h bytes small stood =
       elim (cases_Bool (is_free limit c.session.in_flight)) [
-        | inl free ↦ subst (λ x. Stood x h) (sym (turns limit c _ free refl)) (by_phase c.session.phase refl stood)
+        | inl free ↦ subst (λ x. Stood x h) (sym (progresses limit c _ free refl)) (by_phase c.session.phase refl stood)
         | inr full ↦ subst (λ x. Stood x h) (sym (limited limit c full)) stood
       ]
     where
-      at : (phase : Phase) → StandsIn phase c.session (record h { asked = h.asked ++ c.asked }) → Stood (after_any c (turn_in c.session.export phase c.session.kept)) h
+      at : (phase : Phase) → StandsIn phase c.session (record h { asked = h.asked ++ c.asked }) → Stood (after_any c (progress_in c.session.export phase c.session.kept)) h
       at Greeted stands = at_flags c h flags_spelled bytes stood stands (flags_in c.session.kept) refl
       at (Negotiating no_zeroes) stands = at_option c h no_zeroes options_spelled bytes stood stands (option_in c.session.kept) refl
       at (Skipping no_zeroes option left) stands = at_skipping c h no_zeroes option left stood stands
@@ -467,8 +466,8 @@ module _ (flags_spelled : IsSpelled flags_spelling AreFlags flags_in) (options_s
       at Leaving stands = stood
       at Over stands = stood
 
-      by_phase : (phase : Phase) → c.session.phase ≡ phase → StandsIn phase c.session (record h { asked = h.asked ++ c.asked }) → Stood (after_any c (turn_in c.session.export c.session.phase c.session.kept)) h
-      by_phase phase is stands = subst (λ p. Stood (after_any c (turn_in c.session.export p c.session.kept)) h) (sym is) (at phase stands)
+      by_phase : (phase : Phase) → c.session.phase ≡ phase → StandsIn phase c.session (record h { asked = h.asked ++ c.asked }) → Stood (after_any c (progress_in c.session.export c.session.phase c.session.kept)) h
+      by_phase phase is stands = subst (λ p. Stood (after_any c (progress_in c.session.export p c.session.kept)) h) (sym is) (at phase stands)
 
   play_stood : (n : ℕ) (c d : Course) (h : History) → AreBytes c.session.kept → c.session.export.max_payload < 2 ^ 32 → play limit n c ≡ d → Stood c h → Stood d h
   play_stood zero c d h bytes small there stood = subst (λ x. Stood x h) there stood
@@ -476,11 +475,11 @@ module _ (flags_spelled : IsSpelled flags_spelling AreFlags flags_in) (options_s
       let keeps = step_keeps limit c bytes in
       play_stood n (step limit c) d h keeps.bytes (subst (λ e. e.max_payload < 2 ^ 32) (sym keeps.export) small) there (step_stood c h bytes small stood)
 
-  -- so it does after any turns
+  -- so it does after any steps
   pub settles_lawfully : (old new : State) (history : History) (piece : List ℕ) (asked : List Asked) → AreBytes (old.kept ++ piece) → old.export.max_payload < 2 ^ 32 → is_over old.phase ≡ false
       → Stands old history → Settles limit (fed old piece) (record { session = new; asked = asked }) → Stands new (fed_and_asked history piece asked)
   settles_lawfully old new history piece asked bytes small open_still stands feeds =
       let more : History = fed_more history piece in
       let first : Stood (fed old piece) more =
       subst (λ (a : List Asked). Stands (fed old piece).session (record more { asked = a })) (sym (append-nil history.asked)) (stands_more old.phase old history piece open_still stands) in
-      play_stood feeds.turns (fed old piece) (record { session = new; asked = asked }) more bytes small feeds.there first
+      play_stood feeds.steps (fed old piece) (record { session = new; asked = asked }) more bytes small feeds.there first

@@ -1,5 +1,7 @@
 pub mod Courses
 pub mod Cuttings
+pub mod Demands
 pub mod Endings
 pub mod Holding
 pub mod Lawfulness
+pub mod Requests

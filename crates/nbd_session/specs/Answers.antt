@@ -1,37 +1,56 @@
 -- What the server answers to options.
-use Rattle.std.specs.Prelude.{ℕ, Bool, List, [], ◌++◌, length, ◌==◌, if◌then◌else◌}
-use Rattle.std.specs.List.{list_any}
-use Rattle.nbd_codec.specs.declared.constants.TheConstants.{INFO_BLOCK_SIZE, OPTION_ABORT, OPTION_GO, OPTION_INFO, OPTION_LIST, OPTION_STARTTLS, OPTION_STRUCTURED_REPLY}
+use Rattle.std.specs.Prelude.{ℕ, Bool, List, [], ◌++◌, if◌then◌else◌}
+use Rattle.nbd_codec.specs.declared.constants.TheConstants.{OPTION_ABORT, OPTION_GO, OPTION_INFO, OPTION_LIST}
 use Rattle.nbd_codec.specs.declared.option_replies.OptionReply.TheVariants.{Ack, Server, Export as ExportInfo, BlockSize, ErrUnsup, ErrInvalid, ErrUnknown, ErrTooBig}
-use Rattle.nbd_codec.specs.ClientOption.{PlainInfo, Asks, Malformed, PlainOption, ExportName, Abort, Lists, StartTls, Info, Go, StructuredReply, Other, Oversized}
+use Rattle.nbd_codec.specs.declared.options.Information.{Information}
+use Rattle.nbd_codec.specs.declared.options.Information.TheVariants.{Asked, Malformed}
+use Rattle.nbd_codec.specs.declared.options.ClientOption.{ClientOption}
+use Rattle.nbd_codec.specs.declared.options.ClientOption.TheVariants as options
+use Rattle.nbd_codec.specs.ClientOption.{PlainOption, told_of}
 use Rattle.nbd_codec.specs.OptionReply.{option_reply_spelling, export_spelling}
-use Rattle.nbd_session.specs.declared.negotiation.Export.{Export}
-
--- the sizes of requests, if they are asked for
-abbrev pub sizes : ℕ → ℕ → List ℕ → List ℕ
-sizes max_payload option types = if list_any (λ t. t == INFO_BLOCK_SIZE) types then option_reply_spelling option (BlockSize max_payload) else []
+use Rattle.nbd_codec.specs.Reply.{Done, Refused, spelling}
+use Rattle.nbd_session.specs.declared.answer.Answer.{Answer}
+use Rattle.nbd_session.specs.declared.answer.Answer.TheVariants as answers
+use Rattle.nbd_session.specs.declared.answer.Export.{Export}
 
 -- the size and flags of the export, the sizes of requests if they are asked for, and ACK
-abbrev pub information : Export → ℕ → List ℕ → List ℕ
-information export option types = option_reply_spelling option (ExportInfo export.size) ++ sizes export.max_payload option types ++ option_reply_spelling option Ack
+abbrev pub information : Export → (option : ℕ) → (block_size : Bool) → List ℕ
+information export option block_size =
+    option_reply_spelling option (ExportInfo export.size)
+    ++ (if block_size then option_reply_spelling option (BlockSize export.max_payload) else [])
+    ++ option_reply_spelling option Ack
 
 -- the answer to INFO or GO: there is one export, with the empty name
-abbrev pub info_answer : Export → ℕ → PlainInfo → List ℕ
-info_answer export option (Asks name types) = if length name == 0 then information export option types else option_reply_spelling option ErrUnknown
-info_answer export option (Malformed bytes) = option_reply_spelling option ErrInvalid
+abbrev pub info_answer : Export → ℕ → Information → List ℕ
+info_answer export option (Asked has_name block_size) = if has_name then option_reply_spelling option ErrUnknown else information export option block_size
+info_answer export option Malformed = option_reply_spelling option ErrInvalid
 
 -- the answer to LIST: the one export, if no data came with it
-abbrev pub list_answer : List ℕ → List ℕ
-list_answer bytes = if length bytes == 0 then option_reply_spelling OPTION_LIST Server ++ option_reply_spelling OPTION_LIST Ack else option_reply_spelling OPTION_LIST ErrInvalid
+abbrev pub list_answer : (has_data : Bool) → List ℕ
+list_answer has_data =
+    if has_data then option_reply_spelling OPTION_LIST ErrInvalid
+    else option_reply_spelling OPTION_LIST Server ++ option_reply_spelling OPTION_LIST Ack
+
+-- the answer to an option, as far as it depends on it
+abbrev pub option_answer : Export → Bool → ClientOption → List ℕ
+option_answer export no_zeroes options.ExportName = export_spelling export.size no_zeroes
+option_answer export no_zeroes options.Abort = option_reply_spelling OPTION_ABORT Ack
+option_answer export no_zeroes (options.List has_data) = list_answer has_data
+option_answer export no_zeroes (options.Info info) = info_answer export OPTION_INFO info
+option_answer export no_zeroes (options.Go info) = info_answer export OPTION_GO info
+option_answer export no_zeroes (options.Other number) = option_reply_spelling number ErrUnsup
+option_answer export no_zeroes (options.Oversized number len) = option_reply_spelling number ErrTooBig
 
 -- the answer to an option, which for one that is too long comes behind its data
 abbrev pub answer_to : Export → Bool → PlainOption → List ℕ
-answer_to export no_zeroes ExportName = export_spelling export.size no_zeroes
-answer_to export no_zeroes (Abort bytes) = option_reply_spelling OPTION_ABORT Ack
-answer_to export no_zeroes (Lists bytes) = list_answer bytes
-answer_to export no_zeroes (StartTls bytes) = option_reply_spelling OPTION_STARTTLS ErrUnsup
-answer_to export no_zeroes (Info info) = info_answer export OPTION_INFO info
-answer_to export no_zeroes (Go info) = info_answer export OPTION_GO info
-answer_to export no_zeroes (StructuredReply bytes) = option_reply_spelling OPTION_STRUCTURED_REPLY ErrUnsup
-answer_to export no_zeroes (Other number bytes) = option_reply_spelling number ErrUnsup
-answer_to export no_zeroes (Oversized number len) = option_reply_spelling number ErrTooBig
+answer_to export no_zeroes option = option_answer export no_zeroes (told_of option)
+
+-- the bytes of what goes out at once
+abbrev pub answer_spelling : Export → Answer → List ℕ
+answer_spelling export answers.Nothing = []
+answer_spelling export (answers.Exported no_zeroes) = export_spelling export.size no_zeroes
+answer_spelling export (answers.Replied option reply) = option_reply_spelling option reply
+answer_spelling export answers.Listed = option_reply_spelling OPTION_LIST Server ++ option_reply_spelling OPTION_LIST Ack
+answer_spelling export (answers.Information option block_size) = information export option block_size
+answer_spelling export (answers.Done cookie) = spelling (Done cookie [])
+answer_spelling export (answers.Refused cookie error) = spelling (Refused cookie error)

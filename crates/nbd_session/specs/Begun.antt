@@ -5,10 +5,10 @@ use Rattle.board.specs.Seats.{BoardId}
 use Rattle.flush_barrier.specs.declared.session_id.SessionId.{SessionId}
 use Rattle.nbd_codec.specs.Fields.{limited_at, number_at}
 use Rattle.nbd_codec.specs.Handshake.{flags_at, greeting_spelling}
-use Rattle.nbd_session.specs.declared.negotiation.Export.{Export}
+use Rattle.nbd_session.specs.declared.answer.Export.{Export}
 use Rattle.nbd_session.specs.declared.phase.Phase.TheVariants.{Greeted}
 use Rattle.nbd_session.specs.Session.{Holds, State}
-use Rattle.nbd_session.specs.Turn.{turn_in}
+use Rattle.nbd_session.specs.Progress.{progress_in}
 
 -- a session of a board's chain, at an export, whose greeting waits to go out
 abbrev pub greeted : BoardId → SessionId → Export → State
@@ -16,5 +16,5 @@ greeted board id export = record { board = board; id = id; export = export; phas
 
 -- no request stands in its input
 pub greeted_holds_none : (board : BoardId) (id : SessionId) (export : Export) → Holds (greeted board id export) []
-unfolding turn_in flags_at limited_at number_at
-greeted_holds_none board id export = (greeted board id export, record { turns = 0; there = refl; done = inr refl })
+unfolding progress_in flags_at limited_at number_at
+greeted_holds_none board id export = (greeted board id export, record { steps = 0; there = refl; done = inr refl })

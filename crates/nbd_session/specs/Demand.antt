@@ -1,81 +1,59 @@
 -- What a demand asks of the volume, and whose reply it owes.
-use Rattle.std.specs.Prelude.{◌≡◌, ℕ, ◌+◌, ◌<◌, ◌≤◌, None, List, length, ⊤}
+use Rattle.std.specs.Prelude.{◌≡◌, ℕ, ◌+◌, ◌<◌, ◌≤◌, None, List, length, ⊤, if◌then◌else◌}
 use Rattle.board.specs.Seats.{BoardId}
 use Rattle.flush_barrier.specs.declared.session_id.SessionId.{SessionId}
+use Rattle.flush_barrier.specs.Owed.{Owed}
+use Rattle.nbd_codec.specs.declared.checks.Ask.{Ask}
+use Rattle.nbd_codec.specs.declared.checks.Ask.TheVariants as asks
 use Rattle.nbd_session.specs.declared.demand.Demand.{Demand}
 use Rattle.nbd_session.specs.declared.demand.Demand.TheVariants as demands
-use Rattle.nbd_session.specs.declared.demand.WantedKind.{WantedKind}
-use Rattle.nbd_session.specs.declared.demand.WantedKind.TheVariants as kinds
-use Rattle.nbd_session.specs.declared.demand.Wanted.{Wanted}
+use Rattle.volume.specs.Writes.{Fits, Placed}
 
--- what a request asks of the volume: under its cookie, a range of bytes, or bytes from a place on
+-- what a request asks of the volume, under its cookie: a range of bytes, a write without FUA or with it, or a flush
 pub data Asked : Type 0 where
   Read : (cookie offset len : ℕ) → Asked
-  Write : (cookie offset : ℕ) → (payload : List ℕ) → Asked
-  Fua : (cookie offset : ℕ) → (payload : List ℕ) → Asked
+  Write : (cookie : ℕ) → (write : Placed) → Asked
+  Fua : (cookie : ℕ) → (write : Placed) → Asked
+  Flush : (cookie : ℕ) → Asked
+
+-- what is asked under a cookie, where these bytes stand behind the request's header
+abbrev pub asked_under : ℕ → Ask → List ℕ → Asked
+asked_under cookie (asks.Read offset len) payload = Read cookie offset len
+asked_under cookie (asks.Write offset len fua) payload =
+    if fua then Fua cookie (record { offset = offset; bytes = payload }) else Write cookie (record { offset = offset; bytes = payload })
+asked_under cookie asks.Flush payload = Flush cookie
+
+-- the demand of a session that asks this, with a token of the board
+abbrev pub demand_of : BoardId → SessionId → Asked → Demand
+demand_of board session (Read cookie offset len) = demands.Read (record { session = session; cookie = cookie; board = board }) offset len
+demand_of board session (Write cookie write) = demands.Write (record { session = session; cookie = cookie; board = board }) write
+demand_of board session (Fua cookie write) = demands.Fua (record { session = session; cookie = cookie; board = board; number = None }) write
+demand_of board session (Flush cookie) = demands.Flush (record { session = session; cookie = cookie; board = board; number = None })
 
 -- what a demand asks
 abbrev pub asked_by : Demand → Asked
 asked_by (demands.Read token offset len) = Read token.cookie offset len
-asked_by (demands.Write token offset payload) = Write token.cookie offset payload.items
-asked_by (demands.Fua token offset payload) = Fua token.cookie offset payload.items
+asked_by (demands.Write token write) = Write token.cookie write
+asked_by (demands.Fua token write) = Fua token.cookie write
+asked_by (demands.Flush token) = Flush token.cookie
 
--- what is asked under a cookie from an offset on
-abbrev pub asked_of : ℕ → ℕ → WantedKind → Asked
-asked_of cookie offset (kinds.Read len) = Read cookie offset len
-asked_of cookie offset (kinds.Write payload) = Write cookie offset payload.items
-asked_of cookie offset (kinds.Fua payload) = Fua cookie offset payload.items
-
--- what is asked where there is no token yet
-abbrev pub wanted_view : Wanted → Asked
-wanted_view wanted = asked_of wanted.cookie wanted.offset wanted.kind
-
--- where the range begins in the volume
-abbrev pub offset_in : Asked → ℕ
-offset_in (Read cookie offset len) = offset
-offset_in (Write cookie offset payload) = offset
-offset_in (Fua cookie offset payload) = offset
-
--- the bytes of the range
-abbrev pub len_in : Asked → ℕ
-len_in (Read cookie offset len) = len
-len_in (Write cookie offset payload) = length payload
-len_in (Fua cookie offset payload) = length payload
-
--- the range has at least one byte, and lies inside a volume of this size
-abbrev pub IsAskedInside : ℕ → Asked → Type 0
-IsAskedInside size asked = (0 < len_in asked) × (offset_in asked + len_in asked ≤ size)
-
--- where the demand's range begins in the volume
-abbrev pub offset_of : Demand → ℕ
-offset_of (demands.Read token offset len) = offset
-offset_of (demands.Write token offset payload) = offset
-offset_of (demands.Fua token offset payload) = offset
-
--- the bytes of its range
-abbrev pub len_of : Demand → ℕ
-len_of (demands.Read token offset len) = len
-len_of (demands.Write token offset payload) = length payload.items
-len_of (demands.Fua token offset payload) = length payload.items
-
--- the session that it came by
-abbrev pub session_of : Demand → SessionId
-session_of (demands.Read token offset len) = token.session
-session_of (demands.Write token offset payload) = token.session
-session_of (demands.Fua token offset payload) = token.session
-
--- the board whose chain owes the reply
-abbrev pub board_of : Demand → BoardId
-board_of (demands.Read token offset len) = token.board
-board_of (demands.Write token offset payload) = token.board
-board_of (demands.Fua token offset payload) = token.board
-
--- the range has at least one byte, and lies inside a volume of this size
-abbrev pub IsInside : ℕ → Demand → Type 0
-IsInside size demand = (0 < len_of demand) × (offset_of demand + len_of demand ≤ size)
+-- the reply that a demand's token owes
+abbrev pub owed_by : Demand → Owed
+owed_by (demands.Read token offset len) = token
+owed_by (demands.Write token write) = token
+owed_by (demands.Fua token write) = record { session = token.session; cookie = token.cookie; board = token.board }
+owed_by (demands.Flush token) = record { session = token.session; cookie = token.cookie; board = token.board }
 
 -- its token has no number yet
 abbrev pub IsUnnumbered : Demand → Type 0
 IsUnnumbered (demands.Read token offset len) = ⊤
-IsUnnumbered (demands.Write token offset payload) = ⊤
-IsUnnumbered (demands.Fua token offset payload) = token.number ≡ None
+IsUnnumbered (demands.Write token write) = ⊤
+IsUnnumbered (demands.Fua token write) = token.number ≡ None
+IsUnnumbered (demands.Flush token) = token.number ≡ None
+
+-- its range, if it has one, has at least one byte and lies inside a volume of this size
+abbrev pub IsAskedInside : ℕ → Asked → Type 0
+IsAskedInside size (Read cookie offset len) = (0 < len) × (offset + len ≤ size)
+IsAskedInside size (Write cookie write) = (0 < length write.bytes) × Fits size write
+IsAskedInside size (Fua cookie write) = (0 < length write.bytes) × Fits size write
+IsAskedInside size (Flush cookie) = ⊤

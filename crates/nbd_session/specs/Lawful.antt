@@ -6,7 +6,7 @@ use Rattle.nbd_codec.specs.ClientOption.{IsOption, spelling as option_spelling}
 use Rattle.nbd_codec.specs.Handshake.{AreFlags, flags_spelling, greeting_spelling}
 use Rattle.nbd_codec.specs.Reply.{PlainReply}
 use Rattle.nbd_codec.specs.Request.{IsRequest, spelling as request_spelling}
-use Rattle.nbd_session.specs.declared.negotiation.Export.{Export}
+use Rattle.nbd_session.specs.declared.answer.Export.{Export}
 use Rattle.nbd_session.specs.declared.phase.Phase.{Phase}
 use Rattle.nbd_session.specs.declared.phase.Phase.TheVariants.{Greeted, Negotiating, Skipping, Transmitting, Leaving, Over}
 use Rattle.nbd_session.specs.Demand.{Asked}

@@ -1,15 +1,15 @@
 -- What holds of each session: however its client's text is cut, and of all that it puts out.
 use Rattle.std.specs.Prelude.{◌≡◌, ◌<◌, ◌^◌, false, List, [], ◌++◌, ℕ, length}
 use Rattle.nbd_codec.specs.Findings.{AreBytes}
-use Rattle.nbd_session.specs.declared.session.TheConstants.{LIMIT_IN_FLIGHT}
+use Rattle.nbd_codec.specs.declared.constants.TheConstants.{MAX_IN_FLIGHT}
 use Rattle.nbd_session.specs.Demand.{Asked}
 use Rattle.nbd_session.specs.Lawful.{GoesOnIn, History, IsLawful, NeedsMore, Stands, fed_and_asked, handed_out, most_kept, replied, sent_by}
 use Rattle.nbd_codec.specs.Reply.{PlainReply}
 use Rattle.nbd_session.specs.Replies.{answered}
 use Rattle.nbd_session.specs.Session.{Feeds, Holds, State}
-use Rattle.nbd_session.specs.Turn.{is_over}
+use Rattle.nbd_session.specs.Progress.{is_over}
 
--- a piece leaves the session in one way, and asks one thing of the volume
+-- a piece leaves the session in one way, and asks the same of the volume
 abbrev pub FeedsInOneWay : Type 0
 FeedsInOneWay = (old : State) (piece : List ℕ) (one other : State) (asked asked_too : List Asked)
     → Feeds old piece one asked → Feeds old piece other asked_too
@@ -49,7 +49,7 @@ HistoriesAreLawful = (session : State) (history : History)
 abbrev pub FeedsTakeAll : Type 0
 FeedsTakeAll = (old new : State) (piece : List ℕ) (asked : List Asked)
     → AreBytes (old.kept ++ piece) → old.export.max_payload < 2 ^ 32 → Feeds old piece new asked
-    → is_over new.phase ≡ false → new.in_flight < LIMIT_IN_FLIGHT
+    → is_over new.phase ≡ false → new.in_flight < MAX_IN_FLIGHT
     → NeedsMore new.phase new.export.max_payload new.kept × (length new.kept < most_kept new.phase new.export.max_payload)
 
 -- a session that needs more is in the middle of its negotiation, or of its transcript

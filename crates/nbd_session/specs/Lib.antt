@@ -1,11 +1,12 @@
 pub mod Answers
 pub mod Begun
 pub mod Demand
+pub mod Intake
 pub mod Lawful
 pub mod Laws
 pub mod Negotiation
+pub mod Progress
 pub mod Refusal
 pub mod Replies
 pub mod Session
 pub mod Transcript
-pub mod Turn

@@ -1,10 +1,10 @@
 -- Negotiation: how the whole text from a client, the whole text to it and its end belong together.
 use Rattle.std.specs.Prelude.{◌≡◌, ◌⊎◌, ℕ, ◌+◌, ◌<◌, ◌==◌, Bool, List, ◌++◌, length, All, if◌then◌else◌}
 use Rattle.std.specs.List.{flat_map}
-use Rattle.nbd_codec.specs.ClientOption.{PlainInfo, Asks, Malformed, PlainOption, ExportName, Abort, Lists, StartTls, Info, Go, StructuredReply, Other, Oversized, IsOption, spelling}
+use Rattle.nbd_codec.specs.ClientOption.{PlainInfo, Asks, Malformed, PlainOption, ExportName, Abort, Lists, Info, Go, Other, Oversized, IsOption, spelling}
 use Rattle.nbd_codec.specs.Findings.{IsImpossible, IsProperFront}
 use Rattle.nbd_codec.specs.Handshake.{AreFlags, flags_spelling, greeting_spelling}
-use Rattle.nbd_session.specs.declared.negotiation.Export.{Export}
+use Rattle.nbd_session.specs.declared.answer.Export.{Export}
 use Rattle.nbd_session.specs.Answers.{answer_to}
 
 -- what an option does: negotiation goes on, the session is over, or transmission begins
@@ -22,15 +22,13 @@ abbrev pub effect_of : PlainOption → Effect
 effect_of ExportName = Begins
 effect_of (Abort bytes) = Ends
 effect_of (Lists bytes) = Haggles
-effect_of (StartTls bytes) = Haggles
 effect_of (Info info) = Haggles
 effect_of (Go info) = effect_of_go info
-effect_of (StructuredReply bytes) = Haggles
 effect_of (Other number bytes) = Haggles
 effect_of (Oversized number len) = Haggles
 
 -- an option, and the data behind it that is passed over
-pub record Told : Type 0 where
+pub record Bid : Type 0 where
   pub option : PlainOption
   pub passed : List ℕ
 
@@ -39,42 +37,40 @@ abbrev pub passed_len : PlainOption → ℕ
 passed_len ExportName = 0
 passed_len (Abort bytes) = 0
 passed_len (Lists bytes) = 0
-passed_len (StartTls bytes) = 0
 passed_len (Info info) = 0
 passed_len (Go info) = 0
-passed_len (StructuredReply bytes) = 0
 passed_len (Other number bytes) = 0
 passed_len (Oversized number len) = len
 
 -- an option that is whole, and does this
-pub record IsTold (effect : Effect) (told : Told) : Type 0 where
-  pub option : IsOption told.option
-  pub passed : length told.passed ≡ passed_len told.option
-  pub does : effect_of told.option ≡ effect
+pub record IsBid (effect : Effect) (bid : Bid) : Type 0 where
+  pub option : IsOption bid.option
+  pub passed : length bid.passed ≡ passed_len bid.option
+  pub does : effect_of bid.option ≡ effect
 
 -- the option's spelling, and what is passed over
-abbrev pub told_spelling : Told → List ℕ
-told_spelling told = spelling told.option ++ told.passed
+abbrev pub bid_spelling : Bid → List ℕ
+bid_spelling bid = spelling bid.option ++ bid.passed
 
 -- the answer to it
-abbrev pub told_answer : Export → Bool → Told → List ℕ
-told_answer export no_zeroes told = answer_to export no_zeroes told.option
+abbrev pub bid_answer : Export → Bool → Bid → List ℕ
+bid_answer export no_zeroes bid = answer_to export no_zeroes bid.option
 
 -- client flags, options after which negotiation went on, and this rest came in; the greeting and their answers went out
 pub record Haggled (export : Export) (no_zeroes : Bool) (from to rest : List ℕ) : Type 0 where
-  pub options : List Told
-  pub each : All (IsTold Haggles) options
-  pub came : from ≡ flags_spelling (record { no_zeroes = no_zeroes }) ++ (flat_map told_spelling options ++ rest)
-  pub went : to ≡ greeting_spelling ++ flat_map (told_answer export no_zeroes) options
+  pub options : List Bid
+  pub each : All (IsBid Haggles) options
+  pub came : from ≡ flags_spelling (record { no_zeroes = no_zeroes }) ++ (flat_map bid_spelling options ++ rest)
+  pub went : to ≡ greeting_spelling ++ flat_map (bid_answer export no_zeroes) options
 
 -- behind such options came one that does this, and then this rest; its answer went out last
 pub record HasLast (export : Export) (effect : Effect) (from to rest : List ℕ) : Type 0 where
   pub no_zeroes : Bool
   pub out : List ℕ
-  pub last : Told
-  pub is_told : IsTold effect last
-  pub before : Haggled export no_zeroes from out (told_spelling last ++ rest)
-  pub went : to ≡ out ++ told_answer export no_zeroes last
+  pub last : Bid
+  pub is_bid : IsBid effect last
+  pub before : Haggled export no_zeroes from out (bid_spelling last ++ rest)
+  pub went : to ≡ out ++ bid_answer export no_zeroes last
 
 -- an option that is too long, with less of its data than it says
 pub record IsPassing (option left : ℕ) (bytes : List ℕ) : Type 0 where

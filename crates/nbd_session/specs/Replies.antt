@@ -9,7 +9,7 @@ use Rattle.nbd_codec.specs.Reply.{PlainReply, Done, Refused, spelling}
 use Rattle.nbd_session.specs.declared.phase.Phase.{Phase}
 use Rattle.nbd_session.specs.declared.phase.Phase.TheVariants.{Greeted, Negotiating, Skipping, Transmitting, Leaving, Over}
 use Rattle.nbd_session.specs.Session.{State}
-use Rattle.nbd_session.specs.Turn.{phase_after}
+use Rattle.nbd_session.specs.Progress.{phase_after}
 
 -- an error of a token on the wire
 abbrev pub error_of : ErrorCode → NbdError

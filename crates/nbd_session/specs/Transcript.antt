@@ -1,16 +1,14 @@
 -- Transcript: the requests that a text after negotiation contains, and the lawful output.
 use Rattle.std.specs.Prelude.{◌≡◌, ℕ, List, [], ◌∷◌, ◌++◌, All, ⊤}
 use Rattle.std.specs.List.{flat_map}
-use Rattle.std.specs.Option.{option_to_list}
 use Rattle.nbd_codec.specs.declared.checks.Checked.{Checked}
 use Rattle.nbd_codec.specs.declared.checks.Checked.TheVariants as checks
 use Rattle.nbd_codec.specs.Checked.{checked}
 use Rattle.nbd_codec.specs.Findings.{IsImpossible, IsProperFront}
 use Rattle.nbd_codec.specs.Reply.{PlainReply, Done, Refused, spelling as reply_spelling}
-use Rattle.nbd_codec.specs.Request.{IsRequest, PlainRequest, Read, Write, Disc, Flush, Other, head_of, spelling}
-use Rattle.nbd_session.specs.declared.negotiation.Export.{Export}
-use Rattle.nbd_session.specs.Demand.{Asked}
-use Rattle.nbd_session.specs.Turn.{asked_by_request}
+use Rattle.nbd_codec.specs.Request.{IsRequest, PlainRequest, Read, Write, Disc, Flush, Other, head_of, payload_of, spelling}
+use Rattle.nbd_session.specs.declared.answer.Export.{Export}
+use Rattle.nbd_session.specs.Demand.{Asked, asked_under}
 
 -- the client leaves
 abbrev pub IsDisc : PlainRequest → Type 0
@@ -60,7 +58,7 @@ replies_in (Came reply ∷ events) = reply ∷ replies_in events
 
 -- the one reply that the tests of requests give, if the volume isn't asked
 abbrev pub own_reply : ℕ → Checked → List ℕ
-own_reply cookie checks.Volume = []
+own_reply cookie (checks.Volume ask) = []
 own_reply cookie checks.Done = reply_spelling (Done cookie [])
 own_reply cookie (checks.Refused error) = reply_spelling (Refused cookie error)
 own_reply cookie checks.Disconnect = []
@@ -72,7 +70,7 @@ shown export (Came reply) = reply_spelling reply
 
 -- what the tests of requests leave to the volume
 abbrev pub asked_if : PlainRequest → Checked → List Asked
-asked_if request checks.Volume = option_to_list (asked_by_request request)
+asked_if request (checks.Volume ask) = asked_under (head_of request).cookie ask (payload_of request) ∷ []
 asked_if request checks.Done = []
 asked_if request (checks.Refused error) = []
 asked_if request checks.Disconnect = []

@@ -1,30 +1,31 @@
-ghost use Rattle.std.specs.Prelude.{◌≡◌, ◌+◌, ◌<◌, ◌≤◌, ◌↔◌, ◌++◌, [], true, false, length, drop, map, IsTrue, IsOk, IfOk, IfErr, IfSome, IsSome, OnOk, OnErr, IsErrOf, MatchOption, All, option_map};
+ghost use Rattle.std.specs.Prelude.{◌≡◌, ◌+◌, ◌<◌, ◌≤◌, ◌^◌, ◌↔◌, ◌++◌, [], true, false, length, drop, map, IsTrue, IsOk, IfOk, IfErr, IfSome, OnOk, OnErr, IsErrOf, MatchOption, All, option_map, None, vec_capacity, vec_len};
 ghost use Rattle.std.specs.Option.{option_to_list};
 ghost use Rattle.nbd_codec.specs.Handshake.{greeting_spelling};
-ghost use Rattle.nbd_codec.specs.Reply.{spelling, reply_view};
-ghost use Rattle.nbd_session.specs.Demand.{IsUnnumbered, IsAskedInside, IsInside, asked_by, board_of, session_of, wanted_view};
+ghost use Rattle.nbd_codec.specs.Reply.{spelling};
+ghost use Rattle.nbd_session.specs.Demand.{IsAskedInside, IsUnnumbered, asked_by, demand_of, owed_by};
+ghost use Rattle.nbd_session.specs.Intake.{IsIntake, IsSound, behind, loaded_view, progress_of, wanted_view};
 ghost use Rattle.nbd_session.specs.Lawful.{History, NeedsMore, Stands, fed_and_asked, handed_out, most_kept, nothing, replied};
 ghost use Rattle.nbd_session.specs.Replies.{answered, error_of, reply_seen};
 ghost use Rattle.nbd_session.specs.Session.{Feeds, Settles};
-ghost use Rattle.nbd_session.specs.Turn.{IsTurn, asked_view, is_over, phase_after, turn_in, turn_view};
+ghost use Rattle.nbd_session.specs.Progress.{IsPhase, is_over, phase_after, phase_at_end, progress_in};
 ghost use Rattle.nbd_session.specs.declared.phase.Phase.TheVariants.{Greeted, Over};
 
-use crate::demand::{Demand, Wanted};
+use crate::answer::Export;
+use crate::demand::Demand;
+use crate::inbox::Inbox;
+use crate::intake::{Intake, flags_intake, option_intake, request_intake, skip_intake};
 use crate::laws::{feeds_are_lawful, requests_are_held};
-use crate::negotiation::{Export, flags_turn, option_turn, skip_turn};
 use crate::phase::Phase;
 use crate::refusal::Refusal;
-use crate::transmission::request_turn;
-use crate::turn::Turn;
+use crate::wanted::{Loaded, Wanted};
 use board::Board;
+use bytes::BytesMut;
 use flush_barrier::{BoardName, ErrorCode, Reply, SessionId};
+use nbd_codec::constants::{MAX_IN_FLIGHT, REQUEST_HEADER, REQUEST_WRITE};
 use nbd_codec::{NbdError, SimpleReply, greeting, write_reply};
 use std::alloc::{AllocError, Global};
 use std::marker::Model;
 use std::mem;
-
-/// How many requests of a session may be in flight.
-pub const LIMIT_IN_FLIGHT: usize = 1;
 
 /// A session with one client, from the greeting to its end.
 #[derive(Debug, Drop)]
@@ -35,25 +36,26 @@ pub struct Session {
     export: Export,
     phase: Phase,
     in_flight: usize,
-    kept: Vec<u8>,
-    output: Vec<u8>,
+    kept: Inbox,
+    output: BytesMut,
 }
 
 impl Model for Session {
     ghost use Rattle.std.specs.Prelude.{◌≤◌};
     ghost use Rattle.nbd_codec.specs.Findings.{AreBytes};
-    ghost use Rattle.nbd_session.specs.Turn.{IsPhase};
+    ghost use Rattle.nbd_codec.specs.declared.constants.TheConstants.{MAX_IN_FLIGHT as most};
+    ghost use Rattle.nbd_session.specs.Progress.{IsPhase};
     ghost use Rattle.nbd_session.specs.Session.{State};
 
     ghost Value = { State };
 
-    ghost view = { λ s. record { board = s.board; id = s.id; export = s.export; phase = s.phase; in_flight = s.in_flight; kept = s.kept.items; output = s.output.items } };
+    ghost view = { λ s. record { board = s.board; id = s.id; export = s.export; phase = s.phase; in_flight = s.in_flight; kept = s.kept; output = s.output.items } };
 
-    ghost invariant = { λ s. (s.in_flight ≤ 1) × IsPhase s.phase × AreBytes s.kept.items };
+    ghost invariant = { λ s. (s.in_flight ≤ most) × IsPhase s.phase × AreBytes s.kept };
 }
 
 impl Session {
-    ghost use Rattle.nbd_session.specs.Session.{Grows, Reaches, State, course_of, left_to_take, limit_in_flight, step, taken_from};
+    ghost use Rattle.nbd_session.specs.Session.{Grows, MakesFirst, Overruns, course_of, left_to_use, limit_in_flight, step, used_from};
 
     /// A session at a member of the board's chain, with an export of `size` bytes that takes payloads of up to
     /// `max_payload` bytes. The greeting waits to go out.
@@ -67,6 +69,8 @@ impl Session {
         ensures session { IfOk result (λ s. s ≡ record { board = board.now; id = id; export = record { size = size; max_payload = max_payload }; phase = Greeted; in_flight = 0; kept = []; output = greeting_spelling }) }
         ensures lawful { IfOk result (λ s. Stands s nothing) }
     {
+        let mut output = BytesMut::new(alloc);
+        output.extend_from_slice(&greeting())?;
         Ok(Session {
             alloc,
             board: BoardName::of(board),
@@ -74,13 +78,13 @@ impl Session {
             export: Export { size, max_payload },
             phase: Phase::Greeted,
             in_flight: 0,
-            kept: Vec::new(alloc),
-            output: Vec::from_slice(alloc, &greeting())?,
+            kept: Inbox::new(alloc),
+            output,
         })
     }
 
-    /// Takes the next piece of the client's bytes, and goes on with what was kept: answers the demands that are whole
-    /// now, up to the limit in flight, with tokens of its board. Further input is kept.
+    /// Takes the next piece of the client's bytes, which may be empty, and goes on with what was kept: answers the
+    /// demands that are whole now, up to the limit in flight, with tokens of its board. Further input is kept.
     ///
     /// 100 `Memory`: nothing of the piece was taken, and no token was made. 201 `SessionOver`: the session takes no
     /// more input. Either leaves the session as it was.
@@ -90,41 +94,42 @@ impl Session {
         ensures feeds { IfOk result (λ demands. Feeds self.old piece.now self.new (map asked_by demands.items)) }
         ensures lawful { (history : History) → Stands self.old history →
             IfOk result (λ demands. Stands self.new (fed_and_asked history piece.now (map asked_by demands.items))) }
-        ensures takes_all { OnOk result (is_over self.new.phase ≡ false → self.new.in_flight < LIMIT_IN_FLIGHT →
+        ensures takes_all { OnOk result (is_over self.new.phase ≡ false → self.new.in_flight < MAX_IN_FLIGHT →
             NeedsMore self.new.phase self.new.export.max_payload self.new.kept) }
-        ensures keeps_little { OnOk result (is_over self.new.phase ≡ false → self.new.in_flight < LIMIT_IN_FLIGHT →
+        ensures keeps_little { OnOk result (is_over self.new.phase ≡ false → self.new.in_flight < MAX_IN_FLIGHT →
             length self.new.kept < most_kept self.new.phase self.new.export.max_payload) }
-        ensures reaches { IfOk result (λ demands. Reaches self.old piece.now self.new (map asked_by demands.items)) }
+        ensures makes_first { IfOk result (λ demands. MakesFirst self.old piece.now self.new (map asked_by demands.items)) }
         ensures export { self.new.export ≡ self.old.export }
         ensures id { self.new.id ≡ self.old.id }
         ensures board { self.new.board ≡ self.old.board }
-        ensures inside { IfOk result (λ demands. All (IsInside self.old.export.size) demands.items) }
-        ensures whose { IfOk result (λ demands. All (λ demand. session_of demand ≡ self.old.id) demands.items) }
-        ensures of_board { IfOk result (λ demands. All (λ demand. board_of demand ≡ self.old.board) demands.items) }
+        ensures inside { IfOk result (λ demands. All (λ demand. IsAskedInside self.old.export.size (asked_by demand)) demands.items) }
+        ensures whose { IfOk result (λ demands. All (λ demand. (owed_by demand).session ≡ self.old.id) demands.items) }
+        ensures of_board { IfOk result (λ demands. All (λ demand. (owed_by demand).board ≡ self.old.board) demands.items) }
         ensures unnumbered { IfOk result (λ demands. All IsUnnumbered demands.items) }
         ensures in_flight { IfOk result (λ demands. self.new.in_flight ≡ self.old.in_flight + length demands.items) }
-        ensures limit { self.new.in_flight ≤ LIMIT_IN_FLIGHT }
+        ensures limit { self.new.in_flight ≤ MAX_IN_FLIGHT }
     {
         if self.is_over() {
             return Err(Refusal::SessionOver);
         }
         feeds_are_lawful();
         requests_are_held();
-        let mut demands = Vec::with_capacity(self.alloc, LIMIT_IN_FLIGHT)?;
-        match self.take(piece) {
-            Ok(Some(wanted)) => demands.push_reserved(wanted.into_demand(&self.board, self.id)),
-            Ok(None) => {}
+        let (kept, output, phase) = (self.kept.len(), self.output.len(), self.phase);
+        match self.take_in(piece) {
+            Ok(demands) => Ok(demands),
             Err(error) => {
-                demands.destroy_empty();
-                return Err(error.into());
+                self.kept.truncate(kept);
+                self.output.truncate(output);
+                self.phase = phase;
+                Err(error.into())
             }
         }
-        Ok(demands)
     }
 
     /// Puts out the reply to a demand of this session, unless none is owed or the session has ended. Where memory runs
     /// out, the reply comes back and nothing has changed.
     pub fn done(&mut self, reply: Reply) -> Result<(), Reply>
+        requires { reply.session ≡ self.old.id }
         ensures ok { OnOk result (self.new ≡ answered self.old (reply_seen reply)) }
         ensures lawful { (history : History) → Stands self.old history →
             OnOk result (Stands self.new (replied self.old history (reply_seen reply))) }
@@ -135,17 +140,37 @@ impl Session {
         ensures id { self.new.id ≡ self.old.id }
         ensures board { self.new.board ≡ self.old.board }
     {
-        if self.phase != Phase::Over && self.in_flight > 0 && self.put_out_reply(&reply).is_err() {
+        if self.phase != Phase::Over && self.in_flight > 0 && self.put_out(&reply).is_err() {
             return Err(reply);
         }
         self.in_flight = self.in_flight.saturating_sub(1);
-        self.end_if_left();
+        self.enter(self.phase, self.in_flight);
         Ok(())
     }
 
-    /// The client's input has ended, or its session can't go on: nothing more comes in, and no reply goes out that
-    /// doesn't wait in `output` already.
-    pub fn end(&mut self)
+    /// Whether the session takes more input now: it hasn't ended, and fewer requests are in flight than may be. Where it
+    /// takes none for the limit alone, `feed` still keeps what comes.
+    pub fn wants(&self) -> bool
+        ensures { IsTrue result ↔ (is_over self.now.phase ≡ false) × (self.now.in_flight < MAX_IN_FLIGHT) }
+    {
+        !self.is_over() && self.in_flight < MAX_IN_FLIGHT
+    }
+
+    /// The client's input has ended: nothing more comes in. After a DISC the replies that are owed still go out; otherwise
+    /// the session ends.
+    pub fn end_of_input(&mut self)
+        ensures { self.new ≡ record self.old { phase = phase_at_end self.old.phase; kept = [] } }
+    {
+        if self.phase == Phase::Leaving {
+            self.kept.clear();
+        } else {
+            self.give_up();
+        }
+    }
+
+    /// The session can't go on, as where a reply finds no memory: it ends, and nothing goes out that doesn't wait in
+    /// `output` already.
+    pub fn give_up(&mut self)
         ensures { self.new ≡ record self.old { phase = Over; kept = [] } }
     {
         self.phase = Phase::Over;
@@ -153,12 +178,12 @@ impl Session {
     }
 
     /// The bytes that wait to go out to the client; from now on they are the caller's.
-    pub fn output(&mut self) -> Vec<u8>
+    pub fn output(&mut self) -> BytesMut
         ensures bytes { result.items ≡ self.old.output }
         ensures none_left { self.new ≡ record self.old { output = [] } }
         ensures lawful { (history : History) → Stands self.old history → Stands self.new (handed_out self.old history) }
     {
-        mem::replace(&mut self.output, Vec::new(self.alloc))
+        mem::replace(&mut self.output, BytesMut::new(self.alloc))
     }
 
     /// Whether the session has ended, with nothing more to put out but what `output` hands out.
@@ -175,137 +200,188 @@ impl Session {
         matches!(self.phase, Phase::Leaving | Phase::Over)
     }
 
-    /// Takes a piece and plays the turns of the input; an error leaves the session as it was.
-    fn take(&mut self, piece: &[u8]) -> Result<Option<Wanted>, AllocError>
-        ensures err { OnErr result (self.new ≡ self.old) }
-        ensures feeds { IfOk result (λ wanted. Feeds self.old piece.now self.new (option_to_list (asked_view wanted))) }
-        ensures export { self.new.export ≡ self.old.export }
-        ensures id { self.new.id ≡ self.old.id }
-        ensures board { self.new.board ≡ self.old.board }
-        ensures inside { IfOk result (λ wanted. IfSome wanted (λ w. IsAskedInside self.old.export.size (wanted_view w))) }
-        ensures in_flight { IfOk result (λ wanted. self.new.in_flight ≡ self.old.in_flight + length (option_to_list wanted)) }
+    /// Takes a piece, goes through the input and makes the demands. An error may leave a piece more in the input, more
+    /// that waits to go out, and another phase.
+    fn take_in(&mut self, piece: &[u8]) -> Result<Vec<Demand>, AllocError>
+        ensures err { OnErr result (Overruns self.old self.new) }
+        ensures made { IfOk result (λ demands. demands.items ≡ map (demand_of self.old.board self.old.id) (map asked_by demands.items)) }
+        ensures feeds { IfOk result (λ demands. Feeds self.old piece.now self.new (map asked_by demands.items)) }
+        ensures inside { IfOk result (λ demands. All (IsAskedInside self.old.export.size) (map asked_by demands.items)) }
+        ensures same { (self.new.export ≡ self.old.export) × (self.new.id ≡ self.old.id) × (self.new.board ≡ self.old.board) }
+        ensures in_flight { IfOk result (λ demands. self.new.in_flight ≡ self.old.in_flight + length demands.items) }
     {
-        let (kept, output, phase) = (self.kept.len(), self.output.len(), self.phase);
-        self.kept.extend_from_slice(piece)?;
-        match self.turns() {
-            Ok((taken, wanted)) => {
-                drop_front(&mut self.kept, taken);
-                if wanted.is_some() {
-                    self.in_flight += 1;
-                }
-                Ok(wanted)
+        let lacking = self.lacking();
+        self.kept.expect(lacking + piece.len());
+        self.kept.push(piece)?;
+        let (used, wanted) = self.read_on()?;
+        let demands = self.demand(used, &wanted)?;
+        Ok(demands)
+    }
+
+    /// How many bytes the WRITE at the front of the input still lacks, as far as that is known.
+    fn lacking(&self) -> usize
+        ensures { result ≤ REQUEST_HEADER + self.now.export.max_payload }
+    {
+        let input = self.kept.as_slice();
+        if self.phase != Phase::Transmitting || input.len() < REQUEST_HEADER {
+            return 0;
+        }
+        let kind = u16::from_be_bytes([input[6], input[7]]);
+        let length = u32::from_be_bytes([input[24], input[25], input[26], input[27]]);
+        if kind != REQUEST_WRITE || length > self.export.max_payload {
+            return 0;
+        }
+        (REQUEST_HEADER + length as usize).saturating_sub(input.len())
+    }
+
+    /// Goes through the input until as many requests are in flight as may be, the input runs short or the session ends:
+    /// how many bytes are used up, and the requests for the volume that stand in them.
+    fn read_on(&mut self) -> Result<(usize, Vec<Wanted>), AllocError>
+        ensures grows { Grows self.old self.new }
+        ensures used { IfOk result (λ r. r.0 ≤ length self.old.kept) }
+        ensures sound { IfOk result (λ r. All (IsSound self.old.export.size self.old.kept r.0) r.1.items) }
+        ensures settles { IfOk result (λ r. Settles limit_in_flight (course_of self.old) (used_from self.new r.0 (map (wanted_view self.old.kept) r.1.items))) }
+        ensures limit { IfOk result (λ r. self.old.in_flight + length r.1.items ≤ MAX_IN_FLIGHT) }
+    {
+        let mut used = 0;
+        let mut wanted = Vec::new(self.alloc);
+        while self.in_flight + wanted.len() < MAX_IN_FLIGHT {
+            match self.next_request(used, &mut wanted)? {
+                Some(next) => used = next,
+                None => break,
+            }
+        }
+        Ok((used, wanted))
+    }
+
+    /// Goes one step through the input behind its first `used` bytes, if there is one: how many bytes are used up then. A
+    /// request for the volume joins those that are wanted.
+    fn next_request(
+        &mut self,
+        used: usize,
+        wanted: &mut Vec<Wanted>,
+    ) -> Result<Option<usize>, AllocError>
+        requires within { used ≤ length self.old.kept }
+        requires free { self.old.in_flight + length wanted.old.items < MAX_IN_FLIGHT }
+        requires sound { All (IsSound self.old.export.size self.old.kept used) wanted.old.items }
+        ensures grows { Grows self.old self.new }
+        ensures steps { IfOk result (λ r. MatchOption r
+            ((self.new ≡ self.old) × (wanted.new.items ≡ wanted.old.items) × (progress_in self.old.export self.old.phase (drop used self.old.kept) ≡ None))
+            (λ next. step limit_in_flight (used_from self.old used (map (wanted_view self.old.kept) wanted.old.items)) ≡ used_from self.new next (map (wanted_view self.old.kept) wanted.new.items))) }
+        ensures within { IfOk result (λ r. IfSome r (λ next. next ≤ length self.old.kept)) }
+        ensures advances { IfOk result (λ r. IfSome r (λ next. left_to_use self.new next < left_to_use self.old used)) }
+        ensures sound { IfOk result (λ r. IfSome r (λ next. All (IsSound self.old.export.size self.old.kept next) wanted.new.items)) }
+        ensures limit { OnOk result (self.old.in_flight + length wanted.new.items ≤ MAX_IN_FLIGHT) }
+    {
+        let came = self.kept.len();
+        let Some(intake) = self.intake(used) else {
+            return Ok(None);
+        };
+        let Intake {
+            phase,
+            used: count,
+            answer,
+            wanted: request,
+        } = intake;
+        answer.put(self.export, &mut self.output)?;
+        self.enter(phase, self.in_flight + wanted.len());
+        if self.is_over() {
+            return Ok(Some(came));
+        }
+        add(wanted, request, used)?;
+        Ok(Some(used + count))
+    }
+
+    /// What comes next in the input behind its first `used` bytes, or `None` where more is needed or nothing more is taken.
+    #[tactic(auto, unfolding(crate::specs::Progress::progress_in))]
+    fn intake(&self, used: usize) -> Option<Intake>
+        requires { used ≤ length self.now.kept }
+        ensures exact { option_map (progress_of self.now.export (drop used self.now.kept)) result ≡ progress_in self.now.export self.now.phase (drop used self.now.kept) }
+        ensures intake { IfSome result (IsIntake self.now.export.size (drop used self.now.kept)) }
+    {
+        let input = &self.kept.as_slice()[used..];
+        match self.phase {
+            Phase::Greeted => flags_intake(self.export, input),
+            Phase::Negotiating { no_zeroes } => option_intake(self.export, no_zeroes, input),
+            Phase::Skipping {
+                no_zeroes,
+                option,
+                left,
+            } => skip_intake(self.export, no_zeroes, option, left, input),
+            Phase::Transmitting => request_intake(self.export, input),
+            Phase::Leaving | Phase::Over => None,
+        }
+    }
+
+    /// Takes the first `used` bytes of the input away, and makes a demand of each request that stands in them; or leaves
+    /// all as it was.
+    fn demand(&mut self, used: usize, wanted: &[Wanted]) -> Result<Vec<Demand>, AllocError>
+        requires used { used ≤ length self.old.kept }
+        requires sound { All (IsSound self.old.export.size self.old.kept used) wanted.now }
+        requires limit { self.old.in_flight + length wanted.now ≤ MAX_IN_FLIGHT }
+        ensures made { IfOk result (λ demands. demands.items ≡ map (demand_of self.old.board self.old.id) (map (wanted_view self.old.kept) wanted.now)) }
+        ensures ok { OnOk result (self.new ≡ record self.old { in_flight = self.old.in_flight + length wanted.now; kept = drop used self.old.kept }) }
+        ensures err { OnErr result (self.new ≡ self.old) }
+    {
+        let mut demands = Vec::with_capacity(self.alloc, wanted.len())?;
+        match self.kept.hand_on(used, wanted) {
+            Ok(loaded) => {
+                make(&mut demands, loaded, &self.board, self.id);
+                self.in_flight += wanted.len();
+                Ok(demands)
             }
             Err(error) => {
-                self.kept.truncate(kept);
-                self.output.truncate(output);
-                self.phase = phase;
+                demands.destroy_empty();
                 Err(error)
             }
         }
     }
 
-    /// Plays turns until a request is for the volume, the input runs short or the session ends: how many bytes they
-    /// took, and what is wanted of the volume.
-    fn turns(&mut self) -> Result<(usize, Option<Wanted>), AllocError>
-        ensures grows { Grows self.old self.new }
-        ensures taken { IfOk result (λ r. r.0 ≤ length self.old.kept) }
-        ensures settles { IfOk result (λ r. Settles limit_in_flight (course_of self.old) (taken_from self.new r.0 (asked_view r.1))) }
-        ensures inside { IfOk result (λ r. IfSome r.1 (λ w. IsAskedInside self.old.export.size (wanted_view w))) }
-        ensures limit { IfOk result (λ r. IsSome r.1 → self.old.in_flight < LIMIT_IN_FLIGHT) }
+    /// Enters a phase in which so many replies are owed: a session that its client left ends with the last of them.
+    fn enter(&mut self, phase: Phase, owed: usize)
+        requires { IsPhase phase }
+        ensures { self.new ≡ record self.old { phase = phase_after phase owed } }
     {
-        let mut taken = 0;
-        while self.in_flight < LIMIT_IN_FLIGHT {
-            let Some((front, wanted)) = self.play_turn(taken)? else {
-                break;
-            };
-            taken = front;
-            if wanted.is_some() {
-                return Ok((taken, wanted));
-            }
-        }
-        Ok((taken, None))
-    }
-
-    /// Plays the turn at the input behind its first `taken` bytes, if there is one: how many bytes are taken then, and
-    /// what is wanted of the volume.
-    fn play_turn(&mut self, taken: usize) -> Result<Option<(usize, Option<Wanted>)>, AllocError>
-        requires within { taken ≤ length self.old.kept }
-        requires free { self.old.in_flight < LIMIT_IN_FLIGHT }
-        ensures grows { Grows self.old self.new }
-        ensures plays { IfOk result (λ r. MatchOption r ((self.new ≡ self.old) × (turn_in self.old.export self.old.phase (drop taken self.old.kept) ≡ None))
-            (λ t. step limit_in_flight (taken_from self.old taken None) ≡ taken_from self.new t.0 (asked_view t.1))) }
-        ensures within { IfOk result (λ r. IfSome r (λ t. t.0 ≤ length self.old.kept)) }
-        ensures advances { IfOk result (λ r. IfSome r (λ t. left_to_take self.new t.0 < left_to_take self.old taken)) }
-        ensures inside { IfOk result (λ r. IfSome r (λ t. IfSome t.1 (λ w. IsAskedInside self.old.export.size (wanted_view w)))) }
-    {
-        let Some(turn) = self.turn(&self.kept[taken..])? else {
-            return Ok(None);
+        self.phase = if phase == Phase::Leaving && owed == 0 {
+            Phase::Over
+        } else {
+            phase
         };
-        let Turn {
-            phase,
-            taken: count,
-            output,
-            wanted,
-        } = turn;
-        self.output.extend_from_slice(&output)?;
-        self.phase = phase;
-        self.end_if_left();
-        if self.is_over() {
-            return Ok(Some((self.kept.len(), None)));
-        }
-        Ok(Some((taken + count, wanted)))
     }
 
-    /// What comes next in the input, or `None` where more is needed or nothing more is taken.
-    #[tactic(auto, unfolding(crate::specs::Turn::turn_in))]
-    fn turn(&self, input: &[u8]) -> Result<Option<Turn>, AllocError>
-        ensures exact { IfOk result (λ turn. option_map turn_view turn ≡ turn_in self.now.export self.now.phase input.now) }
-        ensures turn { IfOk result (λ turn. IfSome turn (λ t. IsTurn (length input.now) (turn_view t))) }
-        ensures inside { IfOk result (λ turn. IfSome turn (λ t. IfSome t.wanted (λ w. IsAskedInside self.now.export.size (wanted_view w)))) }
-    {
-        match self.phase {
-            Phase::Greeted => Ok(flags_turn(self.alloc, input)),
-            Phase::Negotiating { no_zeroes } => {
-                option_turn(self.alloc, self.export, no_zeroes, input)
-            }
-            Phase::Skipping {
-                no_zeroes,
-                option,
-                left,
-            } => skip_turn(self.alloc, no_zeroes, option, left, input),
-            Phase::Transmitting => request_turn(self.alloc, self.export, input),
-            Phase::Leaving | Phase::Over => Ok(None),
-        }
-    }
-
-    /// Puts a reply to a demand out, or leaves all as it was: first what the client reads of it without a payload, and
-    /// behind that the bytes.
-    fn put_out_reply(&mut self, reply: &Reply) -> Result<(), AllocError>
+    /// Puts a reply to a demand at the end of what goes out, or leaves all as it was.
+    fn put_out(&mut self, reply: &Reply) -> Result<(), AllocError>
         ensures ok { OnOk result (self.new ≡ record self.old { output = self.old.output ++ spelling (reply_seen reply.now) }) }
         ensures err { OnErr result (self.new ≡ self.old) }
     {
-        let (outcome, payload) = match reply.error() {
-            None => (Ok(Vec::new(self.alloc)), reply.payload()),
-            Some(code) => (Err(nbd_error(code)), b"".as_slice()),
+        let outcome = match reply.error() {
+            None => Ok(reply.payload()),
+            Some(code) => Err(nbd_error(code)),
         };
         let cookie = reply.cookie();
-        let head = write_reply(self.alloc, &SimpleReply { cookie, outcome })?;
-        let before = self.output.len();
-        self.output.extend_from_slice(&head)?;
-        let put = self.output.extend_from_slice(payload);
-        if put.is_err() {
-            self.output.truncate(before);
-        }
-        put
+        write_reply(&mut self.output, &SimpleReply { cookie, outcome })
     }
+}
 
-    /// A session that its client left ends once no reply is owed.
-    fn end_if_left(&mut self)
-        ensures { self.new ≡ record self.old { phase = phase_after self.old.phase self.old.in_flight } }
-    {
-        if self.phase == Phase::Leaving && self.in_flight == 0 {
-            self.phase = Phase::Over;
-        }
+/// Adds a request, if there is one, where so many bytes stand before its input.
+fn add(wanted: &mut Vec<Wanted>, request: Option<Wanted>, before: usize) -> Result<(), AllocError>
+    requires ordered { IfSome request (λ w. w.start ≤ w.end) }
+    requires fits { IfSome request (λ w. before + w.end < 2 ^ 64) }
+    ensures { OnOk result (wanted.new.items ≡ wanted.old.items ++ option_to_list (option_map (behind before) request)) }
+{
+    if let Some(request) = request {
+        wanted.push(request.behind(before))?;
+    }
+    Ok(())
+}
+
+/// Makes the demands, with tokens of the board.
+fn make(demands: &mut Vec<Demand>, loaded: Vec<Loaded>, board: &BoardName, session: SessionId)
+    requires { vec_len demands.old + vec_len loaded ≤ vec_capacity demands.old }
+    ensures { demands.new.items ≡ demands.old.items ++ map (demand_of board.now session) (map loaded_view loaded.items) }
+{
+    for request in loaded {
+        demands.push_reserved(request.into_demand(board, session));
     }
 }
 
@@ -317,13 +393,4 @@ fn nbd_error(code: ErrorCode) -> NbdError
         ErrorCode::Io => NbdError::Io,
         ErrorCode::NoMemory => NbdError::NoMemory,
     }
-}
-
-/// Takes the first bytes away.
-fn drop_front(bytes: &mut Vec<u8>, count: usize)
-    requires { count ≤ length bytes.old.items }
-    ensures { bytes.new.items ≡ drop count bytes.old.items }
-{
-    bytes.rotate_left(count);
-    bytes.truncate(bytes.len() - count);
 }

@@ -205,16 +205,18 @@ impl Member {
     }
 
     /// The bytes of a range of the volume at a front between the durable one and the last applied write.
-    pub(crate) fn read(&self, offset: u64, len: u32, front: u64) -> Result<Vec<u8>, AllocError>
+    pub(crate) fn read(&self, offset: u64, len: u32, front: u64) -> Result<Bytes, AllocError>
         requires inside { offset + len ≤ (fronts_of self.now).size }
         requires above { (fronts_of self.now).durable ≤ front }
         requires applied { front ≤ (fronts_of self.now).applied }
-        ensures bytes { IfOk result (λ bytes. bytes.items
+        ensures bytes { IfOk result (λ bytes. bytes
             ≡ take len (drop offset (volume_at self.now front))) }
-        ensures len { IfOk result (λ bytes. length bytes.items ≡ len) }
+        ensures len { IfOk result (λ bytes. length bytes ≡ len) }
     {
         let above = (front - self.durable) as usize;
-        blocks::read(self.alloc, &self.blocks, &self.writes[..above], offset, len)
+        let writes = &self.writes[..above];
+        let bytes = blocks::read(self.alloc, &self.blocks, writes, offset, len)?;
+        Ok(Bytes::from_vec(bytes)?)
     }
 
     /// Sends a write to the head under the next ticket, and keeps its token.

@@ -8,5 +8,5 @@ pub returns-clause-lawful : goal.returns-clause-lawful
 returns-clause-lawful c history stands =
     let now = c.args.self.now in
     let reply = reply_seen c.args.reply in
-    let is : answered now reply ≡ c.end_if_left.new.self = search rules in
+    let is : answered now reply ≡ c.enter-2.new.self = search rules in
     subst (λ s. Stands s (replied now history reply)) is (stands_replied now history reply stands)
