@@ -157,7 +157,8 @@ impl Session {
     }
 
     /// The client's input has ended: nothing more comes in. After a DISC the replies that are owed still go out; otherwise
-    /// the session ends.
+    /// the session ends. It is to be told while the session wants more: at the limit, requests and a DISC that were kept end
+    /// with it.
     pub fn end_of_input(&mut self)
         ensures { self.new ≡ record self.old { phase = phase_at_end self.old.phase; kept = [] } }
     {
