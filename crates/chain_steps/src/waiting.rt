@@ -181,7 +181,10 @@ impl Waiting {
                 },
             ) => token.settle(alloc, floor),
             (Due::Flushes(floor), Waiting::Flush { token }) => token.settle(alloc, floor),
-            (_, other) => other.cannot_be(),
+            (_, other) => {
+                other.abandon();
+                unreachable!()
+            }
         }
     }
 
@@ -225,7 +228,10 @@ impl Waiting {
                 length,
                 token,
             },
-            other => other.cannot_be(),
+            other => {
+                other.abandon();
+                unreachable!()
+            }
         }
     }
 
@@ -250,13 +256,5 @@ impl Waiting {
             } => token.abandon(),
             Waiting::Flush { token } => token.abandon(),
         }
-    }
-
-    /// A token of a kind that the caller's condition rules out.
-    fn cannot_be<T>(self) -> T
-        requires { ⊥ }
-    {
-        self.abandon();
-        unreachable!()
     }
 }

@@ -4,5 +4,6 @@ mod Homes
 mod Opening
 mod Overlays
 mod Refusals
+mod Slices
 mod Sound
 mod Stored

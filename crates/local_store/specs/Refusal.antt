@@ -66,6 +66,12 @@ IsOfCommitting Backwards = Unit {0}
 IsOfCommitting (Device error) = error ≢ faults.ReadFault
 IsOfCommitting _ = ⊥
 
+-- what the making of a receipt may be refused with
+abbrev pub IsOfStamping : Refusal → Type 0
+IsOfStamping Memory = Unit {0}
+IsOfStamping (Device error) = error ≢ faults.ReadFault
+IsOfStamping _ = ⊥
+
 -- what a tick may be refused with
 abbrev pub IsOfTicking : Refusal → Type 0
 IsOfTicking Broken = Unit {0}

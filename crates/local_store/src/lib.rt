@@ -9,12 +9,14 @@
 mod contents;
 mod laws;
 mod pending;
+mod plain;
 mod refusal;
 mod store;
 mod store_like;
 
 pub use contents::Contents;
 pub use laws::{batches_go_over, disks_mean_one, meanings_are_opened};
+pub use plain::PlainStore;
 pub use refusal::Refusal;
 pub use store::Store;
 pub use store_like::StoreLike;

@@ -1,0 +1,16 @@
+-- Blocks and volumes as slices of bytes.
+use Rattle.std.proofs.Common.{◌≡◌, ℕ, ◌+◌, ◌-◌, ◌*◌, List, ◌++◌, length, ap, ◌∙◌, arith, take, drop}
+use Rattle.std.proofs.Math.Seq.{take-append_seam}
+use Rattle.std.specs.Prelude.{slice_range}
+use Rattle.volume.specs.Writes.{block_of}
+
+slice_is : (n start : ℕ) (xs : List ℕ) → slice_range xs start (start + n) ≡ take n (drop start xs)
+slice_is n start xs = let len : start + n - start ≡ n = omega arith in ap (λ k. take k (drop start xs)) len
+
+pub block_is_slice : (volume bytes : List ℕ) (b : ℕ) → bytes ≡ slice_range volume (b * 4096) (b * 4096 + 4096) → bytes ≡ block_of volume b
+unfolding block_of
+block_is_slice volume bytes b is = let at : b * 4096 ≡ 4096 * b = omega arith in is ∙ slice_is 4096 (b * 4096) volume ∙ ap (λ s. take 4096 (drop s volume)) at
+
+-- bytes that are written back over as many
+pub written_back : (n : ℕ) (new old : List ℕ) → length new ≡ n → take n (new ++ drop (length new) old) ≡ new
+written_back n new old long = rw (← long) (take-append_seam new (drop (length new) old))

@@ -1,0 +1,16 @@
+use Rattle.std.proofs.Common.{subst, ◌≡◌, ◌+◌, ◌*◌}
+use Rattle.std.specs.Prelude.{slice_range}
+use Rattle.local_store.specs.About.{meaning_with}
+use Rattle.local_store.specs.Meaning.{Means}
+use Rattle.local_store.proofs.Slices.{block_is_slice}
+use Rattle.local_store.specs.Plain.{means_plain, runs_plain}
+use Rattle.local_store.proofs.plain.PlainStoreStoreLike.read_block.Goals as goal
+
+pub returns-clause-any_moment : goal.returns-clause-any_moment
+returns-clause-any_moment c = λ model volume kept. runs_plain _ _ _ (λ x left. means_plain c.args.self.now volume x kept left)
+
+pub returns-clause-read : goal.returns-clause-read
+returns-clause-read c = λ model volume kept. block_is_slice volume c.copy_from_slice.new.self c.args.block
+    (subst (λ v. c.copy_from_slice.new.self ≡ slice_range v (c.args.block * 4096) (c.args.block * 4096 + 4096)) kept
+    (subst (λ s. c.copy_from_slice.new.self ≡ slice_range s.volume (c.args.block * 4096) (c.args.block * 4096 + 4096)) c.self.view_is
+    (subst (λ v. c.copy_from_slice.new.self ≡ slice_range v (c.args.block * 4096) (c.args.block * 4096 + 4096)) c.deref.ensures.value c.copy_from_slice.ensures.after)))
