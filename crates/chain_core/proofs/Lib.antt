@@ -1,2 +1,10 @@
+mod Answering
+mod Counting
+mod Grouping
+mod Images
+mod Ranges
 mod Settling
 mod Sound
+mod SoundCommits
+mod SoundReads
+mod StoreReads

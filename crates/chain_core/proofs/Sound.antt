@@ -21,7 +21,7 @@ use Rattle.chain_steps.specs.declared.waiting.Waiting.{Waiting}
 use Rattle.chain_steps.specs.declared.waiting.Waiting.TheVariants.{Plain, Fua, Read, Flush}
 use Rattle.chain_steps.specs.declared.waiting.WriteToken.{WriteToken}
 use Rattle.chain_steps.specs.declared.waiting.WriteToken.TheVariants as tokens
-use Rattle.chain_core.specs.Node.{IsAskedInside, IsFoundBy, IsSound, size_of}
+use Rattle.chain_core.specs.Node.{IsAskedInside, IsFoundBy, IsSound, Keeping, size_of}
 
 -- a token that learns a number, or is bound, is of its board still, and its range the same
 own_learned : (board : BoardId) (ticket n : ℕ) (w : Waiting) → IsOf board w → IsOf board (learned ticket n w)
@@ -39,13 +39,13 @@ asked_learned size ticket n (Fua t epoch token) asked = asked
 asked_learned size ticket n (Read offset len token) asked = asked
 asked_learned size ticket n (Flush token) asked = asked
 
-own_bound : (board : BoardId) (n : ℕ) (w : Waiting) → IsOf board w → IsOf board (bound n w)
+pub own_bound : (board : BoardId) (n : ℕ) (w : Waiting) → IsOf board w → IsOf board (bound n w)
 own_bound board n (Plain t epoch number token) own = own
 own_bound board n (Fua t epoch token) own = own
 own_bound board n (Read offset len token) own = own
 own_bound board n (Flush token) own = own
 
-asked_bound : (size n : ℕ) (w : Waiting) → IsAskedInside size w → IsAskedInside size (bound n w)
+pub asked_bound : (size n : ℕ) (w : Waiting) → IsAskedInside size w → IsAskedInside size (bound n w)
 asked_bound size n (Plain t epoch number token) asked = asked
 asked_bound size n (Fua t epoch token) asked = asked
 asked_bound size n (Read offset len token) asked = asked
@@ -61,7 +61,7 @@ pub number_left : (write : Placed) (node : NodeState) → is_full write node ≡
 number_left write node room = grind (arith, nat_tests)
 
 -- no front is kept
-pub sound_idle : (about : About) (keeps : List ℕ → Type 0) (node : NodeState) → IsSound about keeps node → IsSound about keeps (record node { found = None })
+pub sound_idle : (about : About) (keeps : Keeping) (node : NodeState) → IsSound about keeps node → IsSound about keeps (record node { found = None })
 sound_idle about keeps node is = record {
   slot = is.slot;
   incarnation = is.incarnation;
@@ -75,6 +75,8 @@ sound_idle about keeps node is = record {
   asked = is.asked;
   found = λ x here. absurd (cc);
   under_way = λ c here. let way = is.under_way c here in record { above = way.above; known = way.known; images = way.images; room = way.room };
+  running = is.running;
+  resting = is.resting;
   journals = is.journals;
 }
 
@@ -112,7 +114,7 @@ both_gone f (w ∷ ws) = elim (cases_Bool (is_paid_write f w)) [
   ])
 ]
 
-module _ (about : About) (keeps : List ℕ → Type 0) (node : NodeState) (is : IsSound about keeps node) where
+module _ (about : About) (keeps : Keeping) (node : NodeState) (is : IsSound about keeps node) where
   -- the writes up to a number are the same with one more behind them
   upto_more : (n : ℕ) (write : Placed) (origin : Origin) (p : ℕ) → p ≤ last_of node → writes_upto (with_write node.table n write origin) p ≡ writes_upto node.table p
   upto_more n write origin p within = ap (map (λ k. k.write)) (take-append-le (p - durable_of node) node.table.kept (record { number = n; write = write; origin = origin } ∷ []) (omega arith))
@@ -132,6 +134,8 @@ module _ (about : About) (keeps : List ℕ → Type 0) (node : NodeState) (is : 
     asked = asked;
     found = is.found;
     under_way = λ c here. let way = is.under_way c here in record { above = way.above; known = way.known; images = way.images; room = way.room };
+    running = is.running;
+    resting = is.resting;
     journals = is.journals;
   }
 
@@ -150,6 +154,8 @@ module _ (about : About) (keeps : List ℕ → Type 0) (node : NodeState) (is : 
     asked = is.asked;
     found = λ x here. let same : found ≡ x = cc here in subst (IsFoundBy (record node { found = Some found })) same (still found by);
     under_way = λ c here. let way = is.under_way c here in record { above = way.above; known = way.known; images = way.images; room = way.room };
+    running = is.running;
+    resting = is.resting;
     journals = is.journals;
   }
     where
@@ -172,6 +178,8 @@ module _ (about : About) (keeps : List ℕ → Type 0) (node : NodeState) (is : 
     asked = All-push (IsAskedInside (size_of about)) node.waiting w is.asked asked;
     found = λ x here. absurd (cc);
     under_way = λ c here. let way = is.under_way c here in record { above = way.above; known = way.known; images = way.images; room = way.room };
+    running = is.running;
+    resting = is.resting;
     journals = is.journals;
   }
 
@@ -199,7 +207,9 @@ module _ (about : About) (keeps : List ℕ → Type 0) (node : NodeState) (is : 
         asked = is.asked;
         found = λ x here. absurd (cc);
         under_way = λ c here. let way = is.under_way c here in record { above = way.above; known = way.known; images = way.images; room = way.room };
-        journals = λ volume keep c here. let way = is.under_way c here in rw (upto_more n write origin c.front (omega (arith, way.known, is.ahead))) (is.journals volume keep c here);
+        running = is.running;
+        resting = is.resting;
+        journals = λ premise volume keep c here. let way = is.under_way c here in rw (upto_more n write origin c.front (omega (arith, way.known, is.ahead))) (is.journals premise volume keep c here);
       }
 
   -- more is known, tokens went, and no front is kept
@@ -217,6 +227,8 @@ module _ (about : About) (keeps : List ℕ → Type 0) (node : NodeState) (is : 
     asked = All-filter passes (IsAskedInside (size_of about)) node.waiting is.asked;
     found = λ x here. absurd (cc);
     under_way = λ c here. let way = is.under_way c here in record { above = way.above; known = omega (arith, way.known, above); images = way.images; room = way.room };
+    running = is.running;
+    resting = is.resting;
     journals = is.journals;
   }
 
@@ -230,5 +242,5 @@ pub number_is : (slot ticket incarnation : ℕ) (write : Placed) (node : NodeSta
 number_is slot ticket incarnation write node head there room = rw (head, there, room) refl
 
 -- a raised front that is kept isn't below the known commit
-pub raised_above : (about : About) (keeps : List ℕ → Type 0) (node : NodeState) (front : FoundFront) → IsSound about keeps node → node.found ≡ Some (Raised front) → node.known ≤ front.number
+pub raised_above : (about : About) (keeps : Keeping) (node : NodeState) (front : FoundFront) → IsSound about keeps node → node.found ≡ Some (Raised front) → node.known ≤ front.number
 raised_above about keeps node front is here = let by = is.found (Raised front) here in omega (arith, is.ahead, by.1)

@@ -1,2 +1,5 @@
+pub mod Commits
+pub mod Groups
 pub mod Node
+pub mod Reads
 pub mod Refusal

@@ -1,5 +1,5 @@
 -- What contracts see of a member, and what holds of every one.
-use Rattle.std.specs.Prelude.{◌≡◌, ◌⊎◌, ℕ, ◌+◌, ◌*◌, ◌<◌, ◌≤◌, Option, Some, None, List, [], All, length, ⊤, if◌then◌else◌}
+use Rattle.std.specs.Prelude.{◌≡◌, ◌⊎◌, ℕ, ◌+◌, ◌*◌, ◌<◌, ◌≤◌, false, Option, Some, None, List, [], All, length, ⊤, if◌then◌else◌}
 use Rattle.std.specs.Option.{ForSome}
 use Rattle.board.specs.Seats.{BoardId, FoundFront}
 use Rattle.flush_barrier.specs.Reply.{GivenReply}
@@ -50,8 +50,18 @@ pub record IsUnderWay (about : About) (node : NodeState) (commit : Commit) : Typ
   pub images : AreImages about.geometry.blocks commit.images
   pub room : HasRoom about (length commit.images)
 
+-- what a store keeps: such volumes, under the premise
+pub record Keeping : Type 1 where
+  pub premise : Type 0
+  pub keeps : List ℕ → Type 0
+
+-- a store that runs: no device call failed, and it keeps a volume of its size
+pub record IsRunning (about : About) (keeping : Keeping) : Type 0 where
+  pub whole : about.broken ≡ false
+  pub keeps : keeping.premise → (volume : List ℕ) × keeping.keeps volume × (length volume ≡ size_of about)
+
 -- what holds of every member, whose store tells this of itself and keeps such volumes
-pub record IsSound (about : About) (keeps : List ℕ → Type 0) (node : NodeState) : Type 0 where
+pub record IsSound (about : About) (keeping : Keeping) (node : NodeState) : Type 0 where
   pub slot : about.slot ≡ node.place.slot
   pub incarnation : about.incarnation ≡ node.incarnation
   pub front : about.front ≡ durable_of node
@@ -64,7 +74,9 @@ pub record IsSound (about : About) (keeps : List ℕ → Type 0) (node : NodeSta
   pub asked : All (IsAskedInside (size_of about)) node.waiting
   pub found : ForSome node.found (IsFoundBy node)
   pub under_way : ForSome node.commit (IsUnderWay about node)
-  pub journals : (volume : List ℕ) → keeps volume → ForSome node.commit (λ commit. AreImagesOf volume (writes_upto node.table commit.front) commit.images)
+  pub running : node.stopped ≡ None → IsRunning about keeping
+  pub resting : ForSome node.stopped (λ cause. node.commit ≡ None)
+  pub journals : keeping.premise → (volume : List ℕ) → keeping.keeps volume → ForSome node.commit (λ commit. AreImagesOf volume (writes_upto node.table commit.front) commit.images)
 
 -- a message whose write lies in the volume
 abbrev pub IsInside : ℕ → Message → Type 0

@@ -1,14 +1,16 @@
-ghost use Rattle.std.specs.Prelude.{◌≡◌, ◌<◌, ◌≤◌, ◌+◌, ◌^◌, ◌++◌, [], ◌∷◌, List, All, Some, None, filter, length, map, not, vec_len, vec_capacity, IfErr, OnErr, OnOk};
-ghost use Rattle.chain_steps.specs.Waiting.{IsOf, IsOfDue, bound, is_due, learned, reply_to, waits_for};
+ghost use Rattle.std.specs.Prelude.{◌≡◌, ◌<◌, ◌≤◌, ◌+◌, ◌^◌, ◌++◌, [], ◌∷◌, List, All, Some, None, filter, length, map, not, vec_len, vec_capacity, IfErr, IfOk, OnErr, OnOk};
+ghost use Rattle.chain_core.specs.Reads.{answered};
+ghost use Rattle.chain_steps.specs.Waiting.{IsOf, IsOfDue, asked_range, bound, is_read, is_due, learned, reply_to, waits_for};
 ghost use Rattle.chain_steps.specs.declared.waiting.Waiting.{Waiting as Token};
 ghost use Rattle.chain_steps.specs.declared.waiting.Waiting.TheVariants.{Flush, Read};
 ghost use Rattle.flush_barrier.specs.declared.error_code.ErrorCode.TheVariants.{Io};
 
 use crate::out::Served;
 use board::Front;
-use chain_steps::{Due, Tokens, WriteToken};
+use bytes::Bytes;
+use chain_steps::{AskedRead, Due, Tokens, WriteToken};
 use flush_barrier::{ErrorCode, OwedFlush, OwedRead};
-use std::alloc::Global;
+use std::alloc::{AllocError, Global};
 use std::marker::Model;
 use std::mem;
 
@@ -130,6 +132,33 @@ impl Desk {
             served.push_reserved(Served::new(reply));
         }
         served
+    }
+
+    /// The ranges that the READs ask for, in the order in which they were taken: the first byte of each, and how many.
+    pub(crate) fn asked(&self, alloc: Global) -> Result<Vec<(u64, u32)>, AllocError>
+        ensures { IfOk result (λ ranges. ranges.items ≡ map asked_range (filter is_read self.now)) }
+    {
+        self.tokens.asked(alloc)
+    }
+
+    /// Answers the READs with these bytes, in the order in which they were taken, into a list that has room for them.
+    pub(crate) fn answer_reads(&mut self, payloads: Vec<Bytes>, served: &mut Vec<Served>)
+        requires many { length payloads.items ≡ length (filter is_read self.old) }
+        requires room { vec_len served.old + length payloads.items ≤ vec_capacity served.old }
+        ensures answered { served.new.items ≡ served.old.items ++ answered payloads.items (filter is_read self.old) }
+        ensures left { self.new ≡ filter (λ w. not (is_read w)) self.old }
+    {
+        for payload in payloads {
+            let Some(read) = self.tokens.next_read() else {
+                unreachable!();
+            };
+            let AskedRead {
+                offset: _,
+                length: _,
+                token,
+            } = read;
+            served.push_reserved(Served::new(token.settle(payload)));
+        }
     }
 
     /// Ends all tokens without a reply.

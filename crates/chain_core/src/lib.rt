@@ -9,11 +9,15 @@
 
 mod clients;
 mod commit;
+mod commits;
 mod delivering;
 mod desk;
 mod fronts;
+mod groups;
 mod node;
 mod out;
+mod reading;
+mod reads;
 mod refusal;
 
 pub use node::Node;

@@ -1,7 +1,7 @@
-ghost use Rattle.std.specs.Prelude.{◌≡◌, ◌≤◌, ◌+◌, [], true, false, None, IfSome};
+ghost use Rattle.std.specs.Prelude.{◌≡◌, ◌≤◌, ◌+◌, [], List, ℕ, length, true, false, None, IfSome};
 ghost use Rattle.chain_steps.specs.Node.{NodeState, last_of};
 ghost use Rattle.chain_steps.specs.Steps.{stop};
-ghost use Rattle.chain_core.specs.Node.{HasStopped, IsSound, IsStep, Seen};
+ghost use Rattle.chain_core.specs.Node.{IsSound, IsStep, Seen, size_of};
 
 use crate::commit::Commit;
 use crate::desk::Desk;
@@ -54,7 +54,7 @@ impl<S: StoreLike> Model for Node<S> {
       };
     } };
 
-    ghost invariant = { λ n. IsSound (S.about n.store) (λ volume. S.keeps_model × S.keeps n.store volume) (record {
+    ghost invariant = { λ n. IsSound (S.about n.store) (record { premise = S.keeps_model; keeps = S.keeps n.store }) (record {
       board = n.board;
       place = n.place;
       incarnation = n.incarnation;
@@ -71,8 +71,11 @@ impl<S: StoreLike> Model for Node<S> {
 }
 
 impl<S: StoreLike + Drop> Node<S> {
-    /// The member whose store this is, in a chain that starts: all that the store holds is known, and no token waits.
+    /// The member whose store this is, in a chain that starts: all that the store holds is known, and no token waits. The
+    /// store isn't broken, and keeps a volume of its size.
     pub fn new(alloc: Global, board: &Board, chain: Record, store: S) -> Node<S>
+        requires runs { (S.about store).broken ≡ false }
+        requires keeps { S.keeps_model → (volume : List ℕ) × S.keeps store volume × (length volume ≡ size_of (S.about store)) }
         ensures store { result.store ≡ store }
         ensures state { result.state ≡ record {
           board = board.now;

@@ -173,6 +173,12 @@ answer_at volume front node = record {
   };
 }
 
+-- the number of the front that was looked up and is kept, if there is one
+abbrev pub looked_front : Option Found → Option ℕ
+looked_front None = None
+looked_front (Some (Raised front)) = None
+looked_front (Some (Looked front)) = Some front.number
+
 abbrev pub answer_front_by : List ℕ → Option Found → NodeState → Stepped
 answer_front_by volume None node = silent node
 answer_front_by volume (Some (Raised front)) node = silent node

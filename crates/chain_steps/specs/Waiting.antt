@@ -61,6 +61,13 @@ is_paid_flush front (Fua ticket epoch token) = false
 is_paid_flush front (Read offset len token) = false
 is_paid_flush front (Flush token) = is_up_to front token.number
 
+-- the range that a READ asks for
+abbrev pub asked_range : Waiting → ℕ × ℕ
+asked_range (Plain ticket epoch number token) = (0, 0)
+asked_range (Fua ticket epoch token) = (0, 0)
+asked_range (Read offset len token) = (offset, len)
+asked_range (Flush token) = (0, 0)
+
 abbrev pub is_read : Waiting → Bool
 is_read (Plain ticket epoch number token) = false
 is_read (Fua ticket epoch token) = false

@@ -1,6 +1,6 @@
-ghost use Rattle.std.specs.Prelude.{◌≡◌, ◌<◌, ◌^◌, ◌++◌, [], ◌∷◌, Bool, true, List, Some, None, All, filter, find, length, map, option_map, position, IfErr, IfNone, IfSome, OnErr, OnOk};
+ghost use Rattle.std.specs.Prelude.{◌≡◌, ◌<◌, ◌^◌, ◌++◌, [], ◌∷◌, Bool, true, List, Some, None, All, filter, find, length, map, option_map, position, IfErr, IfNone, IfOk, IfSome, OnErr, OnOk};
 ghost use Rattle.chain_steps.specs.Tokens.{without_first};
-ghost use Rattle.chain_steps.specs.Waiting.{IsOf, IsOfDue, bound, is_due, is_read, learned, reply_to, waits_for};
+ghost use Rattle.chain_steps.specs.Waiting.{IsOf, IsOfDue, asked_range, bound, is_due, is_read, learned, reply_to, waits_for};
 ghost use Rattle.chain_steps.specs.declared.waiting.Waiting.{Waiting as Token};
 ghost use Rattle.chain_steps.specs.declared.waiting.Waiting.TheVariants.{Flush, Read};
 
@@ -8,7 +8,7 @@ use crate::asked::AskedRead;
 use crate::waiting::{Due, Waiting, WriteToken};
 use board::Front;
 use flush_barrier::{ErrorCode, OwedFlush, OwedRead, Reply};
-use std::alloc::Global;
+use std::alloc::{AllocError, Global};
 use std::marker::Model;
 
 /// The tokens that wait at a member, in the order in which they were taken. It has no `Drop` while tokens wait.
@@ -144,6 +144,19 @@ impl Tokens {
             }
         }
         count
+    }
+
+    /// The ranges that the READs ask for, in the order in which they were taken: the first byte of each, and how many.
+    pub fn asked(&self, alloc: Global) -> Result<Vec<(u64, u32)>, AllocError>
+        ensures { IfOk result (λ ranges. ranges.items ≡ map asked_range (filter is_read self.now)) }
+    {
+        let mut ranges = Vec::new(alloc);
+        for token in &self.waiting {
+            if let Waiting::Read { offset, length, .. } = token {
+                ranges.push((*offset, *length))?;
+            }
+        }
+        Ok(ranges)
     }
 
     /// The first READ that waits; its token waits here no longer.

@@ -4,6 +4,7 @@ mod Homes
 mod Opening
 mod Overlays
 mod Refusals
+mod Pends
 mod Slices
 mod Sound
 mod Stored

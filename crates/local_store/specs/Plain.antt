@@ -27,12 +27,17 @@ pub record IsPlain (s : Plain) : Type 0 where
 abbrev pub MeansPlain : Plain → List ℕ → Type 0
 MeansPlain s bytes = Means (meaning_with s.about s.volume) bytes
 
--- what stands for its disk means what it keeps, and it keeps one volume
-pub means_plain : (s : Plain) (volume c : List ℕ) → s.volume ≡ volume → MeansPlain s c → Means (meaning_with s.about volume) c
-means_plain s volume c kept left = subst (λ v. Means (meaning_with s.about v) c) kept left
+-- it keeps the volume, which is as long as it tells
+pub record KeepsPlain (s : Plain) (volume : List ℕ) : Type 0 where
+  pub is : s.volume ≡ volume
+  pub size : length volume ≡ 4096 * s.about.geometry.blocks
 
-pub keeps_one_plain : (s : Plain) (one other : List ℕ) → s.volume ≡ one → s.volume ≡ other → one ≡ other
-keeps_one_plain s one other kept too = sym kept ∙ too
+-- what stands for its disk means what it keeps, and it keeps one volume
+pub means_plain : (s : Plain) (volume c : List ℕ) → KeepsPlain s volume → MeansPlain s c → Means (meaning_with s.about volume) c
+means_plain s volume c kept left = subst (λ v. Means (meaning_with s.about v) c) kept.is left
+
+pub keeps_one_plain : (s : Plain) (one other : List ℕ) → KeepsPlain s one → KeepsPlain s other → one ≡ other
+keeps_one_plain s one other kept too = sym kept.is ∙ too.is
 
 -- a run of it leaves what the new one means
 pub runs_plain : (old new : Plain) (P : List ℕ → Type 0) → ((c : List ℕ) → MeansPlain new c → P c) → LeavesOnly (λ (s : Plain). 0) (λ (s : Plain) t. MeansPlain s) old new P

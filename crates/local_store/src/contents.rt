@@ -1,5 +1,5 @@
 //! What a member's disk holds, as its store knows it. Each call is lent the disk.
-ghost use Rattle.std.specs.Prelude.{◌≡◌, ◌≢◌, ◌⊎◌, ◌*◌, ◌<◌, ◌≤◌, ◌↔◌, ℕ, List, Some, None, true, false, length, replicate, set, IfOk, IfErr, IfNone, IfSome, OnOk, OnErr, IsErrOf, IsSome};
+ghost use Rattle.std.specs.Prelude.{◌≡◌, ◌≢◌, ◌⊎◌, ◌*◌, ◌<◌, ◌≤◌, ◌↔◌, ℕ, List, Some, None, true, false, length, Any, replicate, set, IfOk, IfErr, IfNone, IfSome, OnOk, OnErr, IsErrOf, IsSome};
 ghost use Rattle.disk_model.specs.Disk.{LeavesOnly, Only};
 ghost use Rattle.gate_journal.specs.Batch.{AreImages};
 ghost use Rattle.gate_journal.specs.Journal as journals;
@@ -285,6 +285,7 @@ impl Contents {
 
         ensures receipt { IfOk result (λ receipt. receipt ≡ record { slot = self.old.home.superblock.slot; front = front }) }
         ensures ok { OnOk result (self.new ≡ committed self.old front images.now) }
+        ensures pends { OnOk result ((b : ℕ) → IsPending self.new.pending b ↔ (IsPending self.old.pending b ⊎ Any (λ image. image.block ≡ b) images.now)) }
         ensures stored { D.keeps_model → (volume : List ℕ) → IsStored self.old volume (D.gives disk.old) (D.may_leave_now disk.old)
             → OnOk result (IsStored self.new (with_images volume images.now) (D.gives disk.new) (D.may_leave_now disk.new)) }
 

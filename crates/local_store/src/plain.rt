@@ -1,5 +1,6 @@
 //! A store in memory, for tests, and as the plain program beside a store on a disk.
-ghost use Rattle.std.specs.Prelude.{◌≡◌, ◌+◌, ◌*◌, ◌<◌, ◌≤◌, ℕ, List, false, replicate, length, IfErr, IfOk};
+ghost use Rattle.std.specs.Prelude.{◌≡◌, ◌⊎◌, ◌*◌, ◌<◌, ◌≤◌, ◌↔◌, ℕ, false, replicate, length, Any, IfErr, IfOk};
+ghost use Rattle.flusher.specs.Plan.{IsPending};
 ghost use Rattle.disk_model.specs.Memory.{failures_of, size_of};
 ghost use Rattle.gate_journal.specs.Batch.{AreImages};
 ghost use Rattle.gate_journal.specs.declared.batch.TheConstants.{MAX_NUMBER};
@@ -100,6 +101,7 @@ fn put(volume: &mut [u8], pending: &mut [Option<()>], images: &[Image])
     ensures volume { volume.new ≡ with_images volume.old images.now }
     ensures size { length volume.new ≡ length volume.old }
     ensures table { length pending.new ≡ length pending.old }
+    ensures pends { (b : ℕ) → IsPending pending.new b ↔ (IsPending pending.old b ⊎ Any (λ image. image.block ≡ b) images.now) }
 {
     for image in images {
         let start = image.block as usize * BLOCK_SIZE as usize;
@@ -134,15 +136,15 @@ fn stamp(
 }
 
 impl StoreLike for PlainStore {
-    ghost use Rattle.std.specs.Prelude.{◌≡◌, ◌⊎◌, ◌<◌, ◌≤◌, ◌↔◌, ℕ, List, true, false, length, IfOk, IfErr, IfNone, IfSome, OnOk, OnErr, IsErrOf, ⊤};
+    ghost use Rattle.std.specs.Prelude.{◌≡◌, ◌⊎◌, ◌*◌, ◌<◌, ◌≤◌, ◌↔◌, ℕ, List, true, false, length, Any, IfOk, IfErr, IfNone, IfSome, OnOk, OnErr, IsErrOf, ⊤};
     ghost use Rattle.flusher.specs.Plan.{IsPending};
-    ghost use Rattle.local_store.specs.Plain.{MeansPlain, keeps_one_plain, means_plain};
+    ghost use Rattle.local_store.specs.Plain.{KeepsPlain, MeansPlain, keeps_one_plain, means_plain};
 
     ghost keeps_model = { ⊤ };
 
     ghost about = { λ s. s.about };
 
-    ghost keeps = { λ s volume. s.volume ≡ volume };
+    ghost keeps = { KeepsPlain };
 
     ghost is_pending = { λ s. IsPending s.pending };
 
@@ -161,6 +163,8 @@ impl StoreLike for PlainStore {
     ghost counts_now = { λ keeps s t c le left. left };
 
     ghost only_now = { λ keeps s c left. left };
+
+    ghost keeps_size = { λ keeps s volume kept. kept.size };
 
     fn slot(&self) -> Slot {
         self.slot

@@ -102,7 +102,7 @@ impl<D: Disk + Drop> Store<D> {
 }
 
 impl<D: Disk + Drop> StoreLike for Store<D> {
-    ghost use Rattle.std.specs.Prelude.{◌≡◌, ◌⊎◌, ◌<◌, ◌≤◌, ◌↔◌, ℕ, List, true, false, length, IfOk, IfErr, IfNone, IfSome, OnOk, OnErr, IsErrOf};
+    ghost use Rattle.std.specs.Prelude.{◌≡◌, ◌⊎◌, ◌*◌, ◌<◌, ◌≤◌, ◌↔◌, ℕ, List, true, false, length, Any, IfOk, IfErr, IfNone, IfSome, OnOk, OnErr, IsErrOf};
     ghost use Rattle.flusher.specs.Plan.{IsPending};
     ghost use Rattle.local_store.specs.Kept.{one_volume, stored_means};
 
@@ -129,6 +129,8 @@ impl<D: Disk + Drop> StoreLike for Store<D> {
     ghost counts_now = { λ keeps s t c le left. D.counts_now keeps s.disk t c le left };
 
     ghost only_now = { λ keeps s c left. D.only_now keeps s.disk c left };
+
+    ghost keeps_size = { λ keeps s volume kept. kept.region.waits.size };
 
     fn slot(&self) -> Slot {
         self.contents.slot()

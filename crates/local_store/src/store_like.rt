@@ -1,5 +1,5 @@
 //! A store, as the layers above see it.
-ghost use Rattle.std.specs.Prelude.{◌≡◌, ◌⊎◌, ◌<◌, ◌≤◌, ◌↔◌, ℕ, List, true, false, length, IfOk, IfErr, IfNone, IfSome, OnOk, OnErr, IsErrOf};
+ghost use Rattle.std.specs.Prelude.{◌≡◌, ◌⊎◌, ◌*◌, ◌<◌, ◌≤◌, ◌↔◌, ℕ, List, true, false, length, Any, IfOk, IfErr, IfNone, IfSome, OnOk, OnErr, IsErrOf};
 ghost use Rattle.disk_model.specs.Disk.{LeavesOnly};
 ghost use Rattle.gate_journal.specs.Batch.{AreImages};
 ghost use Rattle.local_store.specs.About.{About, HasNoRoom, HasRoom, IsOneLess, meaning_then, meaning_with, one_checkpoint_more, one_commit_more};
@@ -77,6 +77,7 @@ pub trait StoreLike {
         ensures kept { keeps_model → (volume : List ℕ) → keeps self.old volume → OnOk result (keeps self.new volume) }
         ensures any_moment { keeps_model → (volume : List ℕ) → keeps self.old volume → LeavesOnly moment may_have_left_since self.old self.new (Means (meaning_with (about self.old) volume)) }
         ensures ok { OnOk result (about self.new ≡ about self.old) }
+        ensures still { (b : ℕ) → is_pending self.new b ↔ is_pending self.old b }
         ensures broken { IsErrOf result Refusal.Broken ↔ ((about self.old).broken ≡ true) }
         ensures told { IfErr result IsOfReading }
         ensures err { OnErr result (about self.new ≡ record (about self.old) { broken = true }) }
@@ -93,6 +94,8 @@ pub trait StoreLike {
         requires limit { front ≤ MAX_NUMBER }
         ensures receipt { IfOk result (λ receipt. receipt ≡ record { slot = (about self.old).slot; front = front }) }
         ensures ok { OnOk result (about self.new ≡ one_commit_more (about self.old) front (length images.now)) }
+        ensures pends { OnOk result ((b : ℕ) → is_pending self.new b ↔ (is_pending self.old b ⊎ Any (λ image. image.block ≡ b) images.now)) }
+        ensures still { OnErr result ((b : ℕ) → is_pending self.new b ↔ is_pending self.old b) }
         ensures kept { keeps_model → (volume : List ℕ) → keeps self.old volume → OnOk result (keeps self.new (with_images volume images.now)) }
 
         // A stop at any moment of the call leaves what means the old front and volume, or the new ones.
@@ -117,6 +120,7 @@ pub trait StoreLike {
 
         // A stop at any moment of the call leaves what means what it meant.
         ensures any_moment { keeps_model → (volume : List ℕ) → keeps self.old volume → LeavesOnly moment may_have_left_since self.old self.new (Means (meaning_with (about self.old) volume)) }
+        ensures still { OnErr result ((b : ℕ) → is_pending self.new b ↔ is_pending self.old b) }
         ensures broken { IsErrOf result Refusal.Broken ↔ ((about self.old).broken ≡ true) }
         ensures told { IfErr result IsOfTicking }
         ensures err { OnErr result (about self.new ≡ record (about self.old) { broken = true }) }
@@ -151,4 +155,7 @@ pub trait StoreLike {
 
     /// Since this moment there is no other.
     ghost only_now: { keeps_model → (store : Self) (c : List ℕ) → may_have_left_since store (moment store) c → may_leave_now store c };
+
+    /// The volume is as long as it tells.
+    ghost keeps_size: { keeps_model → (store : Self) (volume : List ℕ) → keeps store volume → length volume ≡ 4096 * (about store).geometry.blocks };
 }

@@ -1,6 +1,8 @@
 use Rattle.std.proofs.Common.{◌≡◌, ◌⊎◌, ◌<◌, ◌++◌, ◌∷◌, [], List, ℕ, ◌∙◌, ap, subst, sym, Option, length, get_or}
+use Rattle.std.specs.Prelude.{All, Any, ◌↔◌}
 use Rattle.std.proofs.lemmas.List.{get_or-map, length-map}
 use Rattle.disk_model.specs.Disk.{LeavesOnly}
+use Rattle.flusher.specs.Plan.{IsPending}
 use Rattle.gate_journal.specs.Journal as journal
 use Rattle.gate_journal.specs.Journal.{IsSettled}
 use Rattle.gate_journal.specs.declared.batch.Image.{Image}
@@ -9,6 +11,7 @@ use Rattle.local_store.specs.Overlay.{with_images}
 use Rattle.local_store.specs.Pending.{with_pending}
 use Rattle.local_store.specs.Store.{IsSound, IsStored, State, geometry_of, meaning_after, meaning_in}
 use Rattle.local_store.proofs.Boxes.{Boxed, unboxed}
+use Rattle.local_store.proofs.Pends.{pends}
 use Rattle.local_store.proofs.Sound.{sound_committed}
 use Rattle.local_store.proofs.Stored.{at_rest_before, commit_keeps, commit_leaves}
 use Rattle.local_store.proofs.contents.Contents.commit.Goals as goal
@@ -70,3 +73,13 @@ returns-clause-stored g c = λ keeps v.
     (subst (λ (p : List (Option (List ℕ))). IsStored (record { home = c.self.inside.home; journal = journal.appended c.self.inside.journal c.args.front (length c.args.images.now); pending = p; cache = c.self.inside.cache; broken = c.self.inside.broken }) (with_images v c.args.images.now) gives left) (sym pending)
     (commit_keeps c.self.invariant.journal was c.args.front c.args.images.now (c.append.ensures.frame keeps)
     (subst (λ (j : journal.State). IsSettled j (was.batches ++ record { front = c.args.front; images = c.args.images.now } ∷ []) gives left) c.in-Ok.ensures.ok (c.in-Ok.ensures.settled keeps was.batches was.area)))))
+
+pub returns-clause-pends : goal.returns-clause-pends
+returns-clause-pends g c =
+    let staged : unboxed c.in_ok-staged.staged.items ≡ c.args.images.now = c.in_ok-staged.ensures in
+    let pending = c.keep.ensures ∙ ap (with_pending c.self.inside.pending) staged in
+    let blocks : (geometry_of c.args.self.now).blocks ≡ length c.self.inside.pending = ap (λ (s : State). (geometry_of s).blocks) (sym c.self.view_is) ∙ sym c.self.invariant.table in
+    λ b.
+    subst (λ (p : List (Option (List ℕ))). IsPending p b ↔ (IsPending c.args.self.now.pending b ⊎ Any (λ image. image.block ≡ b) c.args.images.now)) (sym pending)
+    (subst (λ (s : State). IsPending (with_pending c.self.inside.pending c.args.images.now) b ↔ (IsPending s.pending b ⊎ Any (λ image. image.block ≡ b) c.args.images.now)) c.self.view_is
+    (pends (λ image. image.bytes) b c.args.images.now c.self.inside.pending (subst (λ (n : ℕ). All (λ image. image.block < n) c.args.images.now) blocks c.requires.images.within)))

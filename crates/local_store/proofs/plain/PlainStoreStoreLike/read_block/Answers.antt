@@ -11,6 +11,6 @@ returns-clause-any_moment c = λ model volume kept. runs_plain _ _ _ (λ x left.
 
 pub returns-clause-read : goal.returns-clause-read
 returns-clause-read c = λ model volume kept. block_is_slice volume c.copy_from_slice.new.self c.args.block
-    (subst (λ v. c.copy_from_slice.new.self ≡ slice_range v (c.args.block * 4096) (c.args.block * 4096 + 4096)) kept
+    (subst (λ v. c.copy_from_slice.new.self ≡ slice_range v (c.args.block * 4096) (c.args.block * 4096 + 4096)) kept.is
     (subst (λ s. c.copy_from_slice.new.self ≡ slice_range s.volume (c.args.block * 4096) (c.args.block * 4096 + 4096)) c.self.view_is
     (subst (λ v. c.copy_from_slice.new.self ≡ slice_range v (c.args.block * 4096) (c.args.block * 4096 + 4096)) c.deref.ensures.value c.copy_from_slice.ensures.after)))

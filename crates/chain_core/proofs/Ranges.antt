@@ -1,0 +1,42 @@
+-- A range of the volume, piece by piece.
+use Rattle.std.proofs.Common.{◌≡◌, ℕ, ◌+◌, ◌-◌, ◌*◌, ◌<◌, ◌≤◌, List, [], ◌∷◌, ◌++◌, get_or, length, map, take, drop, sym, subst, ap, ◌∙◌, arith}
+use Rattle.std.specs.Prelude.{All}
+use Rattle.std.specs.List.{flat_map}
+use Rattle.std.proofs.lemmas.List.{append-nil, append_assoc, flat_map_more, map_more, map_push}
+use Rattle.std.proofs.lemmas.List.Elements.{All-map, All-take}
+use Rattle.version_table.specs.Held.{Held, writes_upto}
+use Rattle.volume.specs.Pieces.{IsPieceOf}
+use Rattle.volume.specs.Writes.{Fits, block_of}
+use Rattle.volume.specs.declared.piece.Piece.{Piece}
+
+-- the writes up to a number fit where all kept ones do
+pub upto_fit : (size n j : ℕ) (t : Held) → n ≡ size → All (λ k. Fits size k.write) t.kept → All (Fits n) (writes_upto t j)
+upto_fit size n j t long fit = subst (λ m. All (Fits m) (writes_upto t j)) (sym long) (All-map (Fits size) (λ k. k.write) (take (j - t.forgotten) t.kept) (All-take (λ k. Fits size k.write) (j - t.forgotten) t.kept fit))
+
+-- the block of a piece is one of the volume's
+pub block_within : (offset len blocks : ℕ) (p : Piece) → IsPieceOf offset len p → offset + len ≤ 4096 * blocks → p.block < blocks
+block_within offset len blocks p is within = omega (arith, is.some, is.in_range, is.place)
+
+-- what a piece reads of a volume
+abbrev pub piece_read : List ℕ → Piece → List ℕ
+piece_read volume piece = take piece.len (drop piece.start (block_of volume piece.block))
+
+-- one piece more
+pub one_read : (volume bytes block new : List ℕ) (pieces : List Piece) (p : Piece) → bytes ≡ flat_map (piece_read volume) pieces → block ≡ block_of volume p.block → new ≡ bytes ++ take (p.start + p.len - p.start) (drop p.start block)
+    → new ≡ flat_map (piece_read volume) (pieces ++ p ∷ [])
+one_read volume bytes block new pieces p so_far here is =
+    let len : p.start + p.len - p.start ≡ p.len = omega arith in
+    is ∙ rw (so_far, here, len) (flat_map_more (piece_read volume) [] pieces p)
+
+-- the pieces that are behind, and those to come
+pub one_behind : (behind rest next whole : List Piece) (p : Piece) → behind ++ rest ≡ whole → rest ≡ p ∷ next → (behind ++ p ∷ []) ++ next ≡ whole
+one_behind behind rest next whole p is first = append_assoc behind (p ∷ []) next ∙ ap (λ ps. behind ++ ps) (sym first) ∙ is
+
+pub all_behind : (behind rest whole : List Piece) → behind ++ rest ≡ whole → rest ≡ [] → behind ≡ whole
+all_behind behind rest whole is none = sym (append-nil behind) ∙ ap (λ ps. behind ++ ps) (sym none) ∙ is
+
+-- one more of several
+pub one_range : {V R : Type 0} (items : V → List ℕ) (f : R → List ℕ) (all : List V) (ranges : List R) (i : ℕ) (d : R) (bytes : V) → map items all ≡ map f (take i ranges) → i < length ranges → items bytes ≡ f (get_or ranges i d)
+    → map items (all ++ bytes ∷ []) ≡ map f (take (i + 1) ranges)
+one_range items f all ranges i d bytes so_far lt is =
+    map_push items all bytes ∙ ap (λ xs. xs ++ items bytes ∷ []) so_far ∙ ap (λ b. map f (take i ranges) ++ b ∷ []) is ∙ sym (map_more f ranges i d lt)
