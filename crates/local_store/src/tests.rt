@@ -472,33 +472,3 @@ fn no_memory(rt: HostRuntime) -> Result<(), Fail> {
     }
     Ok(())
 }
-
-// Each call of a store in memory, once.
-#[test]
-fn a_store_in_memory(rt: HostRuntime) -> Result<(), Fail> {
-    let alloc = rt.alloc();
-    let slot = Slot::new(3).ok_or("a slot")?;
-    let geometry = Geometry::new(8, LEAST, 4_096)?;
-    let mut store = PlainStore::new(alloc, slot, 1, geometry)?;
-    let receipt = store.commit(alloc, 7, &two(5, 6))?;
-    assert_eq!(rt; receipt.slot(), slot);
-    assert_eq!(rt; receipt.front(), 7);
-    assert_eq!(rt; store.front(), 7);
-    assert_eq!(rt; store.room(), 0);
-    for (block, byte) in [(0, 5), (1, 6), (2, 0)] {
-        let mut bytes = [9; IMAGE_SIZE];
-        assert!(rt; block < store.geometry().blocks);
-        store.read_block(block, &mut bytes)?;
-        assert_eq!(rt; bytes, [byte; IMAGE_SIZE]);
-    }
-    for given in [Some(0), Some(1), None] {
-        assert_eq!(rt; store.tick()?, given);
-    }
-    let refused = store.commit(alloc, 7, &two(1, 1)).err();
-    assert_eq!(rt; refused, Some(Refusal::Backwards));
-    let refused = store.commit(alloc, 8, &two(1, 1)).err();
-    assert_eq!(rt; refused, Some(Refusal::Full));
-    store.checkpoint()?;
-    assert_eq!(rt; store.room(), 2);
-    Ok(())
-}
