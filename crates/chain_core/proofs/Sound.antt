@@ -1,5 +1,5 @@
 -- What holds of every member holds after each change.
-use Rattle.std.proofs.Common.{◌≡◌, ℕ, ◌≤◌, ◌+◌, ◌-◌, ◌<◌, List, [], ◌∷◌, ◌++◌, Bool, true, false, ap, refl, inl, inr, subst, arith}
+use Rattle.std.proofs.Common.{◌≡◌, ℕ, ◌≤◌, ◌+◌, ◌-◌, ◌<◌, List, [], ◌∷◌, ◌++◌, Bool, true, false, length, ap, refl, inl, inr, subst, arith}
 use Rattle.std.specs.Prelude.{All, None, Some, filter, map, max, nat_lt, not, ◌==◌, ◌&&◌}
 use Rattle.std.proofs.lemmas.Bool.Decides.{nat_tests}
 use Rattle.std.proofs.lemmas.Bool.{cases_Bool}
@@ -71,6 +71,7 @@ sound_idle about keeps node is = record {
   limit = is.limit;
   blocks = is.blocks;
   inside = is.inside;
+  some = is.some;
   owed = is.owed;
   asked = is.asked;
   found = λ x here. absurd (cc);
@@ -130,6 +131,7 @@ module _ (about : About) (keeps : Keeping) (node : NodeState) (is : IsSound abou
     limit = is.limit;
     blocks = is.blocks;
     inside = is.inside;
+    some = is.some;
     owed = owed;
     asked = asked;
     found = is.found;
@@ -150,6 +152,7 @@ module _ (about : About) (keeps : Keeping) (node : NodeState) (is : IsSound abou
     limit = is.limit;
     blocks = is.blocks;
     inside = is.inside;
+    some = is.some;
     owed = is.owed;
     asked = is.asked;
     found = λ x here. let same : found ≡ x = cc here in subst (IsFoundBy (record node { found = Some found })) same (still found by);
@@ -174,6 +177,7 @@ module _ (about : About) (keeps : Keeping) (node : NodeState) (is : IsSound abou
     limit = is.limit;
     blocks = is.blocks;
     inside = is.inside;
+    some = is.some;
     owed = All-push (IsOf node.board) node.waiting w is.owed own;
     asked = All-push (IsAskedInside (size_of about)) node.waiting w is.asked asked;
     found = λ x here. absurd (cc);
@@ -190,8 +194,8 @@ module _ (about : About) (keeps : Keeping) (node : NodeState) (is : IsSound abou
       (All-kept (IsAskedInside (size_of about)) (learned ticket n) (asked_learned (size_of about) ticket n) node.waiting is.asked)
 
   -- a further write is applied, and no front is kept
-  pub sound_applied : (n : ℕ) (write : Placed) (origin : Origin) → Fits (size_of about) write → is_full write node ≡ false → IsSound about keeps (record node { table = with_write node.table n write origin; found = None })
-  sound_applied n write origin fits free =
+  pub sound_applied : (n : ℕ) (write : Placed) (origin : Origin) → Fits (size_of about) write → 0 < length write.bytes → is_full write node ≡ false → IsSound about keeps (record node { table = with_write node.table n write origin; found = None })
+  sound_applied n write origin fits some free =
       let room = number_left write node free in
       let more : last_of (record node { table = with_write node.table n write origin; found = None }) ≡ last_of node + 1 = omega (arith, length-append node.table.kept (record { number = n; write = write; origin = origin } ∷ [])) in
       record {
@@ -203,6 +207,7 @@ module _ (about : About) (keeps : Keeping) (node : NodeState) (is : IsSound abou
         limit = omega (arith, more);
         blocks = is.blocks;
         inside = All-push (λ k. Fits (size_of about) k.write) node.table.kept (record { number = n; write = write; origin = origin }) is.inside fits;
+        some = All-push (λ k. 0 < length k.write.bytes) node.table.kept (record { number = n; write = write; origin = origin }) is.some some;
         owed = is.owed;
         asked = is.asked;
         found = λ x here. absurd (cc);
@@ -223,6 +228,7 @@ module _ (about : About) (keeps : Keeping) (node : NodeState) (is : IsSound abou
     limit = is.limit;
     blocks = is.blocks;
     inside = is.inside;
+    some = is.some;
     owed = All-filter passes (IsOf node.board) node.waiting is.owed;
     asked = All-filter passes (IsAskedInside (size_of about)) node.waiting is.asked;
     found = λ x here. absurd (cc);

@@ -1,5 +1,5 @@
 -- What holds of a member holds after its store worked.
-use Rattle.std.proofs.Common.{inl, inr, ⊎_elim, ◌≡◌, ◌≢◌, ◌∙◌, ℕ, ◌-◌, ◌≤◌, Bool, List, ap, arith, length, refl, subst, sym}
+use Rattle.std.proofs.Common.{inl, inr, ⊎_elim, ◌≡◌, ◌≢◌, ◌∙◌, ℕ, ◌-◌, ◌<◌, ◌≤◌, Bool, List, ap, arith, length, refl, subst, sym}
 use Rattle.std.specs.Prelude.{All, ◌⊎◌, IsSomeAnd, None, Option, Some}
 use Rattle.std.specs.Option.{ForSome}
 use Rattle.std.proofs.lemmas.List.{length-drop}
@@ -45,6 +45,7 @@ module _ (about : About) (keeping : Keeping) (node : NodeState) (is : IsSound ab
     limit = is.limit;
     blocks = is.blocks;
     inside = is.inside;
+    some = is.some;
     owed = is.owed;
     asked = is.asked;
     found = is.found;
@@ -67,6 +68,7 @@ module _ (about : About) (keeping : Keeping) (node : NodeState) (is : IsSound ab
     limit = is.limit;
     blocks = is.blocks;
     inside = is.inside;
+    some = is.some;
     owed = is.owed;
     asked = is.asked;
     found = is.found;
@@ -91,6 +93,7 @@ module _ (about : About) (keeping : Keeping) (node : NodeState) (is : IsSound ab
     limit = is.limit;
     blocks = is.blocks;
     inside = is.inside;
+    some = is.some;
     owed = is.owed;
     asked = is.asked;
     found = λ x none. absurd (cc);
@@ -114,6 +117,7 @@ module _ (about : About) (keeping : Keeping) (node : NodeState) (is : IsSound ab
     limit = is.limit;
     blocks = is.blocks;
     inside = is.inside;
+    some = is.some;
     owed = is.owed;
     asked = is.asked;
     found = is.found;
@@ -171,6 +175,7 @@ module _ (about : About) (keeping : Keeping) (node : NodeState) (is : IsSound ab
           limit = omega (arith, is.limit, same_last);
           blocks = is.blocks;
           inside = All-drop (λ k. Fits (size_of about) k.write) (commit.front - durable_of node) node.table.kept is.inside;
+          some = All-drop (λ k. 0 < length k.write.bytes) (commit.front - durable_of node) node.table.kept is.some;
           owed = is.owed;
           asked = is.asked;
           found = λ x none. absurd (cc);

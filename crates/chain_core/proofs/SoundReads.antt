@@ -25,6 +25,7 @@ module _ (about : About) (keeping : Keeping) (node : NodeState) (is : IsSound ab
     limit = is.limit;
     blocks = is.blocks;
     inside = is.inside;
+    some = is.some;
     owed = is.owed;
     asked = is.asked;
     resting = is.resting;

@@ -1,5 +1,5 @@
 -- What a call that commits or flushes leaves of a member.
-use Rattle.std.specs.Prelude.{◌≡◌, ◌≢◌, ℕ, ◌<◌, true, [], None, length}
+use Rattle.std.specs.Prelude.{◌≡◌, ◌≢◌, ℕ, ◌<◌, true, [], None, Some, length}
 use Rattle.disk_model.specs.declared.error.DiskError.{DiskError}
 use Rattle.disk_model.specs.declared.error.DiskError.TheVariants as faults
 use Rattle.gate_journal.specs.Receipt.{Receipt}
@@ -52,8 +52,9 @@ pub record HasWorked {S : Type 0} (about : S → About) (tells : About) (old new
   pub sent : out ≡ record { messages = []; replies = [] }
   pub tells_so : about new.store ≡ tells
 
--- Nothing goes out, the member runs on, and its store tells what it told.
-pub record IsQuiet {S : Type 0} (about : S → About) (old new : Seen S) (out : Out) : Type 0 where
-  pub runs : new.state.stopped ≡ None
+-- A commit begins: the member's state is else as it was, nothing goes out, and the store was only read.
+pub record HasBegun {S : Type 0} (OnlyRead : Type 0) (old new : Seen S) (out : Out) : Type 0 where
+  pub commit : Commit
+  pub node : new.state ≡ record old.state { commit = Some commit; found = None }
   pub sent : out ≡ record { messages = []; replies = [] }
-  pub tells : about new.store ≡ about old.store
+  pub only_read : OnlyRead

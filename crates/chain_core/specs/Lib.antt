@@ -3,3 +3,4 @@ pub mod Groups
 pub mod Node
 pub mod Reads
 pub mod Refusal
+pub mod Stays

@@ -70,6 +70,7 @@ pub record IsSound (about : About) (keeping : Keeping) (node : NodeState) : Type
   pub limit : last_of node ≤ MAX_NUMBER
   pub blocks : about.geometry.blocks ≤ 65536
   pub inside : All (λ k. Fits (size_of about) k.write) node.table.kept
+  pub some : All (λ k. 0 < length k.write.bytes) node.table.kept
   pub owed : All (IsOf node.board) node.waiting
   pub asked : All (IsAskedInside (size_of about)) node.waiting
   pub found : ForSome node.found (IsFoundBy node)
@@ -78,12 +79,12 @@ pub record IsSound (about : About) (keeping : Keeping) (node : NodeState) : Type
   pub resting : ForSome node.stopped (λ cause. node.commit ≡ None)
   pub journals : keeping.premise → (volume : List ℕ) → keeping.keeps volume → ForSome node.commit (λ commit. AreImagesOf volume (writes_upto node.table commit.front) commit.images)
 
--- a message whose write lies in the volume
+-- a message whose write lies in the volume, and has at least one byte
 abbrev pub IsInside : ℕ → Message → Type 0
-IsInside size (Put n origin write) = Fits size write
+IsInside size (Put n origin write) = Fits size write × (0 < length write.bytes)
 IsInside size (Ack front) = ⊤
 IsInside size (Turn applied) = ⊤
-IsInside size (Submit ticket write) = Fits size write
+IsInside size (Submit ticket write) = Fits size write × (0 < length write.bytes)
 
 -- The call is exactly this step: the store is as it was.
 pub record IsStep {S : Type 0} (old new : Seen S) (out : Out) (stepped : Stepped) : Type 0 where

@@ -81,7 +81,7 @@ pub record HasBrokenOff {S : Type 0} (about : S → About) (failures : S → ℕ
   pub sent : out ≡ (stop (causes.Device error) old.state).out
 
 -- Memory ran out behind the reads: the member's state is as it was.
-pub record HasRunOut {S : Type 0} (OnlyRead : Type 0) (old new : Seen S) (replies : List GivenReply) : Type 0 where
+pub record HasReadInVain {S : Type 0} (OnlyRead : Type 0) (old new : Seen S) (replies : List GivenReply) : Type 0 where
   pub state : new.state ≡ old.state
   pub store : OnlyRead
   pub replies_none : replies ≡ []
@@ -91,7 +91,7 @@ pub record HasRunOut {S : Type 0} (OnlyRead : Type 0) (old new : Seen S) (replie
 abbrev pub IsReadRefused : {S : Type 0} → (S → About) → (S → ℕ) → (OnlyRead Reads : Type 0) → Seen S → Seen S → List GivenReply → Refusal → Type 0
 IsReadRefused about failures OnlyRead Reads old new replies refusal =
     IsRefusedBy ⊥ (stop causes.Told old.state) old new replies refusal
-    ⊎ (((refusal ≡ refusals.Memory) × (turned_away old.state ≡ None) × Reads × HasRunOut OnlyRead old new replies)
+    ⊎ (((refusal ≡ refusals.Memory) × (turned_away old.state ≡ None) × Reads × HasReadInVain OnlyRead old new replies)
     ⊎ ((refusal ≡ refusals.Stopped) × (turned_away old.state ≡ None) × Reads × HasBrokenOff about failures old new (record { messages = []; replies = replies })))
 
 -- The member's state and what went out are those after this step.

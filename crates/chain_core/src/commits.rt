@@ -1,5 +1,5 @@
 //! Commits, and what the store does beside them.
-ghost use Rattle.std.specs.Prelude.{◌≡◌, ◌≢◌, ◌⊎◌, ◌↔◌, ℕ, ◌<◌, ◌≤◌, List, All, Any, None, length, true, IfErr, IfNone, IfOk, IfSome, IsErrOf, IsSomeAnd, OnErr, OnOk};
+ghost use Rattle.std.specs.Prelude.{◌≡◌, ◌≢◌, ◌⊎◌, ◌↔◌, ℕ, ◌<◌, ◌≤◌, List, Any, None, true, IfErr, IfNone, IfOk, IfSome, IsErrOf, IsSomeAnd, OnErr, OnOk};
 ghost use Rattle.disk_model.specs.Disk.{LeavesOnly};
 ghost use Rattle.disk_model.specs.declared.error.DiskError.TheVariants.{ReadFault, WriteFault};
 ghost use Rattle.disk_model.specs.Error.{MayTell};
@@ -10,7 +10,8 @@ ghost use Rattle.local_store.specs.Meaning.{Means};
 ghost use Rattle.chain_steps.specs.Node.{is_stopped};
 ghost use Rattle.chain_steps.specs.Steps.{Begins, CanBegin, IsGroup, silent, volume_at};
 ghost use Rattle.chain_core.specs.Node.{IsStep};
-ghost use Rattle.chain_core.specs.Commits.{HasEnded, HasRunOut, HasStoppedBy, HasWorked, IsCause, IsQuiet, cause_of};
+ghost use Rattle.chain_core.specs.Commits.{HasBegun, HasEnded, HasRunOut, HasStoppedBy, HasWorked, IsCause, cause_of};
+ghost use Rattle.chain_core.specs.Reads.{HasOnlyRead};
 
 use crate::groups::group_of;
 use crate::node::Node;
@@ -58,17 +59,16 @@ impl<S: StoreLike + Drop> Node<S> {
     }
 
     /// Begins a commit of the greatest group of known writes, at most so many, at least one, for whose blocks the journal area has
-    /// room. Each kept write has bytes. Out of turn nothing changes. Where memory runs out or the disk refuses, the member stops.
+    /// room. Out of turn nothing changes. Where memory runs out or the disk refuses, the member stops.
     ///
     /// 154 `Stopped` once stopped; else 121 `Full` where it is the turn and no group fits: a checkpoint makes room.
     pub fn begin_commits(&mut self, most: u64) -> Result<Out, Refusal>
         requires most { 0 < most }
-        requires bytes { All (λ k. 0 < length k.write.bytes) self.old.state.table.kept }
         ensures runs { OnOk result (self.old.state.stopped ≡ None) }
         ensures idle { ¬ CanBegin self.old.state → IfOk result (λ out. IsStep self.old self.new out (silent self.old.state)) }
         ensures begun { S.keeps_model → (volume : List ℕ) → S.keeps self.old.store volume → CanBegin self.old.state
             → OnOk result (self.new.state.stopped ≡ None → Begins (HasRoom (S.about self.old.store)) volume most self.old.state self.new.state) }
-        ensures worked { IfOk result (λ out. IsQuiet S.about self.old self.new out
+        ensures worked { CanBegin self.old.state → IfOk result (λ out. HasBegun (HasOnlyRead S.keeps_model S.about S.failures S.keeps S.moment S.may_have_left_since self.old.store self.new.store) self.old self.new out
             ⊎ HasRunOut S.about self.old self.new out ⊎ HasStoppedBy S.about S.failures (MayTell ReadFault) self.old self.new out) }
         ensures kept { S.keeps_model → (volume : List ℕ) → S.keeps self.old.store volume → self.new.state.stopped ≡ None → S.keeps self.new.store volume }
 
@@ -77,7 +77,7 @@ impl<S: StoreLike + Drop> Node<S> {
         ensures full { IsErrOf result Refusal.Full → CanBegin self.old.state × ((volume : List ℕ) (q : ℕ) (images : List Imaged) → IsGroup (HasRoom (S.about self.old.store)) volume most self.old.state q images → ⊥) }
         ensures stopped { IsErrOf result Refusal.Stopped ↔ (is_stopped self.old.state ≡ true) }
         ensures refused { IfErr result (λ r. (r ≡ Refusal.Full) ⊎ (r ≡ Refusal.Stopped)) }
-        ensures unchanged { OnErr result ((self.new.state ≡ self.old.state) × (S.about self.new.store ≡ S.about self.old.store)) }
+        ensures unchanged { OnErr result ((self.new.state ≡ self.old.state) × HasOnlyRead S.keeps_model S.about S.failures S.keeps S.moment S.may_have_left_since self.old.store self.new.store) }
     {
         if self.stopped.is_some() {
             return Err(Refusal::Stopped);
@@ -106,12 +106,11 @@ impl<S: StoreLike + Drop> Node<S> {
 
     /// Begins a commit of the next known write, as `begin_commits` does.
     pub fn begin_commit(&mut self) -> Result<Out, Refusal>
-        requires bytes { All (λ k. 0 < length k.write.bytes) self.old.state.table.kept }
         ensures runs { OnOk result (self.old.state.stopped ≡ None) }
         ensures idle { ¬ CanBegin self.old.state → IfOk result (λ out. IsStep self.old self.new out (silent self.old.state)) }
         ensures begun { S.keeps_model → (volume : List ℕ) → S.keeps self.old.store volume → CanBegin self.old.state
             → OnOk result (self.new.state.stopped ≡ None → Begins (HasRoom (S.about self.old.store)) volume 1 self.old.state self.new.state) }
-        ensures worked { IfOk result (λ out. IsQuiet S.about self.old self.new out
+        ensures worked { CanBegin self.old.state → IfOk result (λ out. HasBegun (HasOnlyRead S.keeps_model S.about S.failures S.keeps S.moment S.may_have_left_since self.old.store self.new.store) self.old self.new out
             ⊎ HasRunOut S.about self.old self.new out ⊎ HasStoppedBy S.about S.failures (MayTell ReadFault) self.old self.new out) }
         ensures kept { S.keeps_model → (volume : List ℕ) → S.keeps self.old.store volume → self.new.state.stopped ≡ None → S.keeps self.new.store volume }
 
@@ -120,7 +119,7 @@ impl<S: StoreLike + Drop> Node<S> {
         ensures full { IsErrOf result Refusal.Full → CanBegin self.old.state × ((volume : List ℕ) (q : ℕ) (images : List Imaged) → IsGroup (HasRoom (S.about self.old.store)) volume 1 self.old.state q images → ⊥) }
         ensures stopped { IsErrOf result Refusal.Stopped ↔ (is_stopped self.old.state ≡ true) }
         ensures refused { IfErr result (λ r. (r ≡ Refusal.Full) ⊎ (r ≡ Refusal.Stopped)) }
-        ensures unchanged { OnErr result ((self.new.state ≡ self.old.state) × (S.about self.new.store ≡ S.about self.old.store)) }
+        ensures unchanged { OnErr result ((self.new.state ≡ self.old.state) × HasOnlyRead S.keeps_model S.about S.failures S.keeps S.moment S.may_have_left_since self.old.store self.new.store) }
     {
         self.begin_commits(1)
     }

@@ -1,5 +1,5 @@
 //! Messages.
-ghost use Rattle.std.specs.Prelude.{◌≡◌, ◌<◌, ◌≤◌, ◌+◌, [], true, false, max, IfOk, IfErr, if◌then◌else◌};
+ghost use Rattle.std.specs.Prelude.{◌≡◌, ◌<◌, ◌≤◌, ◌+◌, [], true, false, length, max, IfOk, IfErr, if◌then◌else◌};
 ghost use Rattle.gate_journal.specs.declared.batch.TheConstants.{MAX_NUMBER};
 ghost use Rattle.volume.specs.Writes.{Fits};
 ghost use Rattle.chain_steps.specs.Node.{Refused, durable_of, last_of};
@@ -20,7 +20,7 @@ use version_table::Origin;
 use volume::Write;
 
 impl<S: StoreLike + Drop> Node<S> {
-    /// Takes a message from the member at a slot. Its write lies in the volume.
+    /// Takes a message from the member at a slot. Its write lies in the volume, and has at least one byte.
     ///
     /// 154 `Stopped` once stopped; a message of an older epoch is dropped, one of a later is 152 `Early`; 153 `Busy` where the
     /// write finds no place in the table, or the greatest number is used. A refused message stays at the front of its link, and
@@ -100,7 +100,8 @@ impl<S: StoreLike + Drop> Node<S> {
 
     /// A Put.
     fn put(&mut self, n: u64, origin: Origin, write: &Write) -> Result<Out, Refusal>
-        requires { Fits (size_of (S.about self.old.store)) write.now }
+        requires inside { Fits (size_of (S.about self.old.store)) write.now }
+        requires some { 0 < length write.now.bytes }
         ensures taken { IfOk result (λ out. IsDelivered self.old self.new out (put n origin write.now self.old.state)) }
         ensures refused { IfErr result (λ r. (put n origin write.now self.old.state ≡ Refused (number_of r)) × (self.new ≡ self.old)) }
         ensures board { self.new.state.board ≡ self.old.state.board }
@@ -120,7 +121,8 @@ impl<S: StoreLike + Drop> Node<S> {
 
     /// A write that the head numbers.
     fn number(&mut self, from: Slot, ticket: u64, write: &Write) -> Result<Out, Refusal>
-        requires { Fits (size_of (S.about self.old.store)) write.now }
+        requires inside { Fits (size_of (S.about self.old.store)) write.now }
+        requires some { 0 < length write.now.bytes }
         ensures taken { IfOk result (λ out. IsDelivered self.old self.new out (number from ticket write.now self.old.state)) }
         ensures refused { IfErr result (λ r. (number from ticket write.now self.old.state ≡ Refused (number_of r)) × (self.new ≡ self.old)) }
         ensures board { self.new.state.board ≡ self.old.state.board }
@@ -146,6 +148,7 @@ impl<S: StoreLike + Drop> Node<S> {
     /// The write becomes the last applied one.
     fn apply(&mut self, n: u64, origin: Origin, write: &Write) -> Out
         requires inside { Fits (size_of (S.about self.old.store)) write.now }
+        requires some { 0 < length write.now.bytes }
         requires next { n ≡ last_of self.old.state + 1 }
         requires room { is_full write.now self.old.state ≡ false }
         ensures step { IsStepOrStop self.old self.new result (apply n origin write.now self.old.state) }

@@ -133,7 +133,7 @@ impl Pair<'_> {
     }
 }
 
-/// The steps of a command, by the table of the README.
+/// The steps of a command, by the table of docs/SCRIPTS.md.
 fn steps_of(alloc: Global, act: MemberAct, slot: Slot) -> Result<Vec<Step>, Fail> {
     let steps = match act {
         MemberAct::Take => vec![in alloc; Step::Take { slot }]?,

@@ -39,7 +39,7 @@ use Rattle.world.specs.declared.outcome.Outcome.TheVariants as results
 use Rattle.world.specs.declared.world.World.{World}
 use Rattle.world_model.specs.Event.{ClientEvent, Failed}
 use Rattle.world_model.specs.Machine.{volume_at}
-use Rattle.world_model.specs.Standing.{volume_is_at}
+use Rattle.lone_model.specs.Standing.{volume_is_at}
 
 -- the volume at the durable front stays, and so do the writes up to the committed one, which doesn't fall; a member that has
 -- stopped doesn't run again

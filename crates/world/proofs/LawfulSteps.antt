@@ -29,7 +29,7 @@ use Rattle.world.specs.declared.waiting.Waiting.{Waiting}
 use Rattle.world.proofs.LawfulClients.{Absent, Go, go_insert, good_get, place_absent, place_is}
 use Rattle.world.proofs.LawfulReplies.{Grown, SessionLaws, Tell, Went, delivered, goes_ended, goes_fed, grown_same, none_of, settled, tell_same, tell_then, went_at}
 use Rattle.world_model.specs.Event.{ClientEvent, Done, Failed, Outcome}
-use Rattle.world_model.specs.View.{sent_event}
+use Rattle.lone_model.specs.View.{sent_event}
 
 -- ---- clients
 

@@ -19,9 +19,9 @@ use Rattle.world.proofs.Zips.{zip_map_left}
 use Rattle.world_model.specs.Event.{ClientEvent}
 use Rattle.world_model.specs.Machine.{Plays, Waits, start}
 use Rattle.world_model.specs.Runs.{plays_nothing, plays_then, sound_start}
-use Rattle.world_model.specs.StandsFor as machine
-use Rattle.world_model.specs.View.{Held}
-use Rattle.world_model.specs.View as view
+use Rattle.lone_model.specs.StandsFor as machine
+use Rattle.lone_model.specs.View.{Held}
+use Rattle.lone_model.specs.View as view
 
 -- the laws of sessions that it rests on
 pub record SessionLaws : Type 0 where

@@ -26,7 +26,7 @@ use Rattle.world.specs.declared.waiting.Token.{Token}
 use Rattle.world.specs.declared.waiting.Token.TheVariants as tokens
 use Rattle.world.specs.declared.waiting.Waiting.{Waiting}
 use Rattle.world_model.specs.Event.{ClientEvent, Done, Failed}
-use Rattle.world_model.specs.View.{Held, sent_event}
+use Rattle.lone_model.specs.View.{Held, sent_event}
 
 -- what a step does to a member that may stop, and what is seen of it if it doesn't
 record Fares (Cause : Type 0) (old new : Seen) (events : List ClientEvent) : Type 0 where

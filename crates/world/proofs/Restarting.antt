@@ -16,9 +16,9 @@ use Rattle.world_model.specs.Counting.{count-cons, none_counted, one_if-false, o
 use Rattle.world_model.specs.Machine.{May, Restart, State, Waits, after, volume_at}
 use Rattle.world_model.specs.Runs.{length-writes_of, sound_step}
 use Rattle.world_model.specs.Sound.{IsSound, writes_of}
-use Rattle.world_model.specs.Standing.{map_two, names_of}
-use Rattle.world_model.specs.StandsFor as machine
-use Rattle.world_model.specs.View as view
+use Rattle.lone_model.specs.Standing.{map_two, names_of}
+use Rattle.lone_model.specs.StandsFor as machine
+use Rattle.lone_model.specs.View as view
 
 -- bytes have one reading
 abbrev pub OneReading : Type 0

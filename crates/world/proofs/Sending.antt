@@ -18,7 +18,7 @@ use Rattle.world.specs.Steps.{GetsBytes, TakesPiece, held_by}
 use Rattle.world.specs.Told.{place_of}
 use Rattle.world.specs.declared.client.Client.{Client}
 use Rattle.world_model.specs.Event.{ClientEvent}
-use Rattle.world_model.specs.View.{sent_event}
+use Rattle.lone_model.specs.View.{sent_event}
 
 -- it is at a place, and its session took the piece: the requests that stand whole now and didn't before are sent
 pub gets_bytes : (id : SessionId) (piece : List ℕ) (old new : Seen) (at : ℕ) (client : Client) (session : State) (made : List Demand)

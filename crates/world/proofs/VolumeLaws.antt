@@ -39,11 +39,11 @@ use Rattle.world.proofs.Zips.{zip_get, zip_insert, zip_set}
 use Rattle.world_model.specs.Event.{Answered, ClientEvent, Done, Failed, Outcome}
 use Rattle.world_model.specs.Event as model
 use Rattle.world_model.specs.Machine.{written}
-use Rattle.world_model.specs.Standing.{Shows, Stays, answers_read, answers_token, connects, drops_demand, first_learned_token, forgets, get_set, learned_token, makes_durable, numbers_write, raises_front, reaches, refuses_demand, sends, set_twice, shows_stay, submits_write, token_for, with_numbered, with_submitted}
-use Rattle.world_model.specs.StandsFor.{IsOfKind}
-use Rattle.world_model.specs.StandsFor as machine
-use Rattle.world_model.specs.View.{Held, Submitted, View, sent_event}
-use Rattle.world_model.specs.View as view
+use Rattle.lone_model.specs.Standing.{Shows, Stays, answers_read, answers_token, connects, drops_demand, first_learned_token, forgets, get_set, learned_token, makes_durable, numbers_write, raises_front, reaches, refuses_demand, sends, set_twice, shows_stay, submits_write, token_for, with_numbered, with_submitted}
+use Rattle.lone_model.specs.StandsFor.{IsOfKind}
+use Rattle.lone_model.specs.StandsFor as machine
+use Rattle.lone_model.specs.View.{Held, Submitted, View, sent_event}
+use Rattle.lone_model.specs.View as view
 
 -- ---- the member takes a demand
 

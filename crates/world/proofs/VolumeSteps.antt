@@ -27,10 +27,10 @@ use Rattle.world.proofs.Zips.{zip_get, zip_set, zip_set_left}
 use Rattle.world_model.specs.Event.{ClientEvent, Done, Failed, Outcome}
 use Rattle.world_model.specs.Machine.{Plays}
 use Rattle.world_model.specs.Runs.{plays_then}
-use Rattle.world_model.specs.Standing.{Shows, Stays, drops_token, forgets, refuses_token, shows_stay}
-use Rattle.world_model.specs.StandsFor as machine
-use Rattle.world_model.specs.View.{Held, View, sent_event}
-use Rattle.world_model.specs.View as machine_view
+use Rattle.lone_model.specs.Standing.{Shows, Stays, drops_token, forgets, refuses_token, shows_stay}
+use Rattle.lone_model.specs.StandsFor as machine
+use Rattle.lone_model.specs.View.{Held, View, sent_event}
+use Rattle.lone_model.specs.View as machine_view
 
 -- what shows after another
 pub shows_then : (size : ℕ) (u v w : View) (one two : List ClientEvent) → Shows size u v one → Shows size v w two → Shows size u w (one ++ two)

@@ -16,7 +16,7 @@ use Rattle.world.specs.declared.step.Step.{Step}
 use Rattle.world.specs.declared.step.Step.TheVariants as steps
 use Rattle.world.specs.declared.world.World.{World}
 use Rattle.world_model.specs.Event.{ClientEvent}
-use Rattle.world_model.specs.Machine.{Move, Run, State, shown}
+use Rattle.world_model.specs.Machine.{Move, RunsOn, State, shown}
 
 -- a world's geometry, what its member knows of its disk, the disk, and its fault that stopped the member
 pub record OnDisk (D : Type 0) : Type 0 where
@@ -103,5 +103,5 @@ WhatIsLeftIsDurable = (blocks area : ℕ) (w : Seen) (s : State) (disk : List �
 abbrev pub WhatIsLeftPlayingIsDurable : Type 0
 WhatIsLeftPlayingIsDurable = (blocks area : ℕ) (old : Seen) (s : State) (steps : List Step) (disk : List ℕ)
     → (left : LeftPlaying blocks area old steps disk) → StandsFor (4096 * blocks) old s
-    → (moves : List Move) × (t : State) × Run s moves t × (shown (4096 * blocks) s moves ≡ left.events)
+    → (moves : List Move) × (t : State) × RunsOn s moves t × (shown (4096 * blocks) s moves ≡ left.events)
     × StandsFor (4096 * blocks) left.world t × IsDurableFor blocks area t disk

@@ -22,8 +22,8 @@ use Rattle.world.specs.declared.waiting.Waiting.{Waiting}
 use Rattle.world_model.specs.Event.{ClientEvent}
 use Rattle.world_model.specs.Event as model
 use Rattle.world_model.specs.Machine.{Plays, State, start}
-use Rattle.world_model.specs.StandsFor as machine
-use Rattle.world_model.specs.View.{Held, Submitted, Token, View}
+use Rattle.lone_model.specs.StandsFor as machine
+use Rattle.lone_model.specs.View.{Held, Submitted, Token, View}
 
 -- the number by which a token is answered: a write with FUA has its own
 abbrev pub number_of : Option ℕ → tokens.Token → Option ℕ

@@ -29,7 +29,7 @@ use Rattle.world.specs.declared.waiting.Token.TheVariants as tokens
 use Rattle.world.specs.declared.waiting.Waiting.{Waiting}
 use Rattle.world_model.specs.Event.{ClientEvent, Done, Failed, Outcome}
 use Rattle.world_model.specs.Event as model
-use Rattle.world_model.specs.View.{Held, sent_event}
+use Rattle.lone_model.specs.View.{Held, sent_event}
 
 -- ---- clients
 

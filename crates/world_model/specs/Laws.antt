@@ -2,7 +2,7 @@
 use Rattle.std.specs.Prelude.{◌≡◌, ◌⊎◌, ℕ, ◌≤◌, Some, List, ◌++◌, length, take, Contains}
 use Rattle.flush_barrier.specs.declared.session_id.SessionId.{SessionId}
 use Rattle.world_model.specs.Event.{Request, Flush}
-use Rattle.world_model.specs.Machine.{AnswerFlush, AnswerRead, Asked, May, Move, Run, Send, State, Taken, after, last_answered, shown, start}
+use Rattle.world_model.specs.Machine.{AnswerFlush, AnswerRead, Asked, May, Move, Run, RunsOn, Send, State, Taken, after, last_answered, shown, start}
 use Rattle.world_model.specs.Steps.{named}
 use Rattle.world_model.specs.Sound.{IsAnsweredAt, IsSound, kept_as, writes_of}
 
@@ -54,6 +54,10 @@ FlushesOwe = (s t : State) (session : SessionId) (cookie place : ℕ) → IsAnsw
 abbrev pub OwedStays : Type 0
 OwedStays = (s t : State) (moves : List Move) → IsSound s → Run s moves t
     → (s.owed ≤ t.owed) × (take s.owed (writes_of t.taken) ≡ take s.owed (writes_of s.taken))
+
+-- without a restart no write that was taken is lost
+abbrev pub NothingIsLost : Type 0
+NothingIsLost = (s t : State) (moves : List Move) → RunsOn s moves t → take (length s.taken) (writes_of t.taken) ≡ writes_of s.taken
 
 -- a request's name leads to it
 abbrev pub NamesFind : Type 0

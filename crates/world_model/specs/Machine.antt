@@ -166,7 +166,23 @@ pub record IsLawful (size : ℕ) (events : List ClientEvent) : Type 0 where
   pub run : Run start moves end
   pub all : shown size start moves ≡ events
 
--- from each state of the machine that one world stands for, some run shows these events, and ends in one that the other
--- stands for
+-- the step is no restart
+abbrev pub GoesOn : Move → Type 0
+GoesOn (Send session cookie request) = Unit {0}
+GoesOn (Take asked write) = Unit {0}
+GoesOn (AnswerWrite asked place) = Unit {0}
+GoesOn (AnswerFua asked place) = Unit {0}
+GoesOn (AnswerFlush asked) = Unit {0}
+GoesOn (AnswerRead asked front) = Unit {0}
+GoesOn (Refuse asked error) = Unit {0}
+GoesOn (Restart front) = ⊥
+
+-- the steps lead from one state to the other, and none of them is a restart
+abbrev pub RunsOn : State → List Move → State → Type 0
+RunsOn s [] t = t ≡ s
+RunsOn s (move ∷ moves) t = GoesOn move × May s move × RunsOn (after s move) moves t
+
+-- from each state of the machine that one world stands for, some run without a restart shows these events, and ends in one that
+-- the other stands for
 abbrev pub Plays : ℕ → (State → Type 0) → (State → Type 0) → List ClientEvent → Type 0
-Plays size old new events = (s : State) → old s → (moves : List Move) × (t : State) × Run s moves t × (shown size s moves ≡ events) × new t
+Plays size old new events = (s : State) → old s → (moves : List Move) × (t : State) × RunsOn s moves t × (shown size s moves ≡ events) × new t

@@ -9,8 +9,8 @@ use Rattle.std.proofs.lemmas.Option.{slice_get_within, same_Some}
 use Rattle.flush_barrier.specs.declared.session_id.SessionId.{SessionId}
 use Rattle.volume.specs.Writes.{Placed}
 use Rattle.world_model.specs.Event.{ClientEvent, Request}
-use Rattle.world_model.specs.Laws.{FlushesOwe, LastIsAnswered, LastIsLast, MarkedWritesAreRead, NamesFind, OwedStays, ReadsAreFresh, RunsGoOn, RunsKeepSound, ShownGoesOn, StartIsSound, StepsKeepSound}
-use Rattle.world_model.specs.Machine.{AnswerFlush, AnswerFua, AnswerRead, AnswerWrite, Asked, IsAt, May, Move, Plays, Refuse, Restart, Run, Send, State, Take, Taken, after, answered_at, last_answered, shown, shows, told}
+use Rattle.world_model.specs.Laws.{FlushesOwe, LastIsAnswered, LastIsLast, MarkedWritesAreRead, NamesFind, NothingIsLost, OwedStays, ReadsAreFresh, RunsGoOn, RunsKeepSound, ShownGoesOn, StartIsSound, StepsKeepSound}
+use Rattle.world_model.specs.Machine.{AnswerFlush, AnswerFua, AnswerRead, AnswerWrite, Asked, GoesOn, IsAt, May, Move, Plays, Refuse, Restart, Run, RunsOn, Send, State, Take, Taken, after, answered_at, last_answered, shown, shows, told}
 use Rattle.world_model.specs.Sound.{IsSound, kept_as, names_sent, names_taken, writes_of}
 
 -- ---- runs one after another
@@ -25,6 +25,15 @@ shown_then size s t (move ∷ moves) two one =
     ap (λ l. shows size s move ++ l) (shown_then size (after s move) t moves two one.1)
     ∙ sym (append_assoc (shows size s move) (shown size (after s move) moves) (shown size t two))
 
+-- a run without a restart is a run, and goes on by another
+pub run_of : (s t : State) (moves : List Move) → RunsOn s moves t → Run s moves t
+run_of s t [] on = on
+run_of s t (move ∷ moves) (goes, may, on) = (may, run_of (after s move) t moves on)
+
+pub runs_on_then : (s t u : State) (one two : List Move) → RunsOn s one t → RunsOn t two u → RunsOn s (one ++ two) u
+runs_on_then s t u [] two one rest = subst (λ x. RunsOn x two u) one rest
+runs_on_then s t u (move ∷ moves) two (goes, may, on) rest = (goes, may, runs_on_then (after s move) t u moves two on rest)
+
 -- a world that stands still plays nothing
 pub plays_nothing : (size : ℕ) (old : State → Type 0) → Plays size old old []
 plays_nothing size old s stands = ([], s, refl, refl, stands)
@@ -34,15 +43,15 @@ pub plays_then : (size : ℕ) (a b c : State → Type 0) (one two : List ClientE
 plays_then size a b c one two first second s stands =
     let x = first s stands in
     let y = second x.1 x.4 in
-    (x.0 ++ y.0, y.1, run_then s x.1 y.1 x.0 y.0 x.2 y.2, shown_then size s x.1 x.0 y.0 x.2 ∙ ap (λ l. l ++ shown size x.1 y.0) x.3 ∙ ap (λ l. one ++ l) y.3, y.4)
+    (x.0 ++ y.0, y.1, runs_on_then s x.1 y.1 x.0 y.0 x.2 y.2, shown_then size s x.1 x.0 y.0 (run_of s x.1 x.0 x.2) ∙ ap (λ l. l ++ shown size x.1 y.0) x.3 ∙ ap (λ l. one ++ l) y.3, y.4)
 
 -- a play of one step, which may depend on the state
 pub plays_one : (size : ℕ) (old new : State → Type 0) (events : List ClientEvent)
-    → ((s : State) → old s → (move : Move) × May s move × (shows size s move ≡ events) × new (after s move))
+    → ((s : State) → old s → (move : Move) × GoesOn move × May s move × (shows size s move ≡ events) × new (after s move))
     → Plays size old new events
 plays_one size old new events one s stands =
-    let x = one s stands in
-    (x.0 ∷ [], after s x.0, (x.1, refl), append-nil (shows size s x.0) ∙ x.2, x.3)
+    let (move, goes, may, shows_it, left) = one s stands in
+    (move ∷ [], after s move, (goes, may, refl), append-nil (shows size s move) ∙ shows_it, left)
 
 -- ---- writes marked as answered
 
@@ -371,3 +380,30 @@ found_by_name (a ∷ rest) asked apart (suc k, within, at) =
 
 pub names_find : NamesFind
 names_find s asked sound among = found_by_name s.sent asked sound.sent_apart among
+
+-- ---- what was taken stays
+
+-- a step that is no restart leaves the writes taken, and more behind them
+taken_grows : (s : State) (move : Move) → GoesOn move → (more : List (ℕ × Placed)) × (writes_of (after s move).taken ≡ writes_of s.taken ++ more)
+taken_grows s (Send session cookie request) goes = ([], sym (append-nil (writes_of s.taken)))
+taken_grows s (Take asked write) goes = let t : Taken = record { name = asked.name; write = write; answered = false } in ((asked.name, write) ∷ [], map_push (λ (u : Taken). (u.name, u.write)) s.taken t)
+taken_grows s (AnswerWrite asked place) goes = ([], writes-answered_at place s.taken ∙ sym (append-nil (writes_of s.taken)))
+taken_grows s (AnswerFua asked place) goes = ([], writes-answered_at place s.taken ∙ sym (append-nil (writes_of s.taken)))
+taken_grows s (AnswerFlush asked) goes = ([], sym (append-nil (writes_of s.taken)))
+taken_grows s (AnswerRead asked front) goes = ([], sym (append-nil (writes_of s.taken)))
+taken_grows s (Refuse asked error) goes = ([], sym (append-nil (writes_of s.taken)))
+taken_grows s (Restart front) goes = absurd goes
+
+-- and so does a run of them
+runs_grow : (s t : State) (moves : List Move) → RunsOn s moves t → (more : List (ℕ × Placed)) × (writes_of t.taken ≡ writes_of s.taken ++ more)
+runs_grow s t [] on = ([], ap (λ (u : State). writes_of u.taken) on ∙ sym (append-nil (writes_of s.taken)))
+runs_grow s t (move ∷ moves) (goes, may, on) =
+    let (one, first) = taken_grows s move goes in
+    let (other, rest) = runs_grow (after s move) t moves on in
+    (one ++ other, rest ∙ ap (λ (l : List (ℕ × Placed)). l ++ other) first ∙ append_assoc (writes_of s.taken) one other)
+
+pub nothing_is_lost : NothingIsLost
+nothing_is_lost s t moves on =
+    let (more, is) = runs_grow s t moves on in
+    ap (take (length s.taken)) is ∙ take-append-le (length s.taken) (writes_of s.taken) more (omega (arith, length-writes_of s.taken))
+    ∙ take_all (length s.taken) (writes_of s.taken) (omega (arith, length-writes_of s.taken))

@@ -1,6 +1,6 @@
 //! Laws of the machine's runs, for callers that argue about them. The functions do nothing.
 
-ghost use Rattle.world_model.specs.Laws.{FlushesOwe, LastIsAnswered, LastIsLast, MarkedWritesAreRead, NamesFind, OwedStays, ReadsAreFresh, RunsGoOn, RunsKeepSound, ShownGoesOn, StartIsSound, StepsKeepSound};
+ghost use Rattle.world_model.specs.Laws.{FlushesOwe, LastIsAnswered, LastIsLast, MarkedWritesAreRead, NamesFind, NothingIsLost, OwedStays, ReadsAreFresh, RunsGoOn, RunsKeepSound, ShownGoesOn, StartIsSound, StepsKeepSound};
 
 /// A run that goes on is a run, and shows what its parts show.
 pub fn runs_go_on()
@@ -27,6 +27,11 @@ pub fn flushes_owe()
     ensures last { LastIsLast }
     ensures answered { LastIsAnswered }
     ensures owed { FlushesOwe }
+{}
+
+/// Without a restart no write that was taken is lost.
+pub fn nothing_is_lost()
+    ensures { NothingIsLost }
 {}
 
 /// What is owed is never lost.

@@ -12,6 +12,7 @@
 #![tactic(auto)]
 
 mod asked;
+mod chain_laws;
 mod contents;
 mod laws;
 mod lists;
@@ -21,6 +22,13 @@ mod taken;
 #[cfg(test)]
 mod tests;
 
-pub use laws::{flushes_owe, owed_stays, reads_are_fresh, runs_go_on, runs_keep_sound};
+pub use chain_laws::{
+    chains_begin_again, commits_are_of_one_volume, demands_are_of_one_volume,
+    each_disk_has_what_is_owed, fronts_are_of_one_volume, lives_are_of_one_volume,
+    sessions_are_of_one_volume, writes_are_of_one_volume,
+};
+pub use laws::{
+    flushes_owe, nothing_is_lost, owed_stays, reads_are_fresh, runs_go_on, runs_keep_sound,
+};
 pub use machine::Machine;
 pub use request::Request;

@@ -1,4 +1,4 @@
-use Rattle.std.proofs.Common.{◌≡◌, ◌+◌, ◌<◌, ℕ, List, None, Some, arith, length, subst, sym}
+use Rattle.std.proofs.Common.{◌≡◌, ◌+◌, ◌<◌, ℕ, List, None, Some, arith, length, refl, subst, sym}
 use Rattle.std.proofs.Math.Nat.{le_refl}
 use Rattle.disk_model.specs.Moments.{started}
 use Rattle.gate_journal.specs.Batch.{AreImages}
@@ -10,7 +10,12 @@ use Rattle.chain_steps.specs.Node.{NodeState}
 use Rattle.chain_steps.specs.Steps.{AreImagesOf, Begins, CanBegin, IsGroup}
 use Rattle.chain_core.proofs.Counting.{begins_by, no_group}
 use Rattle.chain_core.proofs.SoundCommits.{sound_begun, sound_worked}
+use Rattle.chain_core.proofs.StoreReads.{first}
 use Rattle.chain_core.proofs.node.Node.begin_commits.Goals as goal
+
+pub returns-then-is_some-clause-unchanged : goal.returns-then-is_some-clause-unchanged
+returns-then-is_some-clause-unchanged g c =
+    (refl, first g.S.StoreLike.about g.S.StoreLike.keeps g.S.StoreLike.moment g.S.StoreLike.may_have_left_since g.S.StoreLike.may_leave_now g.met.S.StoreLike.means_now g.met.S.StoreLike.only_now c.args.self.now.store g.S.StoreLike.failures)
 
 pub returns-then-is_some-clause-any_moment : goal.returns-then-is_some-clause-any_moment
 returns-then-is_some-clause-any_moment g c = λ premise volume keep.

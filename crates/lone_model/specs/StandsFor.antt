@@ -6,7 +6,7 @@ use Rattle.volume.specs.Writes.{Placed, volume_of}
 use Rattle.world_model.specs.Event.{Request}
 use Rattle.world_model.specs.Machine.{Asked, IsFua, IsPlain, State, Waits, written}
 use Rattle.world_model.specs.Sound.{IsSound, writes_of}
-use Rattle.world_model.specs.View.{Held, Submitted, Token, View}
+use Rattle.lone_model.specs.View.{Held, Submitted, Token, View}
 
 -- a token, and the request that is owed its reply
 pub record Bound : Type 0 where

@@ -1,0 +1,8 @@
+use Rattle.world_model.specs.RestartSteps.{first_chain, restarts_chain}
+use Rattle.world_model.proofs.chain_laws.chains_begin_again.Goals as goal
+
+pub returns-clause-first : goal.returns-clause-first
+returns-clause-first c = first_chain
+
+pub returns-clause-restarts : goal.returns-clause-restarts
+returns-clause-restarts c = restarts_chain

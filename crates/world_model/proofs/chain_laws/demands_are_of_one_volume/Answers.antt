@@ -1,0 +1,20 @@
+use Rattle.world_model.specs.TakingSteps.{asks_for, drops, flushes_for, reads_clean, refuses, submits_to_head}
+use Rattle.world_model.proofs.chain_laws.demands_are_of_one_volume.Goals as goal
+
+pub returns-clause-drops : goal.returns-clause-drops
+returns-clause-drops c = λ size v above m below d rest first. drops size v above m below d rest first
+
+pub returns-clause-refuses : goal.returns-clause-refuses
+returns-clause-refuses c = λ size v above m below d rest error first. refuses size v above m below d rest first error
+
+pub returns-clause-reads : goal.returns-clause-reads
+returns-clause-reads c = λ size v above m below d rest offset len first asked clean sized inside. reads_clean size v above m below d rest first offset len asked clean sized inside
+
+pub returns-clause-asks : goal.returns-clause-asks
+returns-clause-asks c = λ size v above m below d rest offset len token first asked session cookie. asks_for size v above m below d rest first offset len token asked session cookie
+
+pub returns-clause-flushes : goal.returns-clause-flushes
+returns-clause-flushes c = λ size v above m below d rest token first asked session cookie unbound. flushes_for size v above m below d rest first token asked session cookie unbound
+
+pub returns-clause-submits : goal.returns-clause-submits
+returns-clause-submits c = λ size v above m below d rest token write first writes kind fresh session cookie. submits_to_head size v above m below d rest first token write writes kind fresh session cookie
