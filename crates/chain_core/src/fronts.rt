@@ -1,6 +1,7 @@
 //! Fronts and floors.
 ghost use Rattle.std.specs.Prelude.{◌≡◌, ◌≤◌, IfSome};
-ghost use Rattle.board.specs.Seats.{stepped};
+ghost use Rattle.board.specs.Seats.{IsAlone, IsRuled, stepped};
+ghost use Rattle.board.specs.Steps.{NeverBack};
 ghost use Rattle.board.specs.declared.view.Step.TheVariants.{Look, Raise};
 ghost use Rattle.chain_steps.specs.Node.{last_of};
 ghost use Rattle.chain_steps.specs.Steps.{answer_floor, raised, raised_front};
@@ -20,6 +21,10 @@ impl<S: StoreLike + Drop> Node<S> {
         requires of_seat { seat.old.board ≡ board.now }
         ensures kept { Keeps Found.Raised board.now seat.old.number result self.old self.new }
         ensures step { seat.new ≡ stepped seat.old (Raise (last_of self.old.state) result) }
+        ensures raised { last_of self.old.state ≤ result }
+        ensures never_back { NeverBack 0 seat.old.steps result }
+        ensures alone { IsAlone seat.new 0 result }
+        ensures ruled { IsRuled seat.new }
     {
         let front = board.raise(seat, self.table.applied());
         let number = front.number();
@@ -33,6 +38,9 @@ impl<S: StoreLike + Drop> Node<S> {
         requires of_seat { seat.old.board ≡ board.now }
         ensures kept { Keeps Found.Looked board.now seat.old.number result self.old self.new }
         ensures step { seat.new ≡ stepped seat.old (Look result) }
+        ensures never_back { NeverBack 0 seat.old.steps result }
+        ensures alone { IsAlone seat.new 0 result }
+        ensures ruled { IsRuled seat.new }
     {
         let front = board.look(seat);
         let number = front.number();

@@ -126,15 +126,15 @@ impl<S: StoreLike + Drop> Node<S> {
         self.table.applied()
     }
 
-    /// Stops it: all its tokens are refused with EIO, in the order in which they were taken.
+    /// Stops it, since it was told to.
     pub fn stop(&mut self) -> Out
         ensures { IsStep self.old self.new result (stop Cause.Told self.old.state) }
     {
         self.stop_by(Cause::Told)
     }
 
-    /// Stops it for this cause.
-    pub(crate) fn stop_by(&mut self, cause: Cause) -> Out
+    /// Stops it for this cause: all its tokens are refused with EIO, in the order in which they were taken.
+    pub fn stop_by(&mut self, cause: Cause) -> Out
         ensures step { IsStep self.old self.new result (stop cause self.old.state) }
         ensures board { self.new.state.board ≡ self.old.state.board }
     {

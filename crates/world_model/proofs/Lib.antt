@@ -1,2 +1,4 @@
+pub mod LifeSteps
 pub mod PlaceLemmas
+pub mod RestartSteps
 pub mod StepLemmas

@@ -9,13 +9,11 @@ pub mod DemandSteps
 pub mod Event
 pub mod Laws
 pub mod Life
-pub mod LifeSteps
 pub mod Machine
 pub mod MemberSteps
 pub mod Order
 pub mod OrderSteps
 pub mod Requests
-pub mod RestartSteps
 pub mod Runs
 pub mod Settling
 pub mod Sound

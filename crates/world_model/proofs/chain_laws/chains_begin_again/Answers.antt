@@ -1,4 +1,4 @@
-use Rattle.world_model.specs.RestartSteps.{first_chain, restarts_chain}
+use Rattle.world_model.proofs.RestartSteps.{first_chain, restarts_chain}
 use Rattle.world_model.proofs.chain_laws.chains_begin_again.Goals as goal
 
 pub returns-clause-first : goal.returns-clause-first

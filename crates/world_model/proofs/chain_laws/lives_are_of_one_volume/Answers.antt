@@ -1,4 +1,4 @@
-use Rattle.world_model.specs.LifeSteps.{happenings, lives}
+use Rattle.world_model.proofs.LifeSteps.{happenings, lives}
 use Rattle.world_model.proofs.chain_laws.lives_are_of_one_volume.Goals as goal
 
 pub returns-clause-happenings : goal.returns-clause-happenings

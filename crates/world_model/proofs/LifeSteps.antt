@@ -14,7 +14,7 @@ use Rattle.world_model.specs.Life.{AckTaken, Answer, AnswerFloor, AnswerFront, A
 use Rattle.world_model.specs.Machine.{May, Move, Plays, Restart, RunsOn, State, after, shown, start}
 use Rattle.world_model.specs.MemberSteps.{answers, begins, keeps_raised, looks_up, pays, stops}
 use Rattle.world_model.specs.Requests.{Held, sent_event}
-use Rattle.world_model.specs.RestartSteps.{first_chain, restarts_chain}
+use Rattle.world_model.proofs.RestartSteps.{first_chain, restarts_chain}
 use Rattle.world_model.specs.Runs.{plays_nothing, plays_then}
 use Rattle.world_model.specs.TakingSteps.{asks_for, drops, flushes_for, reads_clean, refuses, submits_to_head}
 use Rattle.world_model.specs.WriteSteps.{applies_put, numbers_write}

@@ -1,0 +1,5 @@
+mod Cells
+mod FrontSteps
+mod MusterSteps
+mod Stepping
+mod WordSteps

@@ -1,0 +1,118 @@
+-- One member of a chain steps: what is shown of the chain then, and what happened in it.
+use Rattle.std.proofs.Common.{◌≡◌, ℕ, zero, suc, ◌<◌, List, [], ◌∷◌, ◌++◌, length, refl, ap, sym, subst, ◌∙◌}
+use Rattle.std.specs.Prelude.{All, IfSome, None, Some, map, slice_get, slice_index_or, slice_set}
+use Rattle.std.specs.List.{AllZip, flat_map}
+use Rattle.std.proofs.lemmas.List.{append-nil, set-get_or}
+use Rattle.std.proofs.lemmas.List.Elements.{All-head, All-set}
+use Rattle.std.proofs.lemmas.Option.{get_or_from_slice_get, slice_get_read}
+use Rattle.gate_journal.specs.Receipt.{Receipt}
+use Rattle.local_store.specs.About.{About}
+use Rattle.world_model.specs.Backing as model
+use Rattle.world_model.specs.Chain.{ArePutOut, Member, Told, View}
+use Rattle.world_model.specs.ChainLaws.{with_members}
+use Rattle.world_model.specs.ChainSteps.{flat_same, maps_same}
+use Rattle.world_model.specs.Counting.{all_behind}
+use Rattle.world_model.specs.Event.{ClientEvent}
+use Rattle.world_model.specs.Life.{Does, Doing, Happening, Happens, MemberDoes}
+use Rattle.chain.specs.Chain.{Chained, Goes, IsFormed, IsIn, Shows, bytes_of, recorded_as, told_of}
+use Rattle.chain.specs.Member.{IsShown, Linked, fronts_of, member_of, musters_of, receipts_of}
+use Rattle.chain.proofs.Cells.{Place, Twin, place_of, twin_of}
+
+-- what all have, the one at a place has
+pub all_at : {A : Type 0} (P : A → Type 0) (xs : List A) (at : ℕ) (x : A) → slice_get xs at ≡ Some x → All P xs → P x
+all_at P xs at x here all = let place = place_of xs at x here in All-head P x place.below (all_behind P place.above (x ∷ place.below) (subst (All P) place.split all))
+
+-- the head stays without Puts
+pub head_then : {S : Type 0} (ms : List (Linked S)) (at : ℕ) (before after : Linked S) → slice_get ms at ≡ Some before → (before.puts ≡ [] → after.puts ≡ [])
+    → IfSome (slice_get ms 0) (λ m. m.puts ≡ []) → IfSome (slice_get (slice_set ms at after) 0) (λ m. m.puts ≡ [])
+head_then [] at before after here idle head = head
+head_then (m ∷ ms) zero before after here idle head = let same : Some m ≡ Some before = here in let is : m ≡ before = cc same in idle (ap (λ x. x.puts) (sym is) ∙ head)
+head_then (m ∷ ms) (suc at) before after here idle head = head
+
+-- what a call reads at a place
+pub read_at : {S : Type 0} (old now : Chained S) (at : ℕ) (x : Linked S) → old ≡ now → at < length now.members → x ≡ slice_index_or old.members at x → slice_get old.members at ≡ Some x
+read_at old now at x same within is = slice_get_read old.members (length now.members) at x (ap (λ o. length o.members) (sym same)) within is
+
+-- the member uses the board as before
+pub record UsesAsBefore {S : Type 0} (before after : Linked S) : Type 0 where
+  pub front : fronts_of after.front ≡ fronts_of before.front
+  pub muster : musters_of after.muster ≡ musters_of before.muster
+  pub receipt : receipts_of after.receipt ≡ receipts_of before.receipt
+
+module _ {S : Type 0} (old : Chained S) (at : ℕ) (before after : Linked S) (here : slice_get old.members at ≡ Some before) where
+  abbrev then : Chained S
+  then = record old { members = slice_set old.members at after }
+
+  place : Place old.members at before
+  place = place_of old.members at before here
+
+  gathers : {B : Type 0} (f : Linked S → List B) → f after ≡ f before → flat_map f (slice_set old.members at after) ≡ flat_map f old.members
+  gathers f is = ap (flat_map f) (place.setting after) ∙ flat_same f place.above before after place.below is ∙ ap (flat_map f) (sym place.split)
+
+  told_stays : UsesAsBefore before after → told_of then ≡ told_of old
+  told_stays same = rw (gathers (λ m. fronts_of m.front) same.front, gathers (λ m. musters_of m.muster) same.muster, gathers (λ m. receipts_of m.receipt) same.receipt) refl
+
+  -- the member is in the chain still
+  pub formed_then : (about : S → About) → recorded_as after ≡ recorded_as before → (before.puts ≡ [] → after.puts ≡ []) → (IsIn about old.id old.seat old.chain old.geometry before → IsIn about old.id old.seat old.chain old.geometry after) → IsFormed about old → IsFormed about then
+  formed_then about recorded idle stays formed = record {
+    recorded = ap (map recorded_as) (place.setting after) ∙ maps_same recorded_as place.above before after place.below recorded ∙ ap (map recorded_as) (sym place.split) ∙ formed.recorded;
+    head = head_then old.members at before after here idle formed.head;
+    members = All-set (IsIn about old.id old.seat old.chain old.geometry) old.members at after (stays (all_at (IsIn about old.id old.seat old.chain old.geometry) old.members at before here formed.members)) formed.members;
+  }
+
+  pub formed_still : (about : S → About) → after ≡ before → IsFormed about old → IsFormed about then
+  formed_still about same formed = formed_then about (ap recorded_as same) (λ idle. ap (λ m. m.puts) same ∙ idle) (subst (IsIn about old.id old.seat old.chain old.geometry) (sym same)) formed
+
+  -- the same member in its place changes nothing
+  pub same_then : after ≡ before → then ≡ old
+  same_then same = ap (λ ms. record old { members = ms }) (ap (slice_set old.members at) same ∙ ap (slice_set old.members at) (sym (get_or_from_slice_get old.members at before before here)) ∙ set-get_or old.members at before)
+
+module _ {S : Type 0} (about : S → About) (keeps : S → List ℕ → Type 0) (may_leave_now : S → List ℕ → Type 0) (old : Chained S) where
+  abbrev IsSo : Linked S → Member → Type 0
+  IsSo m shown = IsShown about keeps may_leave_now (bytes_of old) m shown
+
+  abbrev ShowsSo : Chained S → View → Type 0
+  ShowsSo c v = Shows about keeps may_leave_now c v
+
+  -- nothing happens
+  pub rests : (new : Chained S) (v : View) (events : List ClientEvent) → new ≡ old → ShowsSo old v → ArePutOut [] events
+      → (w : View) × ShowsSo new w × Goes (bytes_of old) v w events
+  rests new v events same shows put_out = (v, subst (λ c. ShowsSo c v) (sym same) shows, record { happenings = []; each = []; era = (refl, refl); all = sym put_out })
+
+  -- a member that has the same store, writes and known commit, and runs only if it did, is shown at the same volume
+  pub shown_still : (before after : Linked S) (m g : Member) → IsSo before m → g ≡ member_of after g.volume g.demands → g.volume ≡ m.volume
+      → after.node.store ≡ before.node.store → after.node.state.table ≡ before.node.state.table → after.node.state.known ≡ before.node.state.known
+      → (after.node.state.stopped ≡ None → before.node.state.stopped ≡ None) → IsSo after g
+  shown_still before after m g so is volume store table known runs = record {
+    is = is;
+    whole = rw volume so.whole;
+    keeping = λ on. rw (volume, store) (so.keeping (runs on));
+    left = λ c may. rw (volume, store, table, known) (so.left c (rw (← store) may));
+  }
+
+  module _ (at : ℕ) (before after : Linked S) (here : slice_get old.members at ≡ Some before) where
+    -- this happens at the member
+    pub one_happens : (h : Happening) (v : View) (events : List ClientEvent) → UsesAsBefore before after → ShowsSo old v
+        → ((over : List Member) (m : Member) (under : List Member) → v.members ≡ over ++ m ∷ under → IsSo before m
+        → (g : Member) × IsSo after g × Happens (bytes_of old) h v (with_members v (over ++ g ∷ under)) events)
+        → (w : View) × ShowsSo (then old at before after here) w × Goes (bytes_of old) v w events
+    one_happens h v events same shows step =
+        let place = place_of old.members at before here in
+        let twin = twin_of IsSo place.above before place.below v.members (subst (λ l. AllZip IsSo l v.members) place.split shows.members) in
+        let did = step twin.over twin.own twin.under twin.are twin.fits in
+        (
+          with_members v (twin.over ++ did.0 ∷ twin.under),
+          record {
+            told = shows.told ∙ sym (told_stays old at before after here same);
+            members = subst (λ l. AllZip IsSo l (twin.over ++ did.0 ∷ twin.under)) (sym (place.setting after)) (twin.others after did.0 place.below twin.under did.1 twin.rest);
+          },
+          record { happenings = h ∷ []; each = events ∷ []; era = (with_members v (twin.over ++ did.0 ∷ twin.under), events, [], refl, did.2, (refl, refl)); all = append-nil events },
+        )
+
+    -- the member does so
+    pub one_does : (doing : Doing) (v : View) (events : List ClientEvent) → UsesAsBefore before after → ShowsSo old v
+        → ((m : Member) → IsSo before m → (g : Member) × IsSo after g × Does v doing m g events)
+        → (w : View) × ShowsSo (then old at before after here) w × Goes (bytes_of old) v w events
+    one_does doing v events same shows step = one_happens (MemberDoes doing) v events same shows (λ over m under are so.
+        let did = step m so in
+        (did.0, did.1, record { above = over; old = m; new = did.0; below = under; were = are; are = refl; change = did.2 }))

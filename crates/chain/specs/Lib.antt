@@ -1,0 +1,6 @@
+pub mod Chain
+pub mod Fronts
+pub mod Links
+pub mod LoneBoard
+pub mod Member
+pub mod Muster

@@ -1,0 +1,54 @@
+//! A member with its links.
+ghost use Rattle.std.specs.Prelude.{◌≡◌};
+
+use board::Front;
+use chain_core::Node;
+use chain_steps::Envelope;
+use crate::muster::Muster;
+use gate_journal::Synced;
+use local_store::StoreLike;
+use std::collections::VecDeque;
+use std::marker::Model;
+
+/// A member of a chain with what is on its way to it and from it, and what of the board it has in use.
+pub struct Member<S: StoreLike> {
+    pub(crate) node: Node<S>,
+    /// The chain link to it from the one before it.
+    pub(crate) puts: VecDeque<Envelope>,
+    /// The chain link from it to the one before it.
+    pub(crate) acks: VecDeque<Envelope>,
+    /// Its submit link, to the head.
+    pub(crate) submits: VecDeque<Envelope>,
+    /// A front that was looked up for a crew.
+    pub(crate) front: Option<Front>,
+    /// A crew, and its gauges as far as they are looked up.
+    pub(crate) muster: Option<Muster>,
+    /// The receipt of a commit that isn't posted yet.
+    pub(crate) receipt: Option<Synced>,
+}
+
+impl<S: StoreLike> Model for Member<S> {
+    ghost use Rattle.chain.specs.Member.{IsLinked, Linked};
+
+    ghost Value = { Linked S };
+
+    ghost view = { λ m. record {
+      node = m.node;
+      puts = m.puts.items;
+      acks = m.acks.items;
+      submits = m.submits.items;
+      front = m.front;
+      muster = m.muster;
+      receipt = m.receipt;
+    } };
+
+    ghost invariant = { λ m. IsLinked S.about (record {
+      node = m.node;
+      puts = m.puts.items;
+      acks = m.acks.items;
+      submits = m.submits.items;
+      front = m.front;
+      muster = m.muster;
+      receipt = m.receipt;
+    }) };
+}
