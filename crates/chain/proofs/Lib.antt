@@ -1,5 +1,9 @@
+mod AskingSteps
+mod BeginningSteps
 mod Cells
 mod FrontSteps
 mod MusterSteps
+mod OpeningSteps
+mod Results
 mod Stepping
 mod WordSteps

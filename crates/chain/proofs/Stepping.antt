@@ -40,7 +40,7 @@ pub record UsesAsBefore {S : Type 0} (before after : Linked S) : Type 0 where
   pub receipt : receipts_of after.receipt ≡ receipts_of before.receipt
 
 module _ {S : Type 0} (old : Chained S) (at : ℕ) (before after : Linked S) (here : slice_get old.members at ≡ Some before) where
-  abbrev then : Chained S
+  abbrev pub then : Chained S
   then = record old { members = slice_set old.members at after }
 
   place : Place old.members at before
@@ -49,7 +49,7 @@ module _ {S : Type 0} (old : Chained S) (at : ℕ) (before after : Linked S) (he
   gathers : {B : Type 0} (f : Linked S → List B) → f after ≡ f before → flat_map f (slice_set old.members at after) ≡ flat_map f old.members
   gathers f is = ap (flat_map f) (place.setting after) ∙ flat_same f place.above before after place.below is ∙ ap (flat_map f) (sym place.split)
 
-  told_stays : UsesAsBefore before after → told_of then ≡ told_of old
+  pub told_stays : UsesAsBefore before after → told_of then ≡ told_of old
   told_stays same = rw (gathers (λ m. fronts_of m.front) same.front, gathers (λ m. musters_of m.muster) same.muster, gathers (λ m. receipts_of m.receipt) same.receipt) refl
 
   -- the member is in the chain still
@@ -88,6 +88,8 @@ module _ {S : Type 0} (about : S → About) (keeps : S → List ℕ → Type 0) 
     whole = rw volume so.whole;
     keeping = λ on. rw (volume, store) (so.keeping (runs on));
     left = λ c may. rw (volume, store, table, known) (so.left c (rw (← store) may));
+    durable = rw (store, table) so.durable;
+    behind = rw (table, known) so.behind;
   }
 
   module _ (at : ℕ) (before after : Linked S) (here : slice_get old.members at ≡ Some before) where
@@ -116,3 +118,7 @@ module _ {S : Type 0} (about : S → About) (keeps : S → List ℕ → Type 0) 
     one_does doing v events same shows step = one_happens (MemberDoes doing) v events same shows (λ over m under are so.
         let did = step m so in
         (did.0, did.1, record { above = over; old = m; new = did.0; below = under; were = are; are = refl; change = did.2 }))
+
+-- the member at a place is in the chain
+pub in_at : {S : Type 0} (about : S → About) (c : Chained S) (at : ℕ) (m : Linked S) → slice_get c.members at ≡ Some m → IsFormed about c → IsIn about c.id c.seat c.chain c.geometry m
+in_at about c at m here formed = all_at (IsIn about c.id c.seat c.chain c.geometry) c.members at m here formed.members

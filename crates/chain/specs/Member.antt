@@ -60,12 +60,14 @@ abbrev pub IsLeft : About → List ℕ → NodeState → List ℕ → Type 0
 IsLeft about volume node c = (front : ℕ) × (durable_of node ≤ front) × (front ≤ node.known) × Means (meaning_with (record about { front = front }) (volume_at volume node front)) c
 
 -- The member is shown so: while it runs its store keeps that volume, of so many bytes; and whatever a stop leaves of its disk is
--- some front from the durable one to the known commit.
+-- some front from the durable one to the known commit. Its store tells the durable front, which is known.
 pub record IsShown {S : Type 0} (about : S → About) (keeps : S → List ℕ → Type 0) (may_leave_now : S → List ℕ → Type 0) (size : ℕ) (m : Linked S) (shown : Member) : Type 0 where
   pub is : shown ≡ member_of m shown.volume shown.demands
   pub whole : length shown.volume ≡ size
   pub keeping : m.node.state.stopped ≡ None → keeps m.node.store shown.volume
   pub left : (c : List ℕ) → may_leave_now m.node.store c → IsLeft (about m.node.store) shown.volume m.node.state c
+  pub durable : (about m.node.store).front ≡ durable_of m.node.state
+  pub behind : durable_of m.node.state ≤ m.node.state.known
 
 -- ---- what of the board it has in use
 

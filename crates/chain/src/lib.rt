@@ -11,5 +11,7 @@ mod fronts;
 mod lone_board;
 mod member;
 mod muster;
+mod opening;
+mod requests;
 
 pub use chain::Chain;

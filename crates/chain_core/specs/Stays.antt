@@ -87,7 +87,7 @@ apart_or_not offset len (k ∷ kept) = elim (meets_or_not offset len k.write) [
 ]
 
 -- so whether a range is clean
-clean_or_dirty : (table : Held) (offset len n : ℕ) → IsClean table offset len n ⊎ ¬ IsClean table offset len n
+pub clean_or_dirty : (table : Held) (offset len n : ℕ) → IsClean table offset len n ⊎ ¬ IsClean table offset len n
 clean_or_dirty table offset len n = apart_or_not offset len (kept_after table n)
 
 module _ {S : Type 0} (about : S → About) (old new : Seen S) (out : Out) where
