@@ -1,9 +1,15 @@
+mod AckSteps
 mod AskingSteps
 mod BeginningSteps
 mod Cells
+mod ComingSteps
+mod CommitSteps
+mod FloorSteps
 mod FrontSteps
 mod MusterSteps
 mod OpeningSteps
+mod PassingSteps
 mod Results
 mod Stepping
+mod SubmitSteps
 mod WordSteps

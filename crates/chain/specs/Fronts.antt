@@ -1,9 +1,12 @@
 -- What a member does with a front of the board.
-use Rattle.std.specs.Prelude.{◌≡◌, ℕ, None, Some}
+use Rattle.std.specs.Prelude.{◌≡◌, ◌≢◌, ℕ, ◌+◌, None, Some, length, max, slice_get, slice_set}
 use Rattle.board.specs.Seats.{BoardId, FoundFront}
+use Rattle.chain_steps.specs.Node.{last_of}
 use Rattle.chain_steps.specs.Steps.{keep}
 use Rattle.chain_steps.specs.declared.found.Found.{Found}
-use Rattle.chain_steps.specs.declared.found.Found.TheVariants.{Looked}
+use Rattle.chain_steps.specs.declared.found.Found.TheVariants.{Looked, Raised}
+use Rattle.chain.specs.Chain.{Chained}
+use Rattle.chain.specs.LoneBoard.{raised}
 use Rattle.chain.specs.Member.{Linked}
 
 -- The member runs, and keeps a front of this number that was looked up.
@@ -12,3 +15,25 @@ pub record HasLooked {S : Type 0} (number : ℕ) (old new : Linked S) : Type 0 w
   pub runs : old.node.state.stopped ≡ None
   pub of_number : front.number ≡ number
   pub are : new ≡ record old { node = record old.node { state = keep (Looked front) old.node.state } }
+
+-- The member runs, and keeps a front of this number that it raised.
+pub record HasRaised {S : Type 0} (number : ℕ) (old new : Linked S) : Type 0 where
+  pub front : FoundFront
+  pub runs : old.node.state.stopped ≡ None
+  pub of_number : front.number ≡ number
+  pub are : new ≡ record old { node = record old.node { state = keep (Raised front) old.node.state } }
+
+-- The tail, at this place, raised the committed front to its last applied write if it was below, and keeps the front that is there then;
+-- nothing else changed.
+pub record RaisesAt {S : Type 0} (at : ℕ) (old new : Chained S) : Type 0 where
+  pub before : Linked S
+  pub after : Linked S
+  pub tail : at + 1 ≡ length old.members
+  pub here : slice_get old.members at ≡ Some before
+  pub did : HasRaised (max old.words.front (last_of before.node.state)) before after
+  pub are : new ≡ record old { words = raised old.words (last_of before.node.state); members = slice_set old.members at after }
+
+-- another member is behind the place, and nothing changed
+pub record IsNoTail {S : Type 0} (at : ℕ) (old new : Chained S) : Type 0 where
+  pub behind : at + 1 ≢ length old.members
+  pub same : new ≡ old

@@ -1,8 +1,9 @@
 //! Fronts.
-ghost use Rattle.std.specs.Prelude.{◌≡◌, ◌<◌, ◌↔◌, false, true, [], length};
-ghost use Rattle.chain_steps.specs.Node.{is_stopped};
+ghost use Rattle.std.specs.Prelude.{◌≡◌, ◌≢◌, ◌⊎◌, ◌<◌, ◌+◌, false, true, [], length, max};
+ghost use Rattle.chain_steps.specs.Node.{is_stopped, last_of};
 ghost use Rattle.chain.specs.Chain.{Changes, IsOfOneVolume, RestsAt};
-ghost use Rattle.chain.specs.Fronts.{HasLooked};
+ghost use Rattle.chain.specs.Fronts.{HasLooked, HasRaised, IsNoTail, RaisesAt};
+ghost use Rattle.chain.specs.LoneBoard.{raised};
 
 use crate::chain::Chain;
 use crate::lone_board::LoneBoard;
@@ -23,6 +24,21 @@ impl<S: StoreLike + Drop> Member<S> {
         board.look_for(&mut self.node);
         true
     }
+
+    /// Raises the committed front to its last applied write if it is below, and keeps the front that is there then. Once stopped,
+    /// nothing changes.
+    pub(crate) fn raise(&mut self, board: &mut LoneBoard) -> bool
+        requires { self.old.node.state.board ≡ board.old.id }
+        ensures raised { result ≡ true → HasRaised (max board.old.words.front (last_of self.old.node.state)) self.old self.new }
+        ensures words { result ≡ true → board.new ≡ record board.old { words = raised board.old.words (last_of self.old.node.state) } }
+        ensures stopped { result ≡ false → (is_stopped self.old.node.state ≡ true) × (self.new ≡ self.old) × (board.new ≡ board.old) }
+    {
+        if self.node.stopped().is_some() {
+            return false;
+        }
+        board.raise_for(&mut self.node);
+        true
+    }
 }
 
 impl<S: StoreLike + Drop> Chain<S> {
@@ -34,5 +50,19 @@ impl<S: StoreLike + Drop> Chain<S> {
         ensures one_volume { S.keeps_model → IsOfOneVolume S.about S.keeps S.may_leave_now self.old self.new [] }
     {
         self.members[at].look(&mut self.board)
+    }
+
+    /// The tail raises the committed front to its last applied write if it is below, and keeps the front that is there then. Where
+    /// another member is at the place, nothing changes; nor once the tail stopped.
+    pub fn raise(&mut self, at: usize) -> bool
+        requires { at < length self.old.members }
+        ensures raised { result ≡ true → RaisesAt at self.old self.new }
+        ensures idle { result ≡ false → IsNoTail at self.old self.new ⊎ RestsAt at self.old self.new }
+        ensures one_volume { S.keeps_model → IsOfOneVolume S.about S.keeps S.may_leave_now self.old self.new [] }
+    {
+        if self.members.len() - at != 1 {
+            return false;
+        }
+        self.members[at].raise(&mut self.board)
     }
 }

@@ -7,11 +7,15 @@
 #![tactic(auto)]
 
 mod chain;
+mod commits;
 mod fronts;
+mod links;
 mod lone_board;
 mod member;
 mod muster;
+mod musters;
 mod opening;
 mod requests;
+mod stopping;
 
 pub use chain::Chain;

@@ -2,6 +2,7 @@
 ghost use Rattle.std.specs.Prelude.{◌≡◌, ◌≤◌, [], max, IfOk};
 ghost use Rattle.board.specs.Seats.{FoundCrew};
 ghost use Rattle.chain_core.specs.Node.{Keeps};
+ghost use Rattle.chain_steps.specs.Node.{last_of};
 ghost use Rattle.chain.specs.LoneBoard.{gauge_in, gauge_of, posted, raised};
 
 use board::{Board, Crew, Front, Gauge, Gauges, Refusal, Seat};
@@ -94,6 +95,17 @@ impl LoneBoard {
         ensures unchanged { self.new ≡ self.old }
     {
         node.look(&self.board, &mut self.seat)
+    }
+
+    /// Raises the committed front to the member's last applied write if it is below, and the member keeps the front that is there
+    /// then.
+    pub(crate) fn raise_for<S: StoreLike + Drop>(&mut self, node: &mut Node<S>) -> u64
+        requires { node.old.state.board ≡ self.old.id }
+        ensures front { result ≡ max self.old.words.front (last_of node.old.state) }
+        ensures kept { Keeps Found.Raised self.old.id self.old.seat result node.old node.new }
+        ensures words { self.new ≡ record self.old { words = raised self.old.words (last_of node.old.state) } }
+    {
+        node.raise(&self.board, &mut self.seat)
     }
 
     /// The mask of counted slots, looked up after the front.

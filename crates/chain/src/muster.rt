@@ -12,6 +12,7 @@ pub(crate) struct Muster {
     crew: Crew,
     gauges: Gauges,
     next: u8,
+    ghost of_slots: { crew.mask < 256 },
     ghost within: { next ≤ 8 },
     ghost in_order: { map (λ gauge. gauge.slot) gauges ≡ slots_below crew.mask next },
     ghost counted: { next < 8 → IsTrue (counts crew.mask next) },
@@ -30,6 +31,7 @@ impl Muster {
         ensures gauges { result.gauges ≡ [] }
         ensures next { IsNextCounted crew.mask 0 result.next }
     {
+        let _mask = crew.mask();
         let next = next_counted(&crew, 0);
         Muster {
             crew,

@@ -1,6 +1,5 @@
 //! Requests.
 ghost use Rattle.std.specs.Prelude.{◌≡◌, ◌⊎◌, ◌<◌, ◌≤◌, ◌++◌, None, [], length, map, IfErr, OnErr, OnOk};
-ghost use Rattle.std.specs.VecDeque.{deque_capacity, deque_len};
 ghost use Rattle.gate_journal.specs.declared.batch.TheConstants.{MAX_NUMBER};
 ghost use Rattle.volume.specs.Writes.{Fits};
 ghost use Rattle.chain_steps.specs.Steps.{flush, stop, submit};
@@ -10,27 +9,16 @@ ghost use Rattle.chain.specs.Asking.{HasFlushed, HasSubmitted, IsTurnedAway, IsU
 ghost use Rattle.chain.specs.Chain.{Changes, IsOfOneVolume, bytes_of};
 
 use crate::chain::Chain;
+use crate::links::send;
 use crate::member::Member;
 use chain_core::{Node, Out, Refusal, Refused};
-use chain_steps::{Cause, Envelope, Sent, WriteToken};
+use chain_steps::{Cause, Envelope, WriteToken};
 use flush_barrier::OwedFlush;
 use gate_journal::MAX_NUMBER;
 use local_store::StoreLike;
 use std::alloc::Global;
 use std::collections::VecDeque;
 use volume::Write;
-
-/// The message that is sent goes behind those that are on a link.
-fn send(messages: Vec<Sent>, to: &mut VecDeque<Envelope>)
-    requires few { length messages.items ≤ 1 }
-    requires room { deque_len to.old < deque_capacity to.old }
-    ensures { to.new.items ≡ to.old.items ++ map (λ sent. sent.envelope) messages.items }
-{
-    let mut messages = messages;
-    if let Some(sent) = messages.pop() {
-        to.push_back_reserved(sent.envelope);
-    }
-}
 
 /// A node submits a write along a link. Where the link can't grow, nothing changes.
 fn submit_to<S: StoreLike + Drop>(

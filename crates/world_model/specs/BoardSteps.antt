@@ -158,7 +158,7 @@ takes_ack_of size v above m next below k rest acks events first are out s stands
 
 -- what of the board is in use changes, but not its front
 pub tells : (size : ℕ) (v : View) (w : Told) → w.front ≡ v.told.front
-    → ((disks : List Disk) → IsBacked v.told.front v.told.mask v.told.gauges v.told.receipts v.told.musters disks → IsBacked w.front w.mask w.gauges w.receipts w.musters disks)
+    → (IsBacked v.told.front v.told.mask v.told.gauges v.told.receipts v.told.musters (map disk_of v.members) → IsBacked w.front w.mask w.gauges w.receipts w.musters (map disk_of v.members))
     → (All (λ front. front ≤ v.told.front) v.told.fronts → All (λ front. front ≤ w.front) w.fronts)
     → Plays size (StandsFor size v) (StandsFor size (record v { told = w })) []
 tells size v w same backed fronts = plays_of size v (record v { told = w }) []
@@ -172,7 +172,7 @@ tells size v w same backed fronts = plays_of size v (record v { told = w }) []
         b,
         record {
           order = subst (λ (f : ℕ). IsChain size (length v.members) f line (map hop_of v.members)) (sym same) stands.order;
-          disks = backed (map disk_of v.members) stands.disks;
+          disks = backed stands.disks;
           backs = stands.backs;
           fronts = fronts stands.fronts;
           raised = subst (λ (f : ℕ). All (λ front. front ≤ f) (flat_map (λ m. raised_by m.node.found) v.members)) (sym same) stands.raised;

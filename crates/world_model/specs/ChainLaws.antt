@@ -15,7 +15,7 @@ use Rattle.chain_steps.specs.Waiting.{debt_of, waits_for}
 use Rattle.chain_steps.specs.declared.cause.Cause.{Cause}
 use Rattle.chain_steps.specs.declared.found.Found.TheVariants.{Raised, Looked}
 use Rattle.chain_steps.specs.declared.waiting.WriteToken.{WriteToken}
-use Rattle.world_model.specs.Backing.{Disk, IsBacked}
+use Rattle.world_model.specs.Backing.{IsBacked}
 use Rattle.world_model.specs.Chain.{ArePutOut, Member, StandsFor, Ticketed, Told, View, by_member, disk_of, slot_of}
 use Rattle.world_model.specs.Event.{Answered, ClientEvent, Done, Failed, Read}
 use Rattle.world_model.specs.Machine.{IsFlush, May, Plays, Restart, State, after, start, volume_at, written}
@@ -145,7 +145,7 @@ Stops = (size : ℕ) (v : View) (above : List Member) (m : Member) (below : List
 -- What of the board is in use changes, but not its front: what is told of the disks is so still.
 abbrev pub TellsDisks : Type 0
 TellsDisks = (size : ℕ) (v : View) (w : Told) → w.front ≡ v.told.front
-    → ((disks : List Disk) → IsBacked v.told.front v.told.mask v.told.gauges v.told.receipts v.told.musters disks → IsBacked w.front w.mask w.gauges w.receipts w.musters disks)
+    → (IsBacked v.told.front v.told.mask v.told.gauges v.told.receipts v.told.musters (map disk_of v.members) → IsBacked w.front w.mask w.gauges w.receipts w.musters (map disk_of v.members))
     → (All (λ front. front ≤ v.told.front) v.told.fronts → All (λ front. front ≤ w.front) w.fronts)
     → Plays size (StandsFor size v) (StandsFor size (record v { told = w })) []
 
