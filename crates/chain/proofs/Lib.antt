@@ -1,4 +1,5 @@
 mod AckSteps
+mod AnswerSteps
 mod AskingSteps
 mod BeginningSteps
 mod Cells
@@ -9,6 +10,7 @@ mod FrontSteps
 mod MusterSteps
 mod OpeningSteps
 mod PassingSteps
+mod RaisedSteps
 mod Results
 mod Stepping
 mod SubmitSteps

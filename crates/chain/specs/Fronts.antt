@@ -1,8 +1,10 @@
 -- What a member does with a front of the board.
-use Rattle.std.specs.Prelude.{◌≡◌, ◌≢◌, ℕ, ◌+◌, None, Some, length, max, slice_get, slice_set}
+use Rattle.std.specs.Prelude.{◌≡◌, ◌≢◌, ℕ, ◌+◌, ◌++◌, List, None, Some, length, map, max, slice_get, slice_set}
 use Rattle.board.specs.Seats.{BoardId, FoundFront}
-use Rattle.chain_steps.specs.Node.{last_of}
-use Rattle.chain_steps.specs.Steps.{keep}
+use Rattle.flush_barrier.specs.Reply.{GivenReply}
+use Rattle.chain_core.specs.Node.{IsStepOrStop}
+use Rattle.chain_steps.specs.Node.{Out, last_of}
+use Rattle.chain_steps.specs.Steps.{keep, raised as raised_step}
 use Rattle.chain_steps.specs.declared.found.Found.{Found}
 use Rattle.chain_steps.specs.declared.found.Found.TheVariants.{Looked, Raised}
 use Rattle.chain.specs.Chain.{Chained}
@@ -37,3 +39,12 @@ pub record RaisesAt {S : Type 0} (at : ℕ) (old new : Chained S) : Type 0 where
 pub record IsNoTail {S : Type 0} (at : ℕ) (old new : Chained S) : Type 0 where
   pub behind : at + 1 ≢ length old.members
   pub same : new ≡ old
+
+-- The member ran, and its node took the front that it raised as its known commit, if it kept one, or stopped; what it sent is on its
+-- way to the one before it, and nothing else of it changed.
+pub record HasKnown {S : Type 0} (replies : List GivenReply) (old new : Linked S) : Type 0 where
+  pub out : Out
+  pub runs : old.node.state.stopped ≡ None
+  pub did : IsStepOrStop old.node new.node out (raised_step old.node.state)
+  pub told : out.replies ≡ replies
+  pub are : new ≡ record old { node = new.node; acks = old.acks ++ map (λ sent. sent.envelope) out.messages }

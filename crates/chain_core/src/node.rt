@@ -112,6 +112,13 @@ impl<S: StoreLike + Drop> Node<S> {
         }
     }
 
+    /// Does nothing: its clause is what holds of every member.
+    pub fn sound(&self)
+        ensures { IsSound (S.about self.now.store) (record { premise = S.keeps_model; keeps = S.keeps self.now.store }) self.now.state }
+    {
+        let _ = &self.known;
+    }
+
     /// Why it stopped, if it did.
     pub fn stopped(&self) -> Option<Cause>
         ensures { result ≡ self.now.state.stopped }
