@@ -1,20 +1,18 @@
 -- A member goes on with a front that it looked up.
 --
 -- That its store's front is its durable one is a premise here.
-use Rattle.std.proofs.Common.{◌≡◌, ◌⊎◌, ℕ, ◌-◌, ◌≤◌, List, [], ◌∷◌, ◌++◌, length, take, map, max, true, false, nat_lt, refl, ap, sym, subst, ◌∙◌, inl, inr, arith}
+use Rattle.std.proofs.Common.{◌≡◌, ◌⊎◌, ℕ, ◌-◌, ◌≤◌, List, [], ◌∷◌, ◌++◌, length, take, map, nat_lt, refl, ap, sym, subst, ◌∙◌, inl, inr, arith}
 use Rattle.std.specs.Prelude.{Option, Some, None, fold, slice_get, slice_set}
 use Rattle.std.specs.List.{AllZip}
 use Rattle.std.proofs.lemmas.Bool.{cases_Bool}
 use Rattle.std.proofs.lemmas.Bool.Decides.{nat_tests}
 use Rattle.std.proofs.lemmas.List.{append-nil, map-append}
 use Rattle.volume.specs.declared.geometry.Geometry.{Geometry}
-use Rattle.board.specs.Seats.{FoundFront}
 use Rattle.disk_model.specs.Disk.{LeavesOnly}
 use Rattle.flush_barrier.specs.Reply.{GivenReply}
 use Rattle.local_store.specs.About.{About, meaning_with}
-use Rattle.local_store.specs.Meaning.{Meaning, Means}
+use Rattle.local_store.specs.Meaning.{Means}
 use Rattle.volume.specs.Writes.{patched}
-use Rattle.version_table.specs.Held.{writes_upto}
 use Rattle.version_table.specs.declared.kept.Kept.{Kept}
 use Rattle.chain_core.specs.Node.{Seen}
 use Rattle.chain_core.specs.Reads.{HasBrokenOff, HasOnlyRead, IsStepOver, IsStepTo}
@@ -24,15 +22,15 @@ use Rattle.chain_steps.specs.declared.cause.Cause.{Cause}
 use Rattle.chain_steps.specs.declared.cause.Cause.TheVariants as causes
 use Rattle.chain_steps.specs.declared.found.Found.{Found}
 use Rattle.chain_steps.specs.declared.found.Found.TheVariants.{Looked, Raised}
-use Rattle.world_model.specs.Chain.{ArePutOut, Member, StandsFor, Told, View, hop_of}
+use Rattle.world_model.specs.Chain.{ArePutOut, Member, StandsFor, View, hop_of}
 use Rattle.world_model.specs.ChainLaws.{with_members}
 use Rattle.world_model.specs.Event.{ClientEvent}
-use Rattle.world_model.specs.Life.{AnswerFront, Does, Doing, Happens, MemberDoes, Stop}
+use Rattle.world_model.specs.Life.{AnswerFront, Does, Doing, MemberDoes, Stop}
 use Rattle.world_model.specs.Machine.{State}
 use Rattle.world_model.specs.Order.{Hop, IsChain}
 use Rattle.world_model.specs.OrderSteps.{reaches_at}
 use Rattle.chain.specs.Chain.{Chained, Goes, IsFormed, Shows, bytes_of, told_of}
-use Rattle.chain.specs.Member.{HasCalled, IsLeft, IsLinked, IsShown, Linked, fronts_of, member_of, musters_of, receipts_of}
+use Rattle.chain.specs.Member.{HasCalled, IsLeft, IsLinked, IsShown, Linked, fronts_of, musters_of, receipts_of}
 use Rattle.chain.proofs.Cells.{Place, Twin, place_of, twin_of}
 use Rattle.chain.proofs.FloorSteps.{gathered}
 use Rattle.chain.proofs.Stepping.{formed_then}
@@ -126,10 +124,13 @@ bare_is out none = ap (λ ms. let o : Out = record { messages = ms; replies = ou
 
 pub without_messages : {S : Type 0} (premise : Type 0) (about : S → About) (failures : S → ℕ) (keeps : S → List ℕ → Type 0) (moment : S → ℕ) (left_since : S → ℕ → List ℕ → Type 0) (may_leave_now : S → List ℕ → Type 0) (old new : Seen S) (out : Out)
     → HasAnswered premise about failures keeps moment left_since may_leave_now old new out → HasAnswered premise about failures keeps moment left_since may_leave_now old new (bare out)
-without_messages premise about failures keeps moment left_since may_leave_now old new out (inl (read, inl is)) = inl (read, inl (record {
-  node = is.node;
-  sent = λ so volume kept. ap bare (is.sent so volume kept) ∙ bare_is (answer_front volume old.state).out (none_sent volume old.state.found old.state);
-}))
+without_messages premise about failures keeps moment left_since may_leave_now old new out (inl (read, inl is)) = inl (
+  read,
+  inl (record {
+    node = is.node;
+    sent = λ so volume kept. ap bare (is.sent so volume kept) ∙ bare_is (answer_front volume old.state).out (none_sent volume old.state.found old.state);
+  }),
+)
 without_messages premise about failures keeps moment left_since may_leave_now old new out (inl (read, inr is)) = inl (read, inr (record { node = is.node; sent = ap bare is.sent }))
 without_messages premise about failures keeps moment left_since may_leave_now old new out (inr is) = inr (record { error = is.error; failed = is.failed; node = is.node; sent = ap bare is.sent })
 
@@ -179,9 +180,10 @@ module _ {S : Type 0} (premise : Type 0) (about : S → About) (failures : S →
       let ran = run volume kept in
       let means = ran.each c (counts_now so after.node.store (moment before.node.store) c ran.later may) in
       let same = tells_same premise about failures keeps moment left_since may_leave_now before.node after.node did.out did.did in
-      let durable : durable_of after.node.state ≡ durable_of before.node.state = ap (λ t. t.forgotten) left.table in
-      (
-        durable_of after.node.state, omega arith, omega (arith, left.known, durable),
+      let durable : durable_of after.node.state ≡ durable_of before.node.state = ap (λ t. t.forgotten) left.table in (
+        durable_of after.node.state,
+        omega arith,
+        omega (arith, left.known, durable),
         moved c (about before.node.store).slot (about after.node.store).slot (about before.node.store).incarnation (about after.node.store).incarnation (about before.node.store).geometry (about after.node.store).geometry
             (about before.node.store).front (durable_of after.node.state) volume (volume_at volume after.node.state (durable_of after.node.state))
             same.0 same.1 same.2 (durable ∙ sym fits) (at_durable volume after.node.state) means,
@@ -231,12 +233,16 @@ module _ {S : Type 0} (premise : Type 0) (about : S → About) (failures : S →
 
     -- the member does so
     does_so : (doing : Doing) → (after.node.state.stopped ≡ None → keeps after.node.store twin.own.volume) → Does v doing twin.own new events → GoesOn
-    does_so doing keeping does = (w, shows_then keeping, record {
-      happenings = MemberDoes doing ∷ [];
-      each = events ∷ [];
-      era = (w, events, [], refl, record { above = twin.over; old = twin.own; new = new; below = twin.under; were = twin.are; are = refl; change = does }, (refl, refl));
-      all = append-nil events;
-    })
+    does_so doing keeping does = (
+      w,
+      shows_then keeping,
+      record {
+        happenings = MemberDoes doing ∷ [];
+        each = events ∷ [];
+        era = (w, events, [], refl, record { above = twin.over; old = twin.own; new = new; below = twin.under; were = twin.are; are = refl; change = does }, (refl, refl));
+        all = append-nil events;
+      },
+    )
 
     -- the member stops
     stops : (cause : Cause) → after.node.state ≡ (stop cause before.node.state).node → did.out ≡ (stop cause before.node.state).out → GoesOn
@@ -247,13 +253,16 @@ module _ {S : Type 0} (premise : Type 0) (about : S → About) (failures : S →
     stays : (after.node.state.stopped ≡ None → keeps after.node.store twin.own.volume) → after.node.state ≡ before.node.state → did.out.replies ≡ [] → GoesOn
     stays keeping node none =
         let same : new ≡ twin.own = ap (λ (n : NodeState). record twin.own { node = n }) (node ∙ sym node_is) in
-        let all : ArePutOut [] events = subst (λ (rs : List GivenReply). ArePutOut rs events) (sym did.told ∙ none) put_out in
-        (w, shows_then keeping, record {
-          happenings = [];
-          each = [];
-          era = (ap (λ (m : Member). with_members v (twin.over ++ m ∷ twin.under)) same ∙ ap (with_members v) (sym twin.are), refl);
-          all = sym all;
-        })
+        let all : ArePutOut [] events = subst (λ (rs : List GivenReply). ArePutOut rs events) (sym did.told ∙ none) put_out in (
+          w,
+          shows_then keeping,
+          record {
+            happenings = [];
+            each = [];
+            era = (ap (λ (m : Member). with_members v (twin.over ++ m ∷ twin.under)) same ∙ ap (with_members v) (sym twin.are), refl);
+            all = sym all;
+          },
+        )
 
     -- by what it kept
     answers : (found : Option Found) → before.node.state.found ≡ found → (after.node.state.stopped ≡ None → keeps after.node.store twin.own.volume)

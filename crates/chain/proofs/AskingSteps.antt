@@ -1,7 +1,6 @@
 -- A member takes a request, or turns it away.
-use Rattle.std.proofs.Common.{◌≡◌, ℕ, zero, suc, ◌<◌, ◌≤◌, List, [], ◌∷◌, ◌++◌, length, refl, ap, sym, subst, ◌∙◌, inl, inr, rules, Result, Ok, Err}
+use Rattle.std.proofs.Common.{◌≡◌, ℕ, ◌<◌, List, [], ◌∷◌, ◌++◌, length, refl, ap, sym, subst, ◌∙◌, inl, inr, rules, Result, Ok, Err}
 use Rattle.std.specs.Prelude.{◌⊎◌, All, IfErr, IfSome, None, OnErr, OnOk, Option, Some, map, slice_get, slice_set}
-use Rattle.std.specs.List.{flat_map}
 use Rattle.std.specs.Option.{option_map}
 use Rattle.std.proofs.lemmas.List.{append-nil}
 use Rattle.std.proofs.lemmas.List.Concat.{flat_map-append}
@@ -84,13 +83,12 @@ module _ {S : Type 0} (Stops : Type 0) (stepped : Stepped) (before after : Linke
     away_goes keeps may_leave_now (inr stopped) v events shows put_out =
         one_does about keeps may_leave_now old at before after here (Stop stopped.0) v events
         (record { front = ap (λ l. fronts_of l.front) stopped.1; muster = ap (λ l. musters_of l.muster) stopped.1; receipt = ap (λ l. receipts_of l.receipt) stopped.1 }) shows (λ m so.
-        let node : m.node ≡ before.node.state = ap (λ (x : Member). x.node) so.is in
-        (
+        let node : m.node ≡ before.node.state = ap (λ (x : Member). x.node) so.is in (
           record m { node = (stop stopped.0 m.node).node },
           shown_still about keeps may_leave_now old before after m _ so
-          (ap (λ (x : Member). record x { node = (stop stopped.0 x.node).node }) so.is ∙ sym (ap (λ (l : Linked S). member_of l m.volume m.demands) stopped.1)) refl
-          (ap (λ l. l.node.store) stopped.1) (ap (λ l. l.node.state.table) stopped.1) (ap (λ l. l.node.state.known) stopped.1)
-          (λ runs. let none : Some stopped.0 ≡ None = sym (ap (λ l. l.node.state.stopped) stopped.1) ∙ runs in absurd (cc)),
+              (ap (λ (x : Member). record x { node = (stop stopped.0 x.node).node }) so.is ∙ sym (ap (λ (l : Linked S). member_of l m.volume m.demands) stopped.1)) refl
+              (ap (λ l. l.node.store) stopped.1) (ap (λ l. l.node.state.table) stopped.1) (ap (λ l. l.node.state.known) stopped.1)
+              (λ runs. let none : Some stopped.0 ≡ None = sym (ap (λ l. l.node.state.stopped) stopped.1) ∙ runs in absurd (cc)),
           (subst (λ n. ArePutOut (stop stopped.0 n).out.replies events) (sym node) (subst (λ rs. ArePutOut rs events) stopped.2 put_out), refl),
         ))
 
@@ -106,8 +104,7 @@ module _ {S : Type 0} (about : S → About) (keeps : S → List ℕ → Type 0) 
       let did = step own.0 own.2 in
       let place = place_of v.members at own.0 own.1 in
       let g = did.0 in
-      let w : View = with_members v (slice_set v.members at g) in
-      (
+      let w : View = with_members v (slice_set v.members at g) in (
         w,
         record {
           told = shows.told ∙ sym (told_stays old at before after here same);
@@ -118,7 +115,10 @@ module _ {S : Type 0} (about : S → About) (keeps : S → List ℕ → Type 0) 
           happenings = MemberTakes taking ∷ [];
           each = events ∷ [];
           era = (
-            w, events, [], refl,
+            w,
+            events,
+            [],
+            refl,
             record {
               above = place.above;
               old = own.0;
@@ -181,18 +181,17 @@ module _ {S : Type 0} (about : S → About) (old : Chained S) (at : ℕ) (before
         let is_in = all_at (IsIn about old.id old.seat old.chain old.geometry) old.members at before here formed.members in
         let head = headed old.members at before here in
         let chain : head_of before.node.state.place.chain ≡ Some head.0 =
-            ap head_of is_in.told ∙ sym (ap (λ ms. option_map (λ (r : recorded.Member). r.slot) (slice_get ms 0)) formed.recorded) ∙ head.1 in
+        ap head_of is_in.told ∙ sym (ap (λ ms. option_map (λ (r : recorded.Member). r.slot) (slice_get ms 0)) formed.recorded) ∙ head.1 in
         let link = sent_one before.submits head.0 (head_of before.node.state.place.chain) before.node.state.ticket write before.node.state chain in
         takes_at about keeps may_leave_now old at before after here (life.Submit token write) (asked_by token write) rest v events
-        (record { front = ap (λ l. fronts_of l.front) did.are; muster = ap (λ l. musters_of l.muster) did.are; receipt = ap (λ l. receipts_of l.receipt) did.are }) shows first (λ m so.
-        (
+        (record { front = ap (λ l. fronts_of l.front) did.are; muster = ap (λ l. musters_of l.muster) did.are; receipt = ap (λ l. receipts_of l.receipt) did.are }) shows first (λ m so. (
           record m { node = (submit token write m.node).node; submits = m.submits ++ record { ticket = m.node.ticket; write = write } ∷ []; demands = rest },
           shown_still about keeps may_leave_now old before after m _ so
-          (ap (λ (x : Member). record x { node = (submit token write x.node).node; submits = x.submits ++ record { ticket = x.node.ticket; write = write } ∷ []; demands = rest }) so.is
-          ∙ ap (λ (l : List Ticketed). let x : Member = record { node = (submit token write before.node.state).node; volume = m.volume; puts = puts_in before.puts; acks = acks_in before.acks; submits = l; demands = rest } in x) (sym link)
-          ∙ sym (ap (λ (l : Linked S). member_of l m.volume rest) did.are)) refl
-          (ap (λ l. l.node.store) did.are) (ap (λ l. l.node.state.table) did.are) (ap (λ l. l.node.state.known) did.are)
-          (λ runs. sym (ap (λ l. l.node.state.stopped) did.are) ∙ runs),
+              (ap (λ (x : Member). record x { node = (submit token write x.node).node; submits = x.submits ++ record { ticket = x.node.ticket; write = write } ∷ []; demands = rest }) so.is
+              ∙ ap (λ (l : List Ticketed). let x : Member = record { node = (submit token write before.node.state).node; volume = m.volume; puts = puts_in before.puts; acks = acks_in before.acks; submits = l; demands = rest } in x) (sym link)
+              ∙ sym (ap (λ (l : Linked S). member_of l m.volume rest) did.are)) refl
+              (ap (λ l. l.node.store) did.are) (ap (λ l. l.node.state.table) did.are) (ap (λ l. l.node.state.known) did.are)
+              (λ runs. sym (ap (λ l. l.node.state.stopped) did.are) ∙ runs),
           (written_of token write, kind_of token write m.node.ticket (epoch_of m.node), new_of token m.node.ticket (epoch_of m.node) unnumbered, session_of token write m.node.ticket (epoch_of m.node), cookie_of token write m.node.ticket (epoch_of m.node), refl, put_out),
           refl,
         ))
@@ -207,13 +206,12 @@ module _ {S : Type 0} (about : S → About) (old : Chained S) (at : ℕ) (before
         → (w : View) × Shows about keeps may_leave_now (then old at before after here) w × IfSome (slice_get w.members at) (λ m. m.demands ≡ rest) × Goes (bytes_of old) v w events
     flushed_goes keeps may_leave_now v events rest unnumbered shows first put_out =
         takes_at about keeps may_leave_now old at before after here (Wait token) (flush_by token) rest v events
-        (record { front = ap (λ l. fronts_of l.front) did.are; muster = ap (λ l. musters_of l.muster) did.are; receipt = ap (λ l. receipts_of l.receipt) did.are }) shows first (λ m so.
-        (
+        (record { front = ap (λ l. fronts_of l.front) did.are; muster = ap (λ l. musters_of l.muster) did.are; receipt = ap (λ l. receipts_of l.receipt) did.are }) shows first (λ m so. (
           record m { node = (flush token m.node).node; demands = rest },
           shown_still about keeps may_leave_now old before after m _ so
-          (ap (λ (x : Member). record x { node = (flush token x.node).node; demands = rest }) so.is ∙ sym (ap (λ (l : Linked S). member_of l m.volume rest) did.are)) refl
-          (ap (λ l. l.node.store) did.are) (ap (λ l. l.node.state.table) did.are) (ap (λ l. l.node.state.known) did.are)
-          (λ runs. sym (ap (λ l. l.node.state.stopped) did.are) ∙ runs),
+              (ap (λ (x : Member). record x { node = (flush token x.node).node; demands = rest }) so.is ∙ sym (ap (λ (l : Linked S). member_of l m.volume rest) did.are)) refl
+              (ap (λ l. l.node.store) did.are) (ap (λ l. l.node.state.table) did.are) (ap (λ l. l.node.state.known) did.are)
+              (λ runs. sym (ap (λ l. l.node.state.stopped) did.are) ∙ runs),
           (search rules, refl, refl, unnumbered, refl, put_out),
           refl,
         ))

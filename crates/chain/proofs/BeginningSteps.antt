@@ -1,6 +1,6 @@
 -- What a chain shows that begins.
-use Rattle.std.proofs.Common.{◌≡◌, ◌≢◌, ℕ, zero, suc, ◌+◌, ◌*◌, ◌<◌, ◌≤◌, max, true, false, List, [], ◌∷◌, ◌++◌, length, map, refl, ap, subst, sym, ◌∙◌, arith, rules}
-use Rattle.std.specs.Prelude.{All, AllPairs, IfSome, None, Some, fold, replicate, slice_get, slice_set, ◌-◌, ◌^◌}
+use Rattle.std.proofs.Common.{◌≡◌, ◌≢◌, ℕ, zero, suc, ◌+◌, ◌<◌, ◌≤◌, true, List, [], ◌∷◌, ◌++◌, length, map, refl, ap, subst, sym, ◌∙◌, arith, rules}
+use Rattle.std.specs.Prelude.{All, AllPairs, IfSome, fold, replicate, slice_get, slice_set, ◌-◌, ◌^◌}
 use Rattle.std.specs.List.{AllZip, flat_map}
 use Rattle.std.specs.Int.{bit_at}
 use Rattle.std.proofs.Math.Seq.{take-nil}
@@ -14,7 +14,6 @@ use Rattle.configurations.specs.declared.member.Member as recorded
 use Rattle.gate_journal.specs.Receipt.{Receipt}
 use Rattle.local_store.specs.About.{About, meaning_with}
 use Rattle.local_store.specs.Meaning.{Means}
-use Rattle.version_table.specs.Held.{writes_upto}
 use Rattle.volume.specs.Writes.{patched}
 use Rattle.volume.specs.declared.geometry.Geometry.{Geometry}
 use Rattle.world_model.specs.Chain.{Member, View, disk_of, slot_of}
@@ -44,10 +43,10 @@ mask_keeps slot [] mask is = is
 mask_keeps slot (m ∷ members) mask is =
     let bit : bit_at mask slot ≡ 1 = search (rules, is) in
     mask_keeps slot members (with_slot mask m.slot) (
-      let or = bit_at_or mask (2 ^ m.slot) slot in
-      let low = bit_at-lt (2 ^ m.slot) slot in
-      let one : bit_at (with_slot mask m.slot) slot ≡ 1 = or ∙ omega (arith, bit, low) in
-      rw one refl)
+    let or = bit_at_or mask (2 ^ m.slot) slot in
+    let low = bit_at-lt (2 ^ m.slot) slot in
+    let one : bit_at (with_slot mask m.slot) slot ≡ 1 = or ∙ omega (arith, bit, low) in
+    rw one refl)
 
 mask_counts : (members : List recorded.Member) (mask : ℕ) → All (λ m. counts (fold (λ mask (m : recorded.Member). with_slot mask m.slot) mask members) m.slot ≡ true) members
 unfolding counts with_slot
@@ -126,8 +125,7 @@ module _ {S : Type 0} (about : S → About) (id : BoardId) (told : Record) where
     pub begun_shown : (stores : List S) → All Fits stores → AllZip (IsShown about keeps may_leave_now size) (map begun stores) (map (shown volume) stores)
     begun_shown [] fits = search rules
     begun_shown (s ∷ stores) fits =
-        let fit = All-head Fits s stores fits in
-        (
+        let fit = All-head Fits s stores fits in (
           record {
             is = refl;
             whole = fit.whole;

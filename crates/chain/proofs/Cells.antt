@@ -1,6 +1,6 @@
 -- A place of a list, and what stands at it in another list that goes with it.
 use Rattle.std.proofs.Common.{◌≡◌, ℕ, zero, suc, List, [], ◌∷◌, ◌++◌, refl, ap}
-use Rattle.std.specs.Prelude.{Option, Some, None, slice_get, slice_set}
+use Rattle.std.specs.Prelude.{Some, None, slice_get, slice_set}
 use Rattle.std.specs.List.{AllZip}
 
 pub record Place {A : Type 0} (xs : List A) (at : ℕ) (x : A) : Type 0 where

@@ -1,5 +1,5 @@
 -- What members have in use of the board: it tells more of it, or less, and what it tells of their disks is so still.
-use Rattle.std.proofs.Common.{◌≡◌, ℕ, zero, suc, ◌+◌, ◌<◌, ◌≤◌, get_or, min, true, List, [], ◌∷◌, ◌++◌, length, map, refl, ap, sym, subst, ◌∙◌, arith, inl, inr}
+use Rattle.std.proofs.Common.{◌≡◌, ℕ, zero, suc, ◌+◌, ◌<◌, ◌≤◌, min, true, List, [], ◌∷◌, ◌++◌, map, refl, ap, sym, subst, ◌∙◌, arith, inl, inr}
 use Rattle.std.specs.Prelude.{◌==◌, All, Any, IfNone, IfSome, Option, None, Some, slice_get, slice_index, slice_set}
 use Rattle.std.specs.List.{AllZip, Contains, flat_map}
 use Rattle.std.specs.Option.{ForSome}
@@ -20,21 +20,21 @@ use Rattle.chain_steps.specs.declared.cause.Cause.TheVariants as causes
 use Rattle.world_model.specs.Backing.{Disk, IsBacked, IsMustered, IsOnDisk, IsWhole}
 use Rattle.world_model.specs.Backing as model
 use Rattle.world_model.specs.BackingSteps.{backs_crew, floor_is_backed, musters_gauge}
-use Rattle.world_model.specs.Chain.{ArePutOut, Member, StandsFor, StandsWith, Told, View, disk_of}
+use Rattle.world_model.specs.Chain.{ArePutOut, Member, StandsFor, Told, View, disk_of}
 use Rattle.world_model.specs.ChainLaws.{with_members}
 use Rattle.world_model.specs.ChainSteps.{flat_same, flat_split}
 use Rattle.world_model.specs.Counting.{all_before, all_behind}
 use Rattle.world_model.specs.Event.{ClientEvent}
 use Rattle.world_model.specs.Machine.{State}
-use Rattle.world_model.specs.Life.{AnswerFloor, BoardTells, Does, Doing, Era, Happening, Happens, IsTold, MemberDoes, OneBecomes, Stop, all_events}
+use Rattle.world_model.specs.Life.{AnswerFloor, BoardTells, Does, Doing, IsTold, MemberDoes, Stop}
 use Rattle.chain.specs.Chain.{Chained, Goes, IsFormed, IsIn, Shows, bytes_of, gauges_from, told_of}
-use Rattle.chain.specs.LoneBoard.{FoundGauge, Words, gauge_in, gauges_of, least_of}
-use Rattle.chain.specs.Member.{IsFrontOf, IsMusterOf, IsShown, Linked, fronts_of, gauge_seen, member_of, muster_seen, musters_of, receipts_of}
+use Rattle.chain.specs.LoneBoard.{FoundGauge, gauge_in, gauges_of, least_of}
+use Rattle.chain.specs.Member.{IsFrontOf, IsMusterOf, IsShown, Linked, fronts_of, gauge_seen, muster_seen, musters_of, receipts_of}
 use Rattle.chain.specs.Musters.{HasFound, HasGauged, HasMustered, HasSettled}
 use Rattle.chain.specs.Muster.{next_of}
 use Rattle.chain.specs.declared.muster.Muster.{Muster}
-use Rattle.chain.proofs.Cells.{Place, Twin, place_of, twin_of}
-use Rattle.chain.proofs.Stepping.{all_at, formed_then, one_does, shown_still}
+use Rattle.chain.proofs.Cells.{place_of, twin_of}
+use Rattle.chain.proofs.Stepping.{all_at, formed_then, shown_still}
 
 -- ---- what members have, gathered
 

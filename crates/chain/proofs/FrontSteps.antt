@@ -1,7 +1,7 @@
 -- A member looks a front up, or raises it.
 use Rattle.std.proofs.Common.{◌≡◌, ℕ, zero, suc, ◌+◌, ◌-◌, ◌≤◌, max, List, [], ◌∷◌, ◌++◌, length, map, refl, ap, sym, subst, ◌∙◌, arith, length-append}
 use Rattle.std.specs.Prelude.{Some, None, slice_get, slice_set}
-use Rattle.std.specs.List.{AllZip, flat_map}
+use Rattle.std.specs.List.{AllZip}
 use Rattle.std.proofs.lemmas.List.{append-nil, length-map, map-append}
 use Rattle.local_store.specs.About.{About}
 use Rattle.chain_steps.specs.Node.{last_of}
@@ -9,7 +9,7 @@ use Rattle.chain_steps.specs.declared.found.Found.TheVariants.{Looked, Raised}
 use Rattle.world_model.specs.Chain.{ArePutOut, Member, StandsFor, Told, View, hop_of}
 use Rattle.world_model.specs.ChainLaws.{with_members}
 use Rattle.world_model.specs.Event.{ClientEvent}
-use Rattle.world_model.specs.Life.{Era, FrontRaised, Happening, IsRaised, KeepRaised, LookUp, MemberDoes, OneBecomes, all_events}
+use Rattle.world_model.specs.Life.{FrontRaised, KeepRaised, LookUp, MemberDoes}
 use Rattle.world_model.specs.Machine.{State}
 use Rattle.world_model.specs.Order.{Hop, IsChain}
 use Rattle.world_model.specs.OrderSteps.{chain_raise}
@@ -17,7 +17,7 @@ use Rattle.chain.specs.Chain.{Chained, Goes, IsFormed, Shows, bytes_of, told_of}
 use Rattle.chain.specs.Fronts.{HasLooked, HasRaised}
 use Rattle.chain.specs.LoneBoard.{raised}
 use Rattle.chain.specs.Member.{IsShown, Linked, fronts_of, musters_of, receipts_of}
-use Rattle.chain.proofs.Cells.{place_of, twin_of}
+use Rattle.chain.proofs.Cells.{twin_of}
 use Rattle.chain.proofs.FloorSteps.{gathered}
 use Rattle.chain.proofs.Stepping.{formed_then, one_does, shown_still}
 

@@ -3,7 +3,6 @@
 -- That the front isn't below what it knew is a premise here.
 use Rattle.std.proofs.Common.{◌≡◌, ◌⊎◌, ℕ, ◌≤◌, length, List, [], ◌∷◌, ◌++◌, map, nat_lt, refl, ap, sym, subst, ◌∙◌, inl, inr, arith, length-append, append_assoc}
 use Rattle.std.specs.Prelude.{All, Option, Some, None, slice_get, slice_set}
-use Rattle.std.specs.List.{flat_map}
 use Rattle.std.proofs.lemmas.Bool.{cases_Bool}
 use Rattle.std.proofs.lemmas.List.{append-nil}
 use Rattle.std.proofs.lemmas.List.Elements.{All-append, All-cons, All-nil}
@@ -21,14 +20,13 @@ use Rattle.chain_steps.specs.declared.found.Found.TheVariants.{Looked, Raised}
 use Rattle.chain_steps.specs.declared.message.Envelope.{Envelope}
 use Rattle.chain_steps.specs.declared.message.Message.TheVariants.{Ack}
 use Rattle.chain_steps.specs.declared.message.Sent.{Sent}
-use Rattle.world_model.specs.Chain.{ArePutOut, Member, Told, View}
-use Rattle.world_model.specs.ChainLaws.{with_members}
+use Rattle.world_model.specs.Chain.{ArePutOut, Member, View}
 use Rattle.world_model.specs.Event.{ClientEvent}
-use Rattle.world_model.specs.Life.{Does, KnowRaised, MemberDoes, Stop}
+use Rattle.world_model.specs.Life.{KnowRaised, Stop}
 use Rattle.chain.specs.Chain.{Chained, Goes, IsFormed, Shows, bytes_of}
 use Rattle.chain.specs.Fronts.{HasKnown}
 use Rattle.chain.specs.Links.{IsAckOf, ack_in, acks_in}
-use Rattle.chain.specs.Member.{IsLeft, IsLinked, IsShown, Linked, fronts_of, member_of, musters_of, receipts_of}
+use Rattle.chain.specs.Member.{IsLinked, IsShown, Linked, fronts_of, member_of, musters_of, receipts_of}
 use Rattle.chain.proofs.Stepping.{UsesAsBefore, formed_then, one_does, rests, same_then}
 
 -- what such a step leaves of the member's state, and that it sends Acks of its epoch
@@ -145,8 +143,7 @@ module _ {S : Type 0} (about : S → About) (old : Chained S) (at : ℕ) (before
     stops : (cause : Cause) → after.node.state ≡ (stop cause before.node.state).node → did.out ≡ (stop cause before.node.state).out → GoesOn
     stops cause node sent = one_does about keeps may_leave_now old at before after here (Stop cause) v events uses shows (λ m so.
         let node_is : m.node ≡ before.node.state = ap (λ (x : Member). x.node) so.is in
-        let acks : acks_in after.acks ≡ m.acks = ap acks_in (acks_are ∙ ap (λ (o : Out). before.acks ++ map (λ (sent : Sent). sent.envelope) o.messages) sent ∙ append-nil before.acks) ∙ sym (ap (λ (x : Member). x.acks) so.is) in
-        (
+        let acks : acks_in after.acks ≡ m.acks = ap acks_in (acks_are ∙ ap (λ (o : Out). before.acks ++ map (λ (sent : Sent). sent.envelope) o.messages) sent ∙ append-nil before.acks) ∙ sym (ap (λ (x : Member). x.acks) so.is) in (
           record m { node = after.node.state },
           shown_more keeps may_leave_now m (record m { node = after.node.state }) so (shown_as m m.acks so acks) refl (omega (arith, ap (λ (n : NodeState). n.known) node)),
           (rw node_is (rw (← ap (λ (o : Out). o.replies) sent, did.told) put_out), ap (λ (n : NodeState). record m { node = n }) (node ∙ ap (λ (n : NodeState). (stop cause n).node) (sym node_is))),
@@ -165,8 +162,7 @@ module _ {S : Type 0} (about : S → About) (old : Chained S) (at : ℕ) (before
         let node_is : m.node ≡ before.node.state = ap (λ (x : Member). x.node) so.is in
         let m_acks : m.acks ≡ acks_in before.acks = ap (λ (x : Member). x.acks) so.is in
         let le : before.node.state.known ≤ front.number = above front was in
-        let told : (acks_in after.acks ≡ m.acks) ⊎ (acks_in after.acks ≡ m.acks ++ front.number ∷ []) = told_by to front m.acks m_acks place sent in
-        (
+        let told : (acks_in after.acks ≡ m.acks) ⊎ (acks_in after.acks ≡ m.acks ++ front.number ∷ []) = told_by to front m.acks m_acks place sent in (
           record m { node = after.node.state; acks = acks_in after.acks },
           shown_more keeps may_leave_now m (record m { node = after.node.state; acks = acks_in after.acks }) so (shown_as m (acks_in after.acks) so refl) refl (omega (arith, le, ap (λ (n : NodeState). n.known) node)),
           (

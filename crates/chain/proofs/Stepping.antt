@@ -5,10 +5,8 @@ use Rattle.std.specs.List.{AllZip, flat_map}
 use Rattle.std.proofs.lemmas.List.{append-nil, set-get_or}
 use Rattle.std.proofs.lemmas.List.Elements.{All-head, All-set}
 use Rattle.std.proofs.lemmas.Option.{get_or_from_slice_get, slice_get_read}
-use Rattle.gate_journal.specs.Receipt.{Receipt}
 use Rattle.local_store.specs.About.{About}
-use Rattle.world_model.specs.Backing as model
-use Rattle.world_model.specs.Chain.{ArePutOut, Member, Told, View}
+use Rattle.world_model.specs.Chain.{ArePutOut, Member, View}
 use Rattle.world_model.specs.ChainLaws.{with_members}
 use Rattle.world_model.specs.ChainSteps.{flat_same, maps_same}
 use Rattle.world_model.specs.Counting.{all_behind}
@@ -16,7 +14,7 @@ use Rattle.world_model.specs.Event.{ClientEvent}
 use Rattle.world_model.specs.Life.{Does, Doing, Happening, Happens, MemberDoes}
 use Rattle.chain.specs.Chain.{Chained, Goes, IsFormed, IsIn, Shows, bytes_of, recorded_as, told_of}
 use Rattle.chain.specs.Member.{IsShown, Linked, fronts_of, member_of, musters_of, receipts_of}
-use Rattle.chain.proofs.Cells.{Place, Twin, place_of, twin_of}
+use Rattle.chain.proofs.Cells.{Place, place_of, twin_of}
 
 -- what all have, the one at a place has
 pub all_at : {A : Type 0} (P : A → Type 0) (xs : List A) (at : ℕ) (x : A) → slice_get xs at ≡ Some x → All P xs → P x
@@ -101,8 +99,7 @@ module _ {S : Type 0} (about : S → About) (keeps : S → List ℕ → Type 0) 
     one_happens h v events same shows step =
         let place = place_of old.members at before here in
         let twin = twin_of IsSo place.above before place.below v.members (subst (λ l. AllZip IsSo l v.members) place.split shows.members) in
-        let did = step twin.over twin.own twin.under twin.are twin.fits in
-        (
+        let did = step twin.over twin.own twin.under twin.are twin.fits in (
           with_members v (twin.over ++ did.0 ∷ twin.under),
           record {
             told = shows.told ∙ sym (told_stays old at before after here same);

@@ -1,5 +1,5 @@
 -- What contracts see of a chain, what holds of every one, and when a call of it is of the one volume.
-use Rattle.std.specs.Prelude.{◌≡◌, ℕ, ◌+◌, ◌*◌, false, true, Some, List, [], ◌∷◌, All, IfSome, length, map, slice_get, slice_set}
+use Rattle.std.specs.Prelude.{◌≡◌, ℕ, ◌+◌, ◌*◌, false, true, Some, List, [], ◌∷◌, All, IfSome, map, slice_get, slice_set}
 use Rattle.std.specs.List.{AllZip, flat_map}
 use Rattle.std.specs.Option.{ForSome}
 use Rattle.board.specs.Seats.{BoardId}

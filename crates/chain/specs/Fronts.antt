@@ -1,11 +1,10 @@
 -- What a member does with a front of the board.
 use Rattle.std.specs.Prelude.{◌≡◌, ◌≢◌, ℕ, ◌+◌, ◌++◌, List, None, Some, length, map, max, slice_get, slice_set}
-use Rattle.board.specs.Seats.{BoardId, FoundFront}
+use Rattle.board.specs.Seats.{FoundFront}
 use Rattle.flush_barrier.specs.Reply.{GivenReply}
 use Rattle.chain_core.specs.Node.{IsStepOrStop}
 use Rattle.chain_steps.specs.Node.{Out, last_of}
 use Rattle.chain_steps.specs.Steps.{keep, raised as raised_step}
-use Rattle.chain_steps.specs.declared.found.Found.{Found}
 use Rattle.chain_steps.specs.declared.found.Found.TheVariants.{Looked, Raised}
 use Rattle.chain.specs.Chain.{Chained}
 use Rattle.chain.specs.LoneBoard.{raised}

@@ -1,6 +1,5 @@
 -- What contracts see of a member with its links, and as which member of a view it is shown.
 use Rattle.std.specs.Prelude.{◌≡◌, ℕ, ◌≤◌, Option, Some, None, List, [], ◌∷◌, All, length, map}
-use Rattle.std.specs.Option.{ForSome}
 use Rattle.board.specs.Seats.{BoardId, FoundFront, FoundGauge}
 use Rattle.flush_barrier.specs.Reply.{GivenReply}
 use Rattle.gate_journal.specs.Receipt.{Receipt}

@@ -1,10 +1,10 @@
 -- What a member does for a floor: it finds a front, then a crew behind it, then the gauge of each of the crew's slots.
-use Rattle.std.specs.Prelude.{◌≡◌, ℕ, ◌<◌, ◌+◌, ◌++◌, ◌∷◌, [], List, IfSome, Option, None, Some, slice_get}
+use Rattle.std.specs.Prelude.{◌≡◌, ℕ, ◌<◌, ◌+◌, ◌++◌, ◌∷◌, [], List, IfSome, None, Some, slice_get}
 use Rattle.board.specs.Seats.{BoardId, FoundFront}
 use Rattle.flush_barrier.specs.Reply.{GivenReply}
 use Rattle.chain_steps.specs.Node.{Out}
 use Rattle.chain_steps.specs.Steps.{answer_floor}
-use Rattle.chain_core.specs.Node.{IsStepOrStop, Seen}
+use Rattle.chain_core.specs.Node.{IsStepOrStop}
 use Rattle.chain.specs.Chain.{Chained}
 use Rattle.chain.specs.LoneBoard.{Words, gauge_in, gauges_of, least_of}
 use Rattle.chain.specs.Member.{IsFrontOf, Linked}

@@ -1,10 +1,10 @@
 //! A member with its links.
 ghost use Rattle.std.specs.Prelude.{◌≡◌};
 
+use crate::muster::Muster;
 use board::Front;
 use chain_core::Node;
 use chain_steps::Envelope;
-use crate::muster::Muster;
 use gate_journal::Synced;
 use local_store::StoreLike;
 use std::collections::VecDeque;

@@ -1,4 +1,4 @@
-use Rattle.std.proofs.Common.{◌≡◌, ◌+◌, ℕ, List, ◌++◌, ◌∷◌, [], length, map, replicate, ap, subst, sym, ◌∙◌, arith, rules}
+use Rattle.std.proofs.Common.{◌≡◌, ◌+◌, ℕ, List, ◌++◌, [], length, map, replicate, ap, sym, ◌∙◌, arith, rules}
 use Rattle.std.specs.Prelude.{false}
 use Rattle.std.proofs.lemmas.List.{nil_from_length}
 use Rattle.chain_core.specs.Node.{size_of}
@@ -28,7 +28,7 @@ loop-store-preserved g c =
     let split = c.in-Some.ensures.steps.0 in
     let more : length c.loop-store.store-iterator.rest.items ≡ length c.next.new.self.rest.items + 1 = omega (arith, ap length split) in
     let taken = copy_taken c.loop-store.copies.items c.pop.new.self.items c.in-Some-pop.copy c.args.told.now (length c.next.new.self.rest.items) c.in-Some-pop.ensures.items
-        (c.loop-store.invariant.copies ∙ ap (λ n. replicate n c.args.told.now) more) in
+    (c.loop-store.invariant.copies ∙ ap (λ n. replicate n c.args.told.now) more) in
     record {
       members = one_made (beginning_of g.S.StoreLike.about c.args.board.now c.args.told.now) c.loop-store.members.items c.push_reserved.new.self.items c.new.result c.in-Some.store
           c.loop-store.store-iterator.rest.items c.next.new.self.rest.items c.args.stores.items c.push_reserved.ensures.items

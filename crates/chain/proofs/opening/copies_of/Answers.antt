@@ -1,4 +1,4 @@
-use Rattle.std.proofs.Common.{◌≡◌, ◌++◌, ◌∷◌, [], List, ap, sym, ◌∙◌, replicate, vec_len, rules}
+use Rattle.std.proofs.Common.{◌++◌, ◌∷◌, [], List, ap, sym, ◌∙◌, replicate, vec_len, rules}
 use Rattle.std.proofs.lemmas.List.{replicate_more}
 use Rattle.configurations.specs.Record.{Record}
 use Rattle.chain.proofs.opening.copies_of.Goals as goal

@@ -1,4 +1,4 @@
-use Rattle.std.proofs.Common.{◌≡◌, ℕ, List, ap, sym, ◌∙◌, rules}
+use Rattle.std.proofs.Common.{ℕ, List, ap, sym, ◌∙◌}
 use Rattle.std.specs.Prelude.{slice_set, take}
 use Rattle.std.proofs.lemmas.List.Sums.{fold_more}
 use Rattle.configurations.specs.declared.member.Member.{Member}

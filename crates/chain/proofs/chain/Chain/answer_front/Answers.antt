@@ -1,7 +1,7 @@
-use Rattle.std.proofs.Common.{◌≡◌, ◌∙◌, ◌∷◌, [], List, refl, sym, ap, inl, inr}
+use Rattle.std.proofs.Common.{refl}
 use Rattle.std.specs.Prelude.{IfSome, Option, Some, None}
 use Rattle.chain.proofs.AnswerSteps.{answered_goes, formed_answered}
-use Rattle.chain.proofs.FloorSteps.{either, is_in_at, none_then, some_then, stands_now}
+use Rattle.chain.proofs.FloorSteps.{either, none_then, some_then, stands_now}
 use Rattle.chain.proofs.Stepping.{read_at, same_then, formed_still}
 use Rattle.chain.proofs.chain.Chain.answer_front.Goals as goal
 

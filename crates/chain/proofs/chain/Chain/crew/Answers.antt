@@ -1,4 +1,4 @@
-use Rattle.std.proofs.Common.{◌≡◌, ◌∷◌, [], List, refl, sym, ap, inl, inr}
+use Rattle.std.proofs.Common.{refl, inl, inr}
 use Rattle.std.proofs.lemmas.Bool.{cases_Bool}
 use Rattle.chain.proofs.FloorSteps.{is_in_at, stands_now, formed_mustered, mustered_goes}
 use Rattle.chain.proofs.Stepping.{rests, read_at, same_then, formed_still}

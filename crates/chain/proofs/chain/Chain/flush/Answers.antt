@@ -1,4 +1,4 @@
-use Rattle.std.proofs.Common.{◌≡◌, refl, sym, ap, ◌∙◌}
+use Rattle.std.proofs.Common.{refl, sym, ap, ◌∙◌}
 use Rattle.chain_steps.specs.Steps.{flush}
 use Rattle.chain.proofs.AskingSteps.{away_formed, away_goes, ends_so, flushed_formed, flushed_goes, no_stop}
 use Rattle.chain.proofs.Results.{either, if_err, on_ok}

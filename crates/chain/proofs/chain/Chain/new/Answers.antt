@@ -1,4 +1,4 @@
-use Rattle.std.proofs.Common.{◌≡◌, ℕ, ◌*◌, ◌<◌, List, length, map, refl, ap, subst, sym, ◌∙◌, arith}
+use Rattle.std.proofs.Common.{◌≡◌, ◌*◌, ◌<◌, length, map, refl, ap, subst, sym, ◌∙◌, arith}
 use Rattle.std.proofs.lemmas.List.{length-map}
 use Rattle.std.proofs.lemmas.Option.{slice_get_read}
 use Rattle.configurations.specs.Record.{AreMembers, Record}
@@ -18,7 +18,7 @@ invariant_of-result g c =
     let here = slice_get_read c.args.stores.items _ 0 c.index-first.result.now refl within c.index-first.ensures in
     let even = then_has _ c.args.stores.items 0 _ here c.requires.even in
     let are : c.in-Ok-begin_all.members.items ≡ map (beginning_of about c.in-Ok-new.board.id told) c.args.stores.items =
-        c.in-Ok-begin_all.ensures.members ∙ ap (λ id. map (beginning_of about id told) c.args.stores.items) c.board-2.ensures in
+    c.in-Ok-begin_all.ensures.members ∙ ap (λ id. map (beginning_of about id told) c.args.stores.items) c.board-2.ensures in
     rw are (begun_formed about c.in-Ok-new.board.id told c.in-Ok-new.board.seat c.in-Ok-new.board.words c.geometry-geometry.result c.args.stores.items c.requires.recorded
     (λ k d less. (even k d less).1 ∙ sym c.geometry-geometry.ensures))
 
@@ -51,10 +51,10 @@ returns-clause-begins g c = λ premise volume keep.
     let here = slice_get_read c.args.stores.items _ 0 c.index-first.result.now refl within c.index-first.ensures in
     let even = then_has _ c.args.stores.items 0 _ here c.requires.even in
     let are : c.in-Ok-begin_all.members.items ≡ map (beginning_of about c.in-Ok-new.board.id told) c.args.stores.items =
-        c.in-Ok-begin_all.ensures.members ∙ ap (λ id. map (beginning_of about id told) c.args.stores.items) c.board-2.ensures in
+    c.in-Ok-begin_all.ensures.members ∙ ap (λ id. map (beginning_of about id told) c.args.stores.items) c.board-2.ensures in
     let front : c.in-Ok-new.board.words.front ≡ (about c.index-first.result.now).front = ap (λ w. w.front) c.in-Ok-new.ensures ∙ c.front-front.ensures.front in
     let words = words_made c.in-Ok-new.board.words c.front-front.result c.in-Ok-new.board.words.front c.mask_of-mask.result c.gauges_of-gauges.result c.members.result.now c.members-2.result.now told.members
-        c.in-Ok-new.ensures (sym (ap (λ w. w.front) c.in-Ok-new.ensures)) c.mask_of-mask.ensures c.members.ensures.members c.gauges_of-gauges.ensures c.members-2.ensures.members in
+    c.in-Ok-new.ensures (sym (ap (λ w. w.front) c.in-Ok-new.ensures)) c.mask_of-mask.ensures c.members.ensures.members c.gauges_of-gauges.ensures c.members-2.ensures.members in
     let incarnations = all_unmapped (λ (m : Member). 0 < m.incarnation) (recorded_in about) c.args.stores.items (rw c.requires.recorded c.requires.incarnations) in
     begins about c.in-Ok-new.board.id told g.S.StoreLike.keeps g.S.StoreLike.may_leave_now (4096 * c.geometry-geometry.result.blocks) c.in-Ok-new.board.words.front volume _ c.args.stores.items
     refl refl are c.requires.recorded are_members words refl

@@ -1,4 +1,4 @@
-use Rattle.std.proofs.Common.{◌≡◌, ◌+◌, ◌∷◌, [], List, length, refl, sym, ap, inl, inr, arith, rules}
+use Rattle.std.proofs.Common.{◌≡◌, length, refl, inl, inr, rules}
 use Rattle.std.proofs.lemmas.Bool.{cases_Bool}
 use Rattle.chain.proofs.FloorSteps.{is_in_at, stands_now}
 use Rattle.chain.proofs.FrontSteps.{formed_raised, is_end, raised_goes}

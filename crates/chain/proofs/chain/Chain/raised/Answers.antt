@@ -1,4 +1,4 @@
-use Rattle.std.proofs.Common.{◌≡◌, ◌∙◌, ◌∷◌, [], List, refl, sym, ap, inl, inr}
+use Rattle.std.proofs.Common.{refl}
 use Rattle.std.specs.Prelude.{IfSome, Option, Some, None}
 use Rattle.chain.proofs.RaisedSteps.{formed_known, known_goes}
 use Rattle.chain.proofs.FloorSteps.{either, none_then, some_then}

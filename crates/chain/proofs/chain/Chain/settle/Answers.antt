@@ -1,4 +1,4 @@
-use Rattle.std.proofs.Common.{◌≡◌, ◌∙◌, ◌∷◌, [], List, refl, sym, ap, inl, inr}
+use Rattle.std.proofs.Common.{◌∙◌, refl, sym, inl, inr}
 use Rattle.chain.proofs.FloorSteps.{either, formed_settled, is_in_at, none_then, settled_goes, some_then, stands_now}
 use Rattle.chain.proofs.Stepping.{read_at, same_then, formed_still}
 use Rattle.chain.proofs.chain.Chain.settle.Goals as goal

@@ -1,4 +1,4 @@
-use Rattle.std.proofs.Common.{◌≡◌, ◌<◌, ◌*◌, refl, sym, ap, subst, ◌∙◌}
+use Rattle.std.proofs.Common.{◌<◌, ◌*◌, refl, sym, ap, subst, ◌∙◌}
 use Rattle.gate_journal.specs.declared.batch.TheConstants.{MAX_NUMBER}
 use Rattle.volume.specs.Writes.{Fits}
 use Rattle.volume.specs.declared.geometry.Geometry.{Geometry}

@@ -1,4 +1,4 @@
-use Rattle.std.proofs.Common.{◌∙◌, ap, subst}
+use Rattle.std.proofs.Common.{◌∙◌, ap}
 use Rattle.board.specs.declared.view.Step.TheVariants.{Look}
 use Rattle.chain.specs.LoneBoard.{Lone}
 use Rattle.chain.proofs.WordSteps.{lone_found, lone_then}

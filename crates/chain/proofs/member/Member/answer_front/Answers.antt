@@ -1,4 +1,4 @@
-use Rattle.std.proofs.Common.{◌≡◌, [], refl, sym, ap, rules}
+use Rattle.std.proofs.Common.{[], refl, sym, ap, rules}
 use Rattle.chain_steps.specs.Node.{Out}
 use Rattle.chain.proofs.AnswerSteps.{linked_answered, without_messages}
 use Rattle.chain.proofs.member.Member.answer_front.Goals as goal

@@ -1,4 +1,4 @@
-use Rattle.std.proofs.Common.{◌≡◌, ◌∙◌, refl, sym, subst, rules}
+use Rattle.std.proofs.Common.{◌∙◌, refl, sym, subst, rules}
 use Rattle.board.specs.Seats.{FoundCrew}
 use Rattle.chain.specs.Muster.{IsNextCounted}
 use Rattle.chain.proofs.member.Member.crew.Goals as goal

@@ -1,4 +1,4 @@
-use Rattle.std.proofs.Common.{◌≡◌, ◌∙◌, ◌<◌, refl, sym, arith, rules}
+use Rattle.std.proofs.Common.{◌∙◌, refl, sym, rules}
 use Rattle.chain.proofs.member.Member.gauge.Goals as goal
 
 pub returns-clause-gauged : goal.returns-clause-gauged

@@ -1,4 +1,4 @@
-use Rattle.std.proofs.Common.{◌≡◌, ◌∙◌, refl, sym, ap}
+use Rattle.std.proofs.Common.{ap}
 use Rattle.chain_steps.specs.Node.{Out}
 use Rattle.chain.proofs.RaisedSteps.{linked_known, popped, raised_above}
 use Rattle.chain.proofs.member.Member.raised.Goals as goal

@@ -1,7 +1,5 @@
-use Rattle.std.proofs.Common.{◌≡◌, ◌∙◌, refl, sym, ap, subst, rules}
-use Rattle.chain_core.specs.Node.{IsStepOrStop}
+use Rattle.std.proofs.Common.{◌∙◌, refl, sym, ap, rules}
 use Rattle.chain_steps.specs.Node.{Out}
-use Rattle.chain_steps.specs.Steps.{answer_floor}
 use Rattle.chain.proofs.FloorSteps.{nothing_sent}
 use Rattle.chain.proofs.member.Member.settle.Goals as goal
 

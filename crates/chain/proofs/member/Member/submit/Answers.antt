@@ -1,4 +1,4 @@
-use Rattle.std.proofs.Common.{◌≡◌, refl, sym, ap, subst, ◌∙◌}
+use Rattle.std.proofs.Common.{refl, sym, subst}
 use Rattle.volume.specs.Writes.{Fits}
 use Rattle.chain_core.specs.Node.{size_of}
 use Rattle.chain.proofs.AskingSteps.{linked_then}
