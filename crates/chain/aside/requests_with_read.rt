@@ -1,0 +1,160 @@
+//! Requests.
+ghost use Rattle.std.specs.Prelude.{◌≡◌, ◌⊎◌, ◌<◌, ◌≤◌, ◌+◌, ◌++◌, ℕ, List, None, [], length, map, IfErr, IfOk, OnErr, OnOk};
+ghost use Rattle.disk_model.specs.Disk.{LeavesOnly};
+ghost use Rattle.gate_journal.specs.declared.batch.TheConstants.{MAX_NUMBER};
+ghost use Rattle.local_store.specs.About.{meaning_with};
+ghost use Rattle.local_store.specs.Meaning.{Means};
+ghost use Rattle.version_table.specs.Held.{IsClean};
+ghost use Rattle.volume.specs.Writes.{Fits};
+ghost use Rattle.chain_steps.specs.Steps.{flush, stop, submit};
+ghost use Rattle.chain_steps.specs.Waiting.{board_of};
+ghost use Rattle.chain_core.specs.Node.{IsRefusedBy, size_of};
+ghost use Rattle.chain_core.specs.Reads.{HasOnlyRead, IsReadRefused};
+ghost use Rattle.chain.specs.Asking.{HasFlushed, HasRead, HasSubmitted, IsTurnedAway, IsUnnumbered, ReadsSo, TakesOfOneVolume, asked_by, flush_by};
+ghost use Rattle.chain.specs.Chain.{Changes, IsOfOneVolume, bytes_of};
+
+use crate::chain::Chain;
+use crate::links::send;
+use crate::member::Member;
+use chain_core::{Node, Out, Refusal, Refused, Served};
+use chain_steps::{Cause, Envelope, WriteToken};
+use flush_barrier::{OwedFlush, OwedRead};
+use gate_journal::MAX_NUMBER;
+use local_store::StoreLike;
+use std::alloc::Global;
+use std::collections::VecDeque;
+use volume::Write;
+
+/// A node submits a write along a link. Where the link can't grow, nothing changes.
+fn submit_to<S: StoreLike + Drop>(
+    alloc: Global,
+    node: &mut Node<S>,
+    link: &mut VecDeque<Envelope>,
+    token: WriteToken,
+    write: Write,
+) -> Result<(), Refused<WriteToken>>
+    requires of_board { board_of token ≡ node.old.state.board }
+    ensures runs { OnOk result (node.old.state.stopped ≡ None) }
+    ensures ticket { OnOk result (node.old.state.ticket ≤ MAX_NUMBER) }
+    ensures node { OnOk result (node.new ≡ record { store = node.old.store; state = (submit token write node.old.state).node }) }
+    ensures link { OnOk result (link.new.items ≡ link.old.items ++ map (λ sent. sent.envelope) (submit token write node.old.state).out.messages) }
+    ensures back { IfErr result (λ r. r.token ≡ token) }
+    ensures still { OnErr result (link.new.items ≡ link.old.items) }
+    ensures refused { IfErr result (λ r. IsRefusedBy (MAX_NUMBER < node.old.state.ticket) (stop Cause.LastTicket node.old.state) node.old node.new r.replies.items r.refusal
+        ⊎ ((r.refusal ≡ Refusal.Memory) × (node.old.state.stopped ≡ None) × (node.new ≡ node.old) × (r.replies.items ≡ []))) }
+{
+    if node.stopped().is_none() && link.reserve(1).is_err() {
+        return Err(Refused {
+            token,
+            refusal: Refusal::Memory,
+            replies: Vec::new(alloc),
+        });
+    }
+    let Out {
+        messages,
+        replies: _,
+    } = node.submit(token, write)?;
+    send(messages, link);
+    Ok(())
+}
+
+impl<S: StoreLike + Drop> Member<S> {
+    /// Sends a write to the head, and keeps its token.
+    pub(crate) fn submit(
+        &mut self,
+        alloc: Global,
+        token: WriteToken,
+        write: Write,
+    ) -> Result<(), Refused<WriteToken>>
+        requires of_board { board_of token ≡ self.old.node.state.board }
+        requires inside { Fits (size_of (S.about self.old.node.store)) write }
+        requires some { 0 < length write.bytes }
+        ensures submitted { OnOk result (HasSubmitted token write self.old self.new) }
+        ensures back { IfErr result (λ r. r.token ≡ token) }
+        ensures refused { IfErr result (λ r. IsTurnedAway (MAX_NUMBER < self.old.node.state.ticket) (stop Cause.LastTicket self.old.node.state) r.replies.items r.refusal self.old self.new) }
+    {
+        submit_to(alloc, &mut self.node, &mut self.submits, token, write)
+    }
+
+    /// Takes a FLUSH.
+    pub(crate) fn flush(&mut self, token: OwedFlush) -> Result<(), Refused<OwedFlush>>
+        requires of_board { token.board ≡ self.old.node.state.board }
+        ensures flushed { OnOk result (HasFlushed token self.old self.new) }
+        ensures back { IfErr result (λ r. r.token ≡ token) }
+        ensures refused { IfErr result (λ r. IsTurnedAway ⊥ (flush token self.old.node.state) r.replies.items r.refusal self.old self.new) }
+    {
+        let Out {
+            messages: _,
+            replies: _,
+        } = self.node.flush(token)?;
+        Ok(())
+    }
+
+    /// Takes a READ.
+    pub(crate) fn read(
+        &mut self,
+        token: OwedRead,
+        offset: u64,
+        length: u32,
+    ) -> Result<Vec<Served>, Refused<OwedRead>>
+        requires some { 0 < length }
+        requires within { offset + length ≤ size_of (S.about self.old.node.store) }
+        requires of_board { token.board ≡ self.old.node.state.board }
+        ensures read { IfOk result (λ replies. HasRead (ReadsSo S.keeps_model S.about S.keeps S.moment S.may_have_left_since offset length token) replies.items self.old self.new) }
+        ensures back { IfErr result (λ r. r.token ≡ token) }
+        ensures any_moment { S.keeps_model → (volume : List ℕ) → S.keeps self.old.node.store volume
+            → LeavesOnly S.moment S.may_have_left_since self.old.node.store self.new.node.store (Means (meaning_with (S.about self.old.node.store) volume)) }
+        ensures refused { IfErr result (λ r. IsReadRefused S.about S.failures (HasOnlyRead S.keeps_model S.about S.failures S.keeps S.moment S.may_have_left_since self.old.node.store self.new.node.store)
+            (IsClean self.old.node.state.table offset length self.old.node.state.known) self.old.node self.new.node r.replies.items r.refusal × (self.new ≡ record self.old { node = self.new.node })) }
+    {
+        let Out {
+            messages: _,
+            replies,
+        } = self.node.read(token, offset, length)?;
+        Ok(replies)
+    }
+}
+
+impl<S: StoreLike + Drop> Chain<S> {
+    /// The member at a place sends a write of its sessions to the head, and keeps its token under the next ticket. The write has at
+    /// least one byte, and lies in the volume; the token is of the chain's board, and has no number.
+    ///
+    /// 154 `Stopped`, 151 `NotMember`, 100 `Memory`: the token comes back, and nothing changed. Where the greatest ticket is
+    /// used, the member stops: the token comes back with 154, and the other tokens' refusals with it.
+    pub fn submit(
+        &mut self,
+        at: usize,
+        token: WriteToken,
+        write: Write,
+    ) -> Result<(), Refused<WriteToken>>
+        requires at { at < length self.old.members }
+        requires of_board { board_of token ≡ self.old.id }
+        requires unnumbered { IsUnnumbered token }
+        requires inside { Fits (bytes_of self.old) write }
+        requires some { 0 < length write.bytes }
+        ensures submitted { OnOk result (Changes at self.old self.new (HasSubmitted token write)) }
+        ensures back { IfErr result (λ r. r.token ≡ token) }
+        ensures refused { IfErr result (λ r. Changes at self.old self.new (λ old new. IsTurnedAway (MAX_NUMBER < old.node.state.ticket) (stop Cause.LastTicket old.node.state) r.replies.items r.refusal old new)) }
+        ensures takes { S.keeps_model → OnOk result (TakesOfOneVolume S.about S.keeps S.may_leave_now at (asked_by token write) self.old self.new []) }
+        ensures one_volume { S.keeps_model → IfErr result (λ r. IsOfOneVolume S.about S.keeps S.may_leave_now self.old self.new r.replies.items) }
+    {
+        self.members[at].submit(self.alloc, token, write)
+    }
+
+    /// The member at a place takes a FLUSH of its sessions, which waits for the first front that is looked up behind it. The token
+    /// is of the chain's board, and has no number.
+    ///
+    /// 154 `Stopped`, 151 `NotMember`, 100 `Memory`: the token comes back, and nothing changed.
+    pub fn flush(&mut self, at: usize, token: OwedFlush) -> Result<(), Refused<OwedFlush>>
+        requires at { at < length self.old.members }
+        requires of_board { token.board ≡ self.old.id }
+        requires unnumbered { token.number ≡ None }
+        ensures flushed { OnOk result (Changes at self.old self.new (HasFlushed token)) }
+        ensures back { IfErr result (λ r. r.token ≡ token) }
+        ensures refused { IfErr result (λ r. Changes at self.old self.new (λ old new. IsTurnedAway ⊥ (flush token old.node.state) r.replies.items r.refusal old new)) }
+        ensures takes { S.keeps_model → OnOk result (TakesOfOneVolume S.about S.keeps S.may_leave_now at (flush_by token) self.old self.new []) }
+        ensures one_volume { S.keeps_model → IfErr result (λ r. IsOfOneVolume S.about S.keeps S.may_leave_now self.old self.new r.replies.items) }
+    {
+        self.members[at].flush(token)
+    }
+}
