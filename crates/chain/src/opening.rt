@@ -107,22 +107,22 @@ fn begin_all<S: StoreLike + Drop>(
 }
 
 /// The record so many times.
-fn copies_of(alloc: Global, record: &Record, count: usize) -> Result<Vec<Record>, AllocError>
-    ensures { IfOk result (λ copies. copies.items ≡ replicate count record.now) }
+fn copies_of(alloc: Global, told: &Record, count: usize) -> Result<Vec<Record>, AllocError>
+    ensures { IfOk result (λ copies. copies.items ≡ replicate count told.now) }
 {
     let mut copies = Vec::with_capacity(alloc, count)?;
     while copies.len() < count {
-        copies.push_reserved(copy_of(alloc, record)?);
+        copies.push_reserved(copy_of(alloc, told)?);
     }
     Ok(copies)
 }
 
 /// The record once more.
-fn copy_of(alloc: Global, record: &Record) -> Result<Record, AllocError>
-    ensures { IfOk result (λ copy. copy ≡ record.now) }
+fn copy_of(alloc: Global, told: &Record) -> Result<Record, AllocError>
+    ensures { IfOk result (λ copy. copy ≡ told.now) }
 {
-    let members = Vec::from_slice(alloc, record.members())?;
-    match Record::new(record.epoch(), members) {
+    let members = Vec::from_slice(alloc, told.members())?;
+    match Record::new(told.epoch(), members) {
         Ok(copy) => Ok(copy),
         Err(_) => unreachable!(),
     }

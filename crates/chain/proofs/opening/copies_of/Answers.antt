@@ -7,9 +7,9 @@ pub loop-alloc-preserved : goal.loop-alloc-preserved
 loop-alloc-preserved c = record {
   copies = c.push_reserved.ensures.items
       ∙ ap (λ (l : List Record). l ++ c.in_ok-copy_of.field-0 ∷ []) c.loop-alloc.invariant.copies
-      ∙ ap (λ (r : Record). replicate (vec_len c.loop-alloc.copies) c.args.record.now ++ r ∷ []) c.in_ok-copy_of.ensures
-      ∙ replicate_more (vec_len c.loop-alloc.copies) c.args.record.now
-      ∙ ap (λ n. replicate n c.args.record.now) (sym c.push_reserved.ensures.len);
+      ∙ ap (λ (r : Record). replicate (vec_len c.loop-alloc.copies) c.args.told.now ++ r ∷ []) c.in_ok-copy_of.ensures
+      ∙ replicate_more (vec_len c.loop-alloc.copies) c.args.told.now
+      ∙ ap (λ n. replicate n c.args.told.now) (sym c.push_reserved.ensures.len);
   room = search rules;
   within = search rules;
 }

@@ -3,7 +3,7 @@ use Rattle.chain.proofs.opening.copies_of.Given as goal
 
 abbrev pub invariant-loop-alloc : goal.invariant-loop-alloc
 invariant-loop-alloc l = record {
-  copies : l.copies.items ≡ replicate (vec_len l.copies) l.record;
+  copies : l.copies.items ≡ replicate (vec_len l.copies) l.told;
   room : vec_capacity l.copies ≡ l.count;
   within : vec_len l.copies ≤ l.count;
 }
