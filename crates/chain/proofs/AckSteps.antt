@@ -150,7 +150,7 @@ module _ {S : Type 0} (about : S → About) (old : Chained S) (above : List (Lin
           let first : u.own.acks ≡ front ∷ acks_in left = ap (λ (x : Member). x.acks) u.fits.is ∙ ap acks_in is.first ∙ ap (λ (m : Message). ack_in m ++ acks_in left) took.message in
           let given : ArePutOut (know front (max state.known front) state).out.replies events = subst (λ rs. ArePutOut rs events) (is.told ∙ ap (λ (x : Stepped). x.out.replies) took.did) put_out in
           let node_is : node ≡ record { store = member.node.store; state = (know front (max state.known front) state).node } = is.are ∙ ap (λ (x : Stepped). let n : Seen S = record { store = member.node.store; state = x.node } in n) took.did in
-          goes_on about keeps may_leave_now old v shows AckTaken events acked (t.over ++ g ∷ h ∷ u.others) ack_same
+          goes_on about keeps may_leave_now old v shows AckTaken events acked (t.over ++ g ∷ h ∷ u.others) refl ack_same
           (t.others told g (behind ∷ below) (h ∷ u.others) (told_so own t.fits front node_is)
           (shown_still about keeps may_leave_now old next behind u.own h u.fits (ap (λ (x : Member). record x { acks = acks_in left }) u.fits.is) refl refl refl refl (λ runs. runs), u.rest))
           (record {

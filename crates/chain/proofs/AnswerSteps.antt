@@ -239,6 +239,7 @@ module _ {S : Type 0} (premise : Type 0) (about : S → About) (failures : S →
       record {
         happenings = MemberDoes doing ∷ [];
         each = events ∷ [];
+        inner = refl;
         era = (w, events, [], refl, record { above = twin.over; old = twin.own; new = new; below = twin.under; were = twin.are; are = refl; change = does }, (refl, refl));
         all = append-nil events;
       },
@@ -259,6 +260,7 @@ module _ {S : Type 0} (premise : Type 0) (about : S → About) (failures : S →
           record {
             happenings = [];
             each = [];
+            inner = refl;
             era = (ap (λ (m : Member). with_members v (twin.over ++ m ∷ twin.under)) same ∙ ap (with_members v) (sym twin.are), refl);
             all = sym all;
           },

@@ -2,7 +2,7 @@
 use Rattle.std.proofs.Common.{◌≡◌, ℕ, ◌<◌, List, [], ◌∷◌, ◌++◌, length, refl, ap, sym, subst, ◌∙◌, inl, inr, rules, Result, Ok, Err}
 use Rattle.std.specs.Prelude.{◌⊎◌, All, IfErr, IfSome, None, OnErr, OnOk, Option, Some, map, slice_get, slice_set}
 use Rattle.std.specs.Option.{option_map}
-use Rattle.std.proofs.lemmas.List.{append-nil}
+use Rattle.std.proofs.lemmas.List.{append-nil, map-set}
 use Rattle.std.proofs.lemmas.List.Concat.{flat_map-append}
 use Rattle.std.proofs.lemmas.List.Elements.{All-append, All-cons, All-nil}
 use Rattle.configurations.specs.declared.member.Member as recorded
@@ -26,16 +26,17 @@ use Rattle.chain_core.specs.declared.refusal.Refusal.{Refusal}
 use Rattle.chain_core.specs.declared.refusal.Refusal.TheVariants as refusals
 use Rattle.world_model.specs.Chain.{ArePutOut, Member, Ticketed, View}
 use Rattle.world_model.specs.ChainLaws.{with_members}
+use Rattle.world_model.specs.ChainSteps.{demands_of}
 use Rattle.world_model.specs.Event.{ClientEvent}
 use Rattle.world_model.specs.Life.{MemberTakes, Stop, Taking, Takes, Wait}
 use Rattle.world_model.specs.Life as life
 use Rattle.world_model.specs.Machine.{written}
 use Rattle.world_model.specs.Requests.{Held, IsNew, IsOfKind}
-use Rattle.chain.specs.Asking.{HasFlushed, HasSubmitted, IsTurnedAway, IsUnnumbered, asked_by, flush_by}
+use Rattle.chain.specs.Asking.{GoesTaking, HasFlushed, HasSubmitted, IsTurnedAway, IsUnnumbered, asked_by, flush_by}
 use Rattle.chain.specs.Chain.{Chained, Goes, IsFormed, IsIn, Shows, bytes_of, recorded_as}
 use Rattle.chain.specs.Links.{IsSubmitOf, acks_in, puts_in, submit_in, submits_in}
 use Rattle.chain.specs.Member.{IsLinked, IsShown, Linked, fronts_of, member_of, musters_of, receipts_of}
-use Rattle.chain.proofs.Cells.{place_of, set_there, zip_at, zip_set}
+use Rattle.chain.proofs.Cells.{place_of, zip_at, zip_set}
 use Rattle.chain.proofs.Stepping.{UsesAsBefore, all_at, formed_still, formed_then, one_does, rests, same_then, shown_still, then, told_stays}
 
 -- ---- what a write sends
@@ -95,24 +96,25 @@ module _ {S : Type 0} (Stops : Type 0) (stepped : Stepped) (before after : Linke
 -- ---- the first demand is taken
 
 module _ {S : Type 0} (about : S → About) (keeps : S → List ℕ → Type 0) (may_leave_now : S → List ℕ → Type 0) (old : Chained S) (at : ℕ) (before after : Linked S) (here : slice_get old.members at ≡ Some before) where
-  pub takes_at : (taking : Taking) (demand : Held) (rest : List Held) (v : View) (events : List ClientEvent) → UsesAsBefore before after → Shows about keeps may_leave_now old v
+  -- in a way that may depend on as which member it is shown
+  pub takes_by : (demand : Held) (rest : List Held) (v : View) (events : List ClientEvent) → UsesAsBefore before after → Shows about keeps may_leave_now old v
       → IfSome (slice_get v.members at) (λ m. m.demands ≡ demand ∷ rest)
-      → ((m : Member) → IsShown about keeps may_leave_now (bytes_of old) before m → (g : Member) × IsShown about keeps may_leave_now (bytes_of old) after g × Takes (bytes_of old) taking demand rest m g events × (g.demands ≡ rest))
-      → (w : View) × Shows about keeps may_leave_now (then old at before after here) w × IfSome (slice_get w.members at) (λ m. m.demands ≡ rest) × Goes (bytes_of old) v w events
-  takes_at taking demand rest v events same shows first step =
+      → ((m : Member) → IsShown about keeps may_leave_now (bytes_of old) before m
+      → (taking : Taking) × (g : Member) × IsShown about keeps may_leave_now (bytes_of old) after g × Takes (bytes_of old) taking demand rest m g events × (g.demands ≡ rest))
+      → (w : View) × Shows about keeps may_leave_now (then old at before after here) w × GoesTaking (bytes_of old) at rest v w events
+  takes_by demand rest v events same shows first step =
       let own = zip_at (IsShown about keeps may_leave_now (bytes_of old)) old.members v.members at before shows.members here in
       let did = step own.0 own.2 in
       let place = place_of v.members at own.0 own.1 in
-      let g = did.0 in
+      let g = did.1 in
       let w : View = with_members v (slice_set v.members at g) in (
         w,
         record {
           told = shows.told ∙ sym (told_stays old at before after here same);
-          members = zip_set (IsShown about keeps may_leave_now (bytes_of old)) old.members v.members at after g shows.members did.1;
+          members = zip_set (IsShown about keeps may_leave_now (bytes_of old)) old.members v.members at after g shows.members did.2;
         },
-        subst (λ o. IfSome o (λ m. m.demands ≡ rest)) (sym (set_there v.members at own.0 g own.1)) did.3,
         record {
-          happenings = MemberTakes taking ∷ [];
+          happenings = MemberTakes did.0 ∷ [];
           each = events ∷ [];
           era = (
             w,
@@ -126,13 +128,21 @@ module _ {S : Type 0} (about : S → About) (keeps : S → List ℕ → Type 0) 
               below = place.below;
               were = place.split;
               are = ap (with_members v) (place.setting g);
-              change = record { demand = demand; rest = rest; first = subst (λ o. IfSome o (λ m. m.demands ≡ demand ∷ rest)) own.1 first; takes = did.2 };
+              change = record { demand = demand; rest = rest; first = subst (λ o. IfSome o (λ m. m.demands ≡ demand ∷ rest)) own.1 first; takes = did.3 };
             },
             (refl, refl),
           );
           all = append-nil events;
+          kept = refl;
+          demands = map-set demands_of v.members at g ∙ ap (slice_set (map demands_of v.members) at) did.4;
         },
       )
+
+  pub takes_at : (taking : Taking) (demand : Held) (rest : List Held) (v : View) (events : List ClientEvent) → UsesAsBefore before after → Shows about keeps may_leave_now old v
+      → IfSome (slice_get v.members at) (λ m. m.demands ≡ demand ∷ rest)
+      → ((m : Member) → IsShown about keeps may_leave_now (bytes_of old) before m → (g : Member) × IsShown about keeps may_leave_now (bytes_of old) after g × Takes (bytes_of old) taking demand rest m g events × (g.demands ≡ rest))
+      → (w : View) × Shows about keeps may_leave_now (then old at before after here) w × GoesTaking (bytes_of old) at rest v w events
+  takes_at taking demand rest v events same shows first step = takes_by demand rest v events same shows first (λ m so. let did = step m so in (taking, did.0, did.1, did.2, did.3))
 
 -- ---- a write
 
@@ -176,7 +186,7 @@ module _ {S : Type 0} (about : S → About) (old : Chained S) (at : ℕ) (before
 
     pub submitted_goes : (keeps : S → List ℕ → Type 0) (may_leave_now : S → List ℕ → Type 0) (v : View) (events : List ClientEvent) (rest : List Held) → IsFormed about old → IsUnnumbered token
         → Shows about keeps may_leave_now old v → IfSome (slice_get v.members at) (λ m. m.demands ≡ asked_by token write ∷ rest) → ArePutOut [] events
-        → (w : View) × Shows about keeps may_leave_now (then old at before after here) w × IfSome (slice_get w.members at) (λ m. m.demands ≡ rest) × Goes (bytes_of old) v w events
+        → (w : View) × Shows about keeps may_leave_now (then old at before after here) w × GoesTaking (bytes_of old) at rest v w events
     submitted_goes keeps may_leave_now v events rest formed unnumbered shows first put_out =
         let is_in = all_at (IsIn about old.id old.seat old.chain old.geometry) old.members at before here formed.members in
         let head = headed old.members at before here in
@@ -203,7 +213,7 @@ module _ {S : Type 0} (about : S → About) (old : Chained S) (at : ℕ) (before
 
     pub flushed_goes : (keeps : S → List ℕ → Type 0) (may_leave_now : S → List ℕ → Type 0) (v : View) (events : List ClientEvent) (rest : List Held) → token.number ≡ None
         → Shows about keeps may_leave_now old v → IfSome (slice_get v.members at) (λ m. m.demands ≡ flush_by token ∷ rest) → ArePutOut [] events
-        → (w : View) × Shows about keeps may_leave_now (then old at before after here) w × IfSome (slice_get w.members at) (λ m. m.demands ≡ rest) × Goes (bytes_of old) v w events
+        → (w : View) × Shows about keeps may_leave_now (then old at before after here) w × GoesTaking (bytes_of old) at rest v w events
     flushed_goes keeps may_leave_now v events rest unnumbered shows first put_out =
         takes_at about keeps may_leave_now old at before after here (Wait token) (flush_by token) rest v events
         (record { front = ap (λ l. fronts_of l.front) did.are; muster = ap (λ l. musters_of l.muster) did.are; receipt = ap (λ l. receipts_of l.receipt) did.are }) shows first (λ m so. (

@@ -35,7 +35,7 @@ use Rattle.world_model.specs.Life.{Happening, Happens, MemberDoes, PutApplied, S
 use Rattle.world_model.specs.Machine.{State}
 use Rattle.world_model.specs.Order.{AreFronts, IsChain}
 use Rattle.world_model.specs.OrderSteps.{next_put, reaches_at}
-use Rattle.chain.specs.Chain.{Chained, Goes, IsFormed, IsIn, Shows, bytes_of, recorded_as, told_of}
+use Rattle.chain.specs.Chain.{Chained, Goes, IsFormed, IsIn, Shows, are_inner, bytes_of, recorded_as, told_of}
 use Rattle.chain.specs.Links.{IsPutOf, puts_in, put_in}
 use Rattle.chain.specs.Member.{IsShown, Linked, fronts_of, member_of, musters_of, receipts_of}
 use Rattle.chain.specs.Passing.{HasNone, IsRefused, Passes, PassesTo, PutComes, Refuses, replies_in, with_puts}
@@ -178,11 +178,11 @@ module _ {S : Type 0} (about : S → About) (keeps : S → List ℕ → Type 0) 
   abbrev pub IsShownSo : List (Linked S) → List ClientEvent → Type 0
   IsShownSo ms events = (w : View) × Shows about keeps may_leave_now (record old { members = ms }) w × Goes (bytes_of old) v w events
 
-  pub goes_on : (h : Happening) (events : List ClientEvent) (ms : List (Linked S)) (gs : List Member) → AllZip IsSame old.members ms → AllZip IsSo ms gs → Happens (bytes_of old) h v (with_members v gs) events → IsShownSo ms events
-  goes_on h events ms gs same are happens = (
+  pub goes_on : (h : Happening) (events : List ClientEvent) (ms : List (Linked S)) (gs : List Member) → are_inner (h ∷ []) ≡ true → AllZip IsSame old.members ms → AllZip IsSo ms gs → Happens (bytes_of old) h v (with_members v gs) events → IsShownSo ms events
+  goes_on h events ms gs inner same are happens = (
     with_members v gs,
     record { told = shows.told ∙ sym (told_same old ms same); members = are },
-    record { happenings = h ∷ []; each = events ∷ []; era = (with_members v gs, events, [], refl, happens, (refl, refl)); all = append-nil events },
+    record { happenings = h ∷ []; each = events ∷ []; inner = inner; era = (with_members v gs, events, [], refl, happens, (refl, refl)); all = append-nil events },
   )
 
   module _ (above : List (Linked S)) (member : Linked S) (below : List (Linked S)) (were : old.members ≡ above ++ member ∷ below) where
@@ -199,7 +199,7 @@ module _ {S : Type 0} (about : S → About) (keeps : S → List ℕ → Type 0) 
         let so = twin.fits in
         let g : Member = record own { node = (stop cause own.node).node } in
         let node : own.node ≡ member.node.state = ap (λ (x : Member). x.node) so.is in
-        goes_on (MemberDoes (Stop cause)) events (above ++ halted cause ∷ below) (twin.over ++ g ∷ twin.under)
+        goes_on (MemberDoes (Stop cause)) events (above ++ halted cause ∷ below) (twin.over ++ g ∷ twin.under) refl
         (subst (λ l. AllZip IsSame l (above ++ halted cause ∷ below)) (sym were) (same_behind above (member ∷ below) (halted cause ∷ below) (record { one = record { board = refl; place = refl; incarnation = refl; turned = refl; holds = refl }; store = refl; front = refl; muster = refl; receipt = refl }, are_same below)))
         (twin.others (halted cause) g below twin.under (shown_still about keeps may_leave_now old member (halted cause) own g so (ap (λ (x : Member). record x { node = (stop cause x.node).node }) so.is) refl refl refl refl (λ runs. let clash : Some cause ≡ None = runs in absurd (cc))) twin.rest)
         (record { above = twin.over; old = own; new = g; below = twin.under; were = twin.are; are = refl; change = (subst (λ (n : NodeState). ArePutOut (stop cause n).out.replies events) (sym node) put_out, refl) })
@@ -276,7 +276,7 @@ module _ {S : Type 0} (about : S → About) (keeps : S → List ℕ → Type 0) 
         let so = t.fits in
         let g : Member = record own { node = (apply n origin write own.node).node; puts = puts_in left } in
         let puts : own.puts ≡ k ∷ puts_in left = ap (λ (x : Member). x.puts) so.is ∙ first in
-        goes_on PutApplied [] (above ++ applied member n origin write left ∷ with_puts sent below) (t.over ++ g ∷ sent_on k t.under)
+        goes_on PutApplied [] (above ++ applied member n origin write left ∷ with_puts sent below) (t.over ++ g ∷ sent_on k t.under) refl
         (subst (λ l. AllZip IsSame l (above ++ applied member n origin write left ∷ with_puts sent below)) (sym were)
         (same_behind above (member ∷ below) (applied member n origin write left ∷ with_puts sent below)
         (record { one = record { board = refl; place = refl; incarnation = refl; turned = refl; holds = refl }; store = refl; front = refl; muster = refl; receipt = refl }, same_puts sent below)))

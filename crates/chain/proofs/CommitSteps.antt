@@ -29,10 +29,10 @@ use Rattle.world_model.specs.Counting.{all_before, all_behind}
 use Rattle.world_model.specs.Event.{ClientEvent}
 use Rattle.world_model.specs.Life.{BeginCommit, BoardTells, Stop}
 use Rattle.chain.specs.Chain.{Chained, Goes, IsFormed, Shows, bytes_of, gauges_from, told_of}
-use Rattle.chain.specs.Commits.{HasBegunCommits, HasCheckpointed, HasNoGroup, HasNoNumber, HasStoppedTold, HasTicked, LeavesAt, replies_of}
+use Rattle.chain.specs.Commits.{HasBegunCommits, HasCheckpointed, HasNoGroup, HasNoNumber, HasStoppedTold, HasTicked, LeavesAt, MeansOld, StopsAt, replies_of}
 use Rattle.chain.specs.LoneBoard.{Words, posted}
 use Rattle.chain.specs.Member.{HasCalled, IsLeft, IsShown, Linked, fronts_of, member_of, musters_of, receipts_of}
-use Rattle.chain.proofs.Cells.{place_of, twin_of}
+use Rattle.chain.proofs.Cells.{place_of, set_there, twin_of}
 use Rattle.chain.proofs.Stepping.{UsesAsBefore, formed_then, one_does, shown_still}
 
 -- ---- the disk
@@ -112,11 +112,9 @@ module _ {S : Type 0} (about : S → About) (keeps : S → List ℕ → Type 0) 
     behind = rw (table, known) so.behind;
   }
 
-  -- what a stop leaves of a store whose call left only what means what it meant
-  pub leaves_only : {moment : S → ℕ} {left_since : S → ℕ → List ℕ → Type 0} (store : S) → LeavesOnly moment left_since before.node.store store (Means (meaning_with (about before.node.store) m.volume))
-      → LeavesOnly moment left_since before.node.store store (IsLeft (about before.node.store) m.volume before.node.state)
-  leaves_only {moment} {left_since} store run = weaker moment left_since before.node.store store (Means (meaning_with (about before.node.store) m.volume)) (IsLeft (about before.node.store) m.volume before.node.state)
-      (λ c means. left_durable (about before.node.store) m.volume before.node.state c so.durable so.behind means) run
+  -- what means what the store meant is left of it
+  pub left_old : (c : List ℕ) → MeansOld about before m.volume c → IsLeft (about before.node.store) m.volume before.node.state c
+  left_old c means = left_durable (about before.node.store) m.volume before.node.state c so.durable so.behind means
 
 -- ---- what a call of its node leaves of a member
 
@@ -193,6 +191,7 @@ pub board_tells : {size : ℕ} (v : View) (told : Told) (over : List Member) (m 
 board_tells {size} v told over m under events are front backed fronts put_out = record {
   happenings = BoardTells ∷ [];
   each = [] ∷ [];
+  inner = refl;
   era = (
     record v { told = told; members = over ++ m ∷ under },
     [],
@@ -203,12 +202,6 @@ board_tells {size} v told over m under events are front backed fronts put_out = 
   );
   all = sym put_out;
 }
-
--- what stands at a place that was set
-get_set : {A : Type 0} (xs : List A) (at : ℕ) (x y : A) → slice_get xs at ≡ Some x → slice_get (slice_set xs at y) at ≡ Some y
-get_set [] at x y here = let none : None ≡ Some x = here in absurd (cc)
-get_set (z ∷ zs) zero x y here = refl
-get_set (z ∷ zs) (suc at) x y here = get_set zs at x y here
 
 module _ {S : Type 0} (about : S → About) (keeps : S → List ℕ → Type 0) (may_leave_now : S → List ℕ → Type 0) (old : Chained S) (at : ℕ) (before : Linked S) (here : slice_get old.members at ≡ Some before) where
   abbrev IsSo : Linked S → Member → Type 0
@@ -242,7 +235,7 @@ module _ {S : Type 0} (about : S → About) (keeps : S → List ℕ → Type 0) 
         did.2,
       )
 
-  gathers : {B : Type 0} (f : Linked S → List B) (after : Linked S) → f after ≡ f before → flat_map f (slice_set old.members at after) ≡ flat_map f old.members
+  pub gathers : {B : Type 0} (f : Linked S → List B) (after : Linked S) → f after ≡ f before → flat_map f (slice_set old.members at after) ≡ flat_map f old.members
   gathers f after is =
       let place = place_of old.members at before here in
       ap (flat_map f) (place.setting after) ∙ flat_same f place.above before after place.below is ∙ ap (flat_map f) (sym place.split)
@@ -255,6 +248,7 @@ module _ {S : Type 0} (about : S → About) (keeps : S → List ℕ → Type 0) 
     record {
       happenings = [];
       each = [];
+      inner = refl;
       era = (
         ap (λ (t : Told). record v { told = t; members = over ++ m ∷ under })
             (rw (gathers (λ x. fronts_of x.front) after same.front, gathers (λ x. musters_of x.muster) after same.muster, gathers (λ x. receipts_of x.receipt) after same.receipt) (sym shows.told))
@@ -290,33 +284,48 @@ module _ {S : Type 0} (about : S → About) (keeps : S → List ℕ → Type 0) 
       (subst (λ n. ArePutOut (stop cause n).out.replies events) (sym (ap (λ (x : Member). x.node) so.is)) put_out, refl),
     ))
 
+  -- what a stop at any moment of a call leaves, where the member ran
+  module _ (IsMeant : Linked S → List ℕ → List ℕ → Type 0) (is_left : (m : Member) → IsSo before m → (c : List ℕ) → IsMeant before m.volume c → IsLeft (about before.node.store) m.volume before.node.state c)
+      (moment : S → ℕ) (left_since : S → ℕ → List ℕ → Type 0) (after : Linked S) (runs : before.node.state.stopped ≡ None)
+      (run : (volume : List ℕ) → keeps before.node.store volume → LeavesOnly moment left_since before.node.store after.node.store (IsMeant before volume)) where
+    leaves_so : (m : Member) → IsSo before m → LeavesOnly moment left_since before.node.store after.node.store (IsLeft (about before.node.store) m.volume before.node.state)
+    leaves_so m so = weaker moment left_since before.node.store after.node.store (IsMeant before m.volume) (IsLeft (about before.node.store) m.volume before.node.state) (is_left m so) (run m.volume (so.keeping runs))
+
+    pub runs_leaves : StopsAt IsMeant about keeps may_leave_now moment left_since at old (record old { members = slice_set old.members at after })
+    runs_leaves = record { before = before; after = after; here = here; there = set_there old.members at before after here; means = run; leaves = leaves_so }
+
+    -- and what a stop leaves then
+    pub left_then : ((store : S) (t : ℕ) (c : List ℕ) → t ≤ moment store → may_leave_now store c → left_since store t c)
+        → (m : Member) → IsSo before m → (c : List ℕ) → may_leave_now after.node.store c → IsLeft (about before.node.store) m.volume before.node.state c
+    left_then counts m so c may = let left = leaves_so m so in left.each c (counts after.node.store (moment before.node.store) c left.later may)
+
+  -- what means what the member's store meant is left
+  abbrev pub is_old : (m : Member) → IsSo before m → (c : List ℕ) → MeansOld about before m.volume c → IsLeft (about before.node.store) m.volume before.node.state c
+  is_old m so c means = left_old about keeps may_leave_now (bytes_of old) before m so c means
+
   module _ (after : Linked S) (replies : List GivenReply) (works : Works about before after replies) where
     pub works_formed : IsFormed about old → IsFormed about (record old { members = slice_set old.members at after })
     works_formed formed = formed_called about old at before here after works.are (remains_by about before.node after.node replies (ap (λ a. a.geometry) works.disk) works.outcome) formed
 
-    module _ (moment : S → ℕ) (left_since : S → ℕ → List ℕ → Type 0) (keeping : Keeps keeps about moment left_since before after) where
-      leaves_so : (m : Member) → IsSo before m → LeavesOnly moment left_since before.node.store after.node.store (IsLeft (about before.node.store) m.volume before.node.state)
-      leaves_so m so = leaves_only about keeps may_leave_now (bytes_of old) before m so after.node.store (keeping.run m.volume (so.keeping works.runs))
+    pub works_lead_so : (v : View) (events : List ClientEvent) → ((m : Member) → IsSo before m → (c : List ℕ) → may_leave_now after.node.store c → IsLeft (about before.node.store) m.volume before.node.state c)
+        → ((m : Member) → IsSo before m → after.node.state.stopped ≡ None → keeps after.node.store m.volume) → ShowsSo old v → ArePutOut replies events → Leads after v events
+    works_lead_so v events left kept shows put_out = go works.outcome
+      where
+        becomes : (state : NodeState) → after.node.state ≡ state → Leads (with_node before after.node.store state) v events → Leads after v events
+        becomes state same leads = subst (λ x. Leads x v events) (sym (works.are ∙ ap (with_node before after.node.store) same)) leads
 
+        go : Outcome before.node.state after.node.state replies → Leads after v events
+        go (inl is) = becomes _ is.0 (works_goes after.node.store works.disk v events shows left (λ m so runs. kept m so (ap (λ n. n.stopped) is.0 ∙ runs)) (subst (λ rs. ArePutOut rs events) is.1 put_out))
+        go (inr (inl is)) = becomes _ is.1 (begun_goes after.node.store works.disk v events shows left is.0 (λ m so runs. kept m so (ap (λ n. n.stopped) is.1 ∙ runs)) (subst (λ rs. ArePutOut rs events) is.2 put_out))
+        go (inr (inr is)) = becomes _ is.1 (halted_goes after.node.store works.disk v events shows left is.0 (subst (λ rs. ArePutOut rs events) is.2 put_out))
+
+    module _ (moment : S → ℕ) (left_since : S → ℕ → List ℕ → Type 0) (keeping : Keeps keeps about moment left_since before after) where
       pub works_leaves : LeavesAt about keeps may_leave_now moment left_since at old (record old { members = slice_set old.members at after })
-      works_leaves = record { before = before; after = after; here = here; there = get_set old.members at before after here; means = keeping.run; leaves = leaves_so }
+      works_leaves = runs_leaves (MeansOld about) is_old moment left_since after works.runs keeping.run
 
       pub works_lead : (v : View) (events : List ClientEvent) → ((store : S) (t : ℕ) (c : List ℕ) → t ≤ moment store → may_leave_now store c → left_since store t c) → ShowsSo old v → ArePutOut replies events → Leads after v events
-      works_lead v events counts shows put_out = go works.outcome
-        where
-          left : (m : Member) → IsSo before m → (c : List ℕ) → may_leave_now after.node.store c → IsLeft (about before.node.store) m.volume before.node.state c
-          left m so c may = let run = leaves_so m so in run.each c (counts after.node.store (moment before.node.store) c run.later may)
-
-          becomes : (state : NodeState) → after.node.state ≡ state → Leads (with_node before after.node.store state) v events → Leads after v events
-          becomes state same leads = subst (λ x. Leads x v events) (sym (works.are ∙ ap (with_node before after.node.store) same)) leads
-
-          kept : (m : Member) → IsSo before m → after.node.state.stopped ≡ None → keeps after.node.store m.volume
-          kept m so runs = keeping.kept m.volume (so.keeping works.runs) runs
-
-          go : Outcome before.node.state after.node.state replies → Leads after v events
-          go (inl is) = becomes _ is.0 (works_goes after.node.store works.disk v events shows left (λ m so runs. kept m so (ap (λ n. n.stopped) is.0 ∙ runs)) (subst (λ rs. ArePutOut rs events) is.1 put_out))
-          go (inr (inl is)) = becomes _ is.1 (begun_goes after.node.store works.disk v events shows left is.0 (λ m so runs. kept m so (ap (λ n. n.stopped) is.1 ∙ runs)) (subst (λ rs. ArePutOut rs events) is.2 put_out))
-          go (inr (inr is)) = becomes _ is.1 (halted_goes after.node.store works.disk v events shows left is.0 (subst (λ rs. ArePutOut rs events) is.2 put_out))
+      works_lead v events counts shows put_out =
+          works_lead_so v events (left_then (MeansOld about) is_old moment left_since after works.runs keeping.run counts) (λ m so runs. keeping.kept m.volume (so.keeping works.runs) runs) shows put_out
 
   -- it was told to stop
   module _ (after : Linked S) (replies : List GivenReply) (did : HasStoppedTold replies before after) where
@@ -337,17 +346,23 @@ module _ {S : Type 0} (about : S → About) (keeps : S → List ℕ → Type 0) 
         (halted_goes before.node.store refl v events shows (λ m so c may. so.left c may) ByWord (subst (λ rs. ArePutOut rs events) did.told put_out))
 
   -- nothing changes: what a stop leaves is what it left
-  pub rests_leaves : (moment : S → ℕ) (left_since : S → ℕ → List ℕ → Type 0) (after : Linked S) → after ≡ before → ((store : S) (c : List ℕ) → left_since store (moment store) c → may_leave_now store c)
-      → ((volume : List ℕ) → keeps before.node.store volume → LeavesOnly moment left_since before.node.store after.node.store (Means (meaning_with (about before.node.store) volume)))
-      → LeavesAt about keeps may_leave_now moment left_since at old (record old { members = slice_set old.members at after })
-  rests_leaves moment left_since after same only run = record {
+  pub rests_stops : (IsMeant : Linked S → List ℕ → List ℕ → Type 0) (moment : S → ℕ) (left_since : S → ℕ → List ℕ → Type 0) (after : Linked S) → after ≡ before
+      → ((store : S) (c : List ℕ) → left_since store (moment store) c → may_leave_now store c)
+      → ((volume : List ℕ) → keeps before.node.store volume → LeavesOnly moment left_since before.node.store after.node.store (IsMeant before volume))
+      → StopsAt IsMeant about keeps may_leave_now moment left_since at old (record old { members = slice_set old.members at after })
+  rests_stops IsMeant moment left_since after same only run = record {
     before = before;
     after = after;
     here = here;
-    there = get_set old.members at before after here;
+    there = set_there old.members at before after here;
     means = run;
     leaves = λ shown so. rw same (started moment left_since before.node.store (IsLeft (about before.node.store) shown.volume before.node.state) (λ c left. so.left c (only before.node.store c left)));
   }
+
+  pub rests_leaves : (moment : S → ℕ) (left_since : S → ℕ → List ℕ → Type 0) (after : Linked S) → after ≡ before → ((store : S) (c : List ℕ) → left_since store (moment store) c → may_leave_now store c)
+      → ((volume : List ℕ) → keeps before.node.store volume → LeavesOnly moment left_since before.node.store after.node.store (Means (meaning_with (about before.node.store) volume)))
+      → LeavesAt about keeps may_leave_now moment left_since at old (record old { members = slice_set old.members at after })
+  rests_leaves moment left_since after same only run = rests_stops (MeansOld about) moment left_since after same only run
 
   gathers_parts : {B : Type 0} (f : Linked S → List B) → flat_map f old.members ≡ flat_map f (place_of old.members at before here).above ++ (f before ++ flat_map f (place_of old.members at before here).below)
   gathers_parts f =
@@ -361,7 +376,7 @@ module _ {S : Type 0} (about : S → About) (keeps : S → List ℕ → Type 0) 
       all_before P (f before) (flat_map f place.below) (all_behind P (flat_map f place.above) (f before ++ flat_map f place.below) (subst (All P) (gathers_parts f) all))
 
   -- and it holds of all still, where it does of the member's
-  gathers_all : {B : Type 0} (f : Linked S → List B) (P : B → Type 0) (after : Linked S) → (All P (f before) → All P (f after)) → All P (flat_map f old.members) → All P (flat_map f (slice_set old.members at after))
+  pub gathers_all : {B : Type 0} (f : Linked S → List B) (P : B → Type 0) (after : Linked S) → (All P (f before) → All P (f after)) → All P (flat_map f old.members) → All P (flat_map f (slice_set old.members at after))
   gathers_all f P after keeps all =
       let place = place_of old.members at before here in
       subst (All P) (sym (ap (flat_map f) (place.setting after) ∙ flat_split f place.above after place.below))

@@ -121,6 +121,7 @@ module _ {S : Type 0} (about : S → About) (keeps : S → List ℕ → Type 0) 
         record {
           happenings = BoardTells ∷ [];
           each = [] ∷ [];
+          inner = refl;
           era = (record v { told = told_of now }, [], [], refl, (told_so v (told_of old) (told_of now) shows.told so, refl), (refl, refl));
           all = sym put_out;
         },
@@ -142,6 +143,7 @@ module _ {S : Type 0} (about : S → About) (keeps : S → List ℕ → Type 0) 
         record {
           happenings = MemberDoes doing ∷ BoardTells ∷ [];
           each = events ∷ [] ∷ [];
+          inner = refl;
           era = (
             mid,
             events,

@@ -110,6 +110,7 @@ module _ {S : Type 0} (about : S → About) (old : Chained S) (at : ℕ) (before
         record {
           happenings = FrontRaised ∷ MemberDoes (KeepRaised did.front) ∷ [];
           each = [] ∷ events ∷ [];
+          inner = refl;
           era = (
             mid,
             [],

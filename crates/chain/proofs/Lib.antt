@@ -2,15 +2,18 @@ mod AckSteps
 mod AnswerSteps
 mod AskingSteps
 mod BeginningSteps
-mod Cells
+pub mod Cells
 mod ComingSteps
 mod CommitSteps
+mod EndSteps
 mod FloorSteps
 mod FrontSteps
+pub mod Keeping
 mod MusterSteps
 mod OpeningSteps
 mod PassingSteps
 mod RaisedSteps
+mod ReadingSteps
 mod Results
 mod Stepping
 mod SubmitSteps

@@ -1,5 +1,5 @@
 -- One member of a chain steps: what is shown of the chain then, and what happened in it.
-use Rattle.std.proofs.Common.{◌≡◌, ℕ, zero, suc, ◌<◌, List, [], ◌∷◌, ◌++◌, length, refl, ap, sym, subst, ◌∙◌}
+use Rattle.std.proofs.Common.{◌≡◌, true, ℕ, zero, suc, ◌<◌, List, [], ◌∷◌, ◌++◌, length, refl, ap, sym, subst, ◌∙◌}
 use Rattle.std.specs.Prelude.{All, IfSome, None, Some, map, slice_get, slice_index_or, slice_set}
 use Rattle.std.specs.List.{AllZip, flat_map}
 use Rattle.std.proofs.lemmas.List.{append-nil, set-get_or}
@@ -12,7 +12,7 @@ use Rattle.world_model.specs.ChainSteps.{flat_same, maps_same}
 use Rattle.world_model.specs.Counting.{all_behind}
 use Rattle.world_model.specs.Event.{ClientEvent}
 use Rattle.world_model.specs.Life.{Does, Doing, Happening, Happens, MemberDoes}
-use Rattle.chain.specs.Chain.{Chained, Goes, IsFormed, IsIn, Shows, bytes_of, recorded_as, told_of}
+use Rattle.chain.specs.Chain.{Chained, Goes, IsFormed, IsIn, Shows, are_inner, bytes_of, recorded_as, told_of}
 use Rattle.chain.specs.Member.{IsShown, Linked, fronts_of, member_of, musters_of, receipts_of}
 use Rattle.chain.proofs.Cells.{Place, place_of, twin_of}
 
@@ -75,7 +75,7 @@ module _ {S : Type 0} (about : S → About) (keeps : S → List ℕ → Type 0) 
   -- nothing happens
   pub rests : (new : Chained S) (v : View) (events : List ClientEvent) → new ≡ old → ShowsSo old v → ArePutOut [] events
       → (w : View) × ShowsSo new w × Goes (bytes_of old) v w events
-  rests new v events same shows put_out = (v, subst (λ c. ShowsSo c v) (sym same) shows, record { happenings = []; each = []; era = (refl, refl); all = sym put_out })
+  rests new v events same shows put_out = (v, subst (λ c. ShowsSo c v) (sym same) shows, record { happenings = []; each = []; inner = refl; era = (refl, refl); all = sym put_out })
 
   -- a member that has the same store, writes and known commit, and runs only if it did, is shown at the same volume
   pub shown_still : (before after : Linked S) (m g : Member) → IsSo before m → g ≡ member_of after g.volume g.demands → g.volume ≡ m.volume
@@ -92,11 +92,11 @@ module _ {S : Type 0} (about : S → About) (keeps : S → List ℕ → Type 0) 
 
   module _ (at : ℕ) (before after : Linked S) (here : slice_get old.members at ≡ Some before) where
     -- this happens at the member
-    pub one_happens : (h : Happening) (v : View) (events : List ClientEvent) → UsesAsBefore before after → ShowsSo old v
+    pub one_happens : (h : Happening) (v : View) (events : List ClientEvent) → are_inner (h ∷ []) ≡ true → UsesAsBefore before after → ShowsSo old v
         → ((over : List Member) (m : Member) (under : List Member) → v.members ≡ over ++ m ∷ under → IsSo before m
         → (g : Member) × IsSo after g × Happens (bytes_of old) h v (with_members v (over ++ g ∷ under)) events)
         → (w : View) × ShowsSo (then old at before after here) w × Goes (bytes_of old) v w events
-    one_happens h v events same shows step =
+    one_happens h v events inner same shows step =
         let place = place_of old.members at before here in
         let twin = twin_of IsSo place.above before place.below v.members (subst (λ l. AllZip IsSo l v.members) place.split shows.members) in
         let did = step twin.over twin.own twin.under twin.are twin.fits in (
@@ -105,14 +105,14 @@ module _ {S : Type 0} (about : S → About) (keeps : S → List ℕ → Type 0) 
             told = shows.told ∙ sym (told_stays old at before after here same);
             members = subst (λ l. AllZip IsSo l (twin.over ++ did.0 ∷ twin.under)) (sym (place.setting after)) (twin.others after did.0 place.below twin.under did.1 twin.rest);
           },
-          record { happenings = h ∷ []; each = events ∷ []; era = (with_members v (twin.over ++ did.0 ∷ twin.under), events, [], refl, did.2, (refl, refl)); all = append-nil events },
+          record { happenings = h ∷ []; each = events ∷ []; inner = inner; era = (with_members v (twin.over ++ did.0 ∷ twin.under), events, [], refl, did.2, (refl, refl)); all = append-nil events },
         )
 
     -- the member does so
     pub one_does : (doing : Doing) (v : View) (events : List ClientEvent) → UsesAsBefore before after → ShowsSo old v
         → ((m : Member) → IsSo before m → (g : Member) × IsSo after g × Does v doing m g events)
         → (w : View) × ShowsSo (then old at before after here) w × Goes (bytes_of old) v w events
-    one_does doing v events same shows step = one_happens (MemberDoes doing) v events same shows (λ over m under are so.
+    one_does doing v events same shows step = one_happens (MemberDoes doing) v events refl same shows (λ over m under are so.
         let did = step m so in
         (did.0, did.1, record { above = over; old = m; new = did.0; below = under; were = are; are = refl; change = did.2 }))
 

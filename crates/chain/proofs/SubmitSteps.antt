@@ -172,7 +172,7 @@ module _ {S : Type 0} (about : S → About) (old : Chained S) (one : List (Linke
           let incs : Some inc ≡ Some sender.node.state.incarnation = sym took.numbers.of_slot ∙ ap (λ (r : Record). incarnation_in r slot) chain ∙ has_incarnation about old at sender formed are_members here in
           let inc_is : inc ≡ sender.node.state.incarnation = cc incs in
           let own_node : t.own.node ≡ sender.node.state = ap (λ (x : Member). x.node) t.fits.is in
-          rw none (goes_on about keeps may_leave_now old v shows HeadNumbers [] numbered (g ∷ sent_on k f.others) numbered_same (g_so, shown_on about keeps may_leave_now old v shows k sent below f.others (carries below refl) f.rest) (
+          rw none (goes_on about keeps may_leave_now old v shows HeadNumbers [] numbered (g ∷ sent_on k f.others) refl numbered_same (g_so, shown_on about keeps may_leave_now old v shows k sent below f.others (carries below refl) f.rest) (
             record {
               one = t.over;
               from = t.own;

@@ -1,22 +1,27 @@
 -- What a member does with a write or a FLUSH of its sessions.
-use Rattle.std.specs.Prelude.{◌≡◌, ◌⊎◌, ℕ, ◌≤◌, ⊤, IfSome, None, List, [], ◌∷◌, ◌++◌, map, slice_get}
-use Rattle.flush_barrier.specs.Owed.{OwedAt}
+use Rattle.std.specs.Prelude.{◌≡◌, ◌⊎◌, ℕ, ◌≤◌, ⊤, IfSome, None, List, [], ◌∷◌, ◌++◌, map, slice_get, slice_set}
+use Rattle.disk_model.specs.Disk.{LeavesOnly}
+use Rattle.flush_barrier.specs.Owed.{Owed, OwedAt}
 use Rattle.flush_barrier.specs.Reply.{GivenReply}
 use Rattle.gate_journal.specs.declared.batch.TheConstants.{MAX_NUMBER}
-use Rattle.local_store.specs.About.{About}
+use Rattle.local_store.specs.About.{About, meaning_with}
+use Rattle.local_store.specs.Meaning.{Means}
+use Rattle.version_table.specs.Held.{IsClean}
 use Rattle.volume.specs.Writes.{Placed}
-use Rattle.chain_steps.specs.Node.{Stepped}
-use Rattle.chain_steps.specs.Steps.{flush, submit}
+use Rattle.chain_steps.specs.Node.{Out, Stepped}
+use Rattle.chain_steps.specs.Steps.{flush, read_asked, read_at_once, submit}
 use Rattle.chain_steps.specs.declared.waiting.WriteToken.{WriteToken}
 use Rattle.chain_steps.specs.declared.waiting.WriteToken.TheVariants as tokens
-use Rattle.chain_core.specs.Node.{IsRefusedBy}
+use Rattle.chain_core.specs.Node.{IsRefusedBy, IsStep, Seen}
+use Rattle.chain_core.specs.Reads.{HasOnlyRead, IsReadRefused, IsStepOver}
 use Rattle.chain_core.specs.declared.refusal.Refusal.{Refusal}
 use Rattle.chain_core.specs.declared.refusal.Refusal.TheVariants as refusals
 use Rattle.world_model.specs.Chain.{ArePutOut, StandsFor, View}
-use Rattle.world_model.specs.Event.{ClientEvent, Flush, Fua, Write}
+use Rattle.world_model.specs.Event.{ClientEvent, Flush, Fua, Read, Write}
+use Rattle.world_model.specs.Life.{Era, Happening, all_events}
 use Rattle.world_model.specs.Machine.{State}
 use Rattle.world_model.specs.Requests.{Held}
-use Rattle.chain.specs.Chain.{Chained, Goes, Shows, bytes_of}
+use Rattle.chain.specs.Chain.{Chained, Shows, bytes_of}
 use Rattle.chain.specs.Member.{Linked}
 
 -- the request whose token this is
@@ -58,10 +63,48 @@ abbrev pub IsTurnedAway : {S : Type 0} → (Stops : Type 0) → Stepped → List
 IsTurnedAway Stops stepped replies refusal old new =
     (IsRefusedBy Stops stepped old.node new.node replies refusal × (new ≡ record old { node = new.node })) ⊎ CannotGrow old new replies refusal
 
+-- Some things happen, one after another, and clients see these events of them all; then these demands are left of those that
+-- waited for the member at the place, and sessions keep what they kept.
+pub record GoesTaking (size at : ℕ) (rest : List Held) (v w : View) (events : List ClientEvent) : Type 0 where
+  pub happenings : List Happening
+  pub each : List (List ClientEvent)
+  pub era : Era size v happenings w each
+  pub all : all_events each ≡ events
+  pub kept : w.kept ≡ v.kept
+  pub demands : map (λ m. m.demands) w.members ≡ slice_set (map (λ m. m.demands) v.members) at rest
+
 -- The member at the place takes the first demand of its sessions, which is this one, and whatever state of the one volume the
 -- chain stood for, that can happen in such a chain.
 abbrev pub TakesOfOneVolume : {S : Type 0} → (S → About) → (S → List ℕ → Type 0) → (S → List ℕ → Type 0) → ℕ → Held → Chained S → Chained S → List GivenReply → Type 0
 TakesOfOneVolume about keeps may_leave_now at demand old new replies =
     (v : View) (s : State) (events : List ClientEvent) (rest : List Held) → Shows about keeps may_leave_now old v → StandsFor (bytes_of old) v s
     → IfSome (slice_get v.members at) (λ m. m.demands ≡ demand ∷ rest) → ArePutOut replies events
-    → (w : View) × Shows about keeps may_leave_now new w × IfSome (slice_get w.members at) (λ m. m.demands ≡ rest) × Goes (bytes_of old) v w events
+    → (w : View) × Shows about keeps may_leave_now new w × GoesTaking (bytes_of old) at rest v w events
+
+-- ---- a READ
+
+-- the request of a READ's token
+abbrev pub read_by : Owed → (offset len : ℕ) → Held
+read_by token offset len = record { session = token.session; cookie = token.cookie; request = Read offset len }
+
+-- The member ran, its node did so, and nothing else of it changed.
+pub record HasRead {S : Type 0} (Did : Seen S → Seen S → Out → Type 0) (replies : List GivenReply) (old new : Linked S) : Type 0 where
+  pub out : Out
+  pub runs : old.node.state.stopped ≡ None
+  pub did : Did old.node new.node out
+  pub told : out.replies ≡ replies
+  pub are : new ≡ record old { node = new.node }
+
+-- A READ of a clean range was answered at the known commit; another waits. The store was only read.
+pub record ReadsSo {S : Type 0} (premise : Type 0) (about : S → About) (keeps : S → List ℕ → Type 0) (moment : S → ℕ) (left_since : S → ℕ → List ℕ → Type 0) (offset len : ℕ) (token : Owed) (old new : Seen S) (out : Out) : Type 0 where
+  pub at_once : IsClean old.state.table offset len old.state.known → IsStepOver premise (keeps old.store) new.state out (λ volume. read_at_once volume offset len token old.state)
+  pub waits : ¬ IsClean old.state.table offset len old.state.known → IsStep old new out (read_asked offset len token old.state)
+  pub tells : about new.store ≡ about old.store
+  pub kept : premise → (volume : List ℕ) → keeps old.store volume → keeps new.store volume
+  pub any_moment : premise → (volume : List ℕ) → keeps old.store volume → LeavesOnly moment left_since old.store new.store (Means (meaning_with (about old.store) volume))
+
+-- why a READ's token comes back: its node refused it so
+abbrev pub IsUnreadAt : {S : Type 0} → (premise : Type 0) → (S → About) → (S → ℕ) → (S → List ℕ → Type 0) → (S → ℕ) → (S → ℕ → List ℕ → Type 0) → (offset len : ℕ) → List GivenReply → Refusal → Linked S → Linked S → Type 0
+IsUnreadAt premise about failures keeps moment left_since offset len replies refusal old new =
+    IsReadRefused about failures (HasOnlyRead premise about failures keeps moment left_since old.node.store new.node.store) (IsClean old.node.state.table offset len old.node.state.known) old.node new.node replies refusal
+    × (new ≡ record old { node = new.node })

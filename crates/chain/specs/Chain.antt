@@ -1,5 +1,5 @@
 -- What contracts see of a chain, what holds of every one, and when a call of it is of the one volume.
-use Rattle.std.specs.Prelude.{◌≡◌, ℕ, ◌+◌, ◌*◌, false, true, Some, List, [], ◌∷◌, All, IfSome, map, slice_get, slice_set}
+use Rattle.std.specs.Prelude.{◌≡◌, ℕ, ◌+◌, ◌*◌, Bool, ◌&&◌, false, true, Some, List, [], ◌∷◌, All, IfSome, map, slice_get, slice_set}
 use Rattle.std.specs.List.{AllZip, flat_map}
 use Rattle.std.specs.Option.{ForSome}
 use Rattle.board.specs.Seats.{BoardId}
@@ -12,7 +12,7 @@ use Rattle.volume.specs.declared.geometry.Geometry.{Geometry}
 use Rattle.chain_steps.specs.Node.{is_stopped}
 use Rattle.world_model.specs.Chain.{ArePutOut, StandsFor, Told, View}
 use Rattle.world_model.specs.Event.{ClientEvent}
-use Rattle.world_model.specs.Life.{Era, Happening, all_events}
+use Rattle.world_model.specs.Life.{Era, Happening, HeadNumbers, PutApplied, AckTaken, FrontRaised, BoardTells, MemberDoes, MemberTakes, RequestsSent, RequestsTakenUp, SessionBegins, SessionEnds, all_events}
 use Rattle.world_model.specs.Machine.{State}
 use Rattle.chain.specs.LoneBoard.{Words}
 use Rattle.chain.specs.Member.{IsFrontOf, IsMusterOf, IsShown, Linked, fronts_of, musters_of, receipts_of}
@@ -91,10 +91,29 @@ pub record RestsAt {S : Type 0} (at : ℕ) (old new : Chained S) : Type 0 where
   pub stopped : is_stopped member.node.state ≡ true
   pub same : new ≡ old
 
--- some things happen, one after another, and clients see these events of them all
+-- this is neither of sessions nor of what waits for a member
+abbrev pub is_inner : Happening → Bool
+is_inner (MemberTakes taking) = false
+is_inner (MemberDoes doing) = true
+is_inner HeadNumbers = true
+is_inner PutApplied = true
+is_inner AckTaken = true
+is_inner FrontRaised = true
+is_inner BoardTells = true
+is_inner SessionBegins = false
+is_inner SessionEnds = false
+is_inner RequestsSent = false
+is_inner RequestsTakenUp = false
+
+abbrev pub are_inner : List Happening → Bool
+are_inner [] = true
+are_inner (h ∷ hs) = is_inner h && are_inner hs
+
+-- some such things happen, one after another, and clients see these events of them all
 pub record Goes (size : ℕ) (v w : View) (events : List ClientEvent) : Type 0 where
   pub happenings : List Happening
   pub each : List (List ClientEvent)
+  pub inner : are_inner happenings ≡ true
   pub era : Era size v happenings w each
   pub all : all_events each ≡ events
 

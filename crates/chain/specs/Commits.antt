@@ -1,5 +1,5 @@
 -- What a member's commits, and its end, leave of it.
-use Rattle.std.specs.Prelude.{◌≡◌, ◌≢◌, ◌⊎◌, ◌↔◌, ℕ, true, None, Some, Option, Ok, Err, Result, List, [], IfNone, IfSome, slice_get, slice_set}
+use Rattle.std.specs.Prelude.{◌≡◌, ◌≢◌, ◌⊎◌, ◌↔◌, ℕ, true, None, Some, Option, Ok, Err, Result, List, [], Any, IfNone, IfSome, IsSomeAnd, slice_get, slice_set}
 use Rattle.disk_model.specs.Disk.{LeavesOnly}
 use Rattle.disk_model.specs.declared.error.DiskError.TheVariants.{ReadFault, WriteFault}
 use Rattle.disk_model.specs.Error.{MayTell}
@@ -10,9 +10,9 @@ use Rattle.gate_journal.specs.declared.batch.TheConstants.{MAX_NUMBER}
 use Rattle.local_store.specs.About.{About, HasRoom, IsOneLess, meaning_with, one_checkpoint_more}
 use Rattle.local_store.specs.Meaning.{Means}
 use Rattle.chain_steps.specs.Node.{Out, is_stopped}
-use Rattle.chain_steps.specs.Steps.{Begins, CanBegin, IsGroup, silent, stop}
+use Rattle.chain_steps.specs.Steps.{Begins, CanBegin, IsGroup, silent, stop, volume_at}
 use Rattle.chain_steps.specs.declared.cause.Cause.TheVariants.{Told}
-use Rattle.chain_core.specs.Commits.{HasBegun, HasRunOut, HasStoppedBy, HasWorked}
+use Rattle.chain_core.specs.Commits.{HasBegun, HasEnded, HasRunOut, HasStoppedBy, HasWorked}
 use Rattle.chain_core.specs.Node.{IsStep, Seen}
 use Rattle.chain_core.specs.Reads.{HasOnlyRead}
 use Rattle.world_model.specs.Chain.{Member}
@@ -85,6 +85,29 @@ pub record HasNoGroup {S : Type 0} (premise : Type 0) (about : S → About) (fai
   pub only_read : HasOnlyRead premise about failures keeps moment left_since old.node.store new.node.store
   pub are : new ≡ record old { node = record old.node { store = new.node.store } }
 
+-- ---- a commit ends
+
+-- the receipt that a member has then
+abbrev pub kept_of : Option Receipt → Option Receipt → Option Receipt
+kept_of None old = old
+kept_of (Some receipt) old = Some receipt
+
+-- The commit under way ended, and the receipt is kept; or none was under way; or memory ran out or the disk refused, and the member
+-- stopped.
+pub record HasEndedCommit {S : Type 0} (premise : Type 0) (about : S → About) (is_pending : S → ℕ → Type 0) (failures : S → ℕ) (keeps : S → List ℕ → Type 0) (replies : List GivenReply) (old new : Linked S) : Type 0 where
+  pub out : Out
+  pub given : Option Receipt
+  pub runs : old.node.state.stopped ≡ None
+  pub told : out.replies ≡ replies
+  pub are : new ≡ record old { node = new.node; receipt = kept_of given old.receipt }
+  pub idle : IfNone old.node.state.commit (IsStep old.node new.node out (silent old.node.state) × (given ≡ None))
+  pub ended : IfSome old.node.state.commit (λ commit. IfSome given (HasEnded about old.node new.node out commit))
+  pub stopped : IfSome old.node.state.commit (λ commit. IfNone given (HasRunOut about old.node new.node out ⊎ HasStoppedBy about failures (λ error. error ≢ ReadFault) old.node new.node out))
+  pub pends : IfSome old.node.state.commit (λ commit. IfSome given (λ receipt. (b : ℕ) → is_pending new.node.store b ↔ (is_pending old.node.store b ⊎ Any (λ image. image.block ≡ b) commit.images)))
+  pub still : IfSome old.node.state.commit (λ commit. IfNone given ((b : ℕ) → is_pending new.node.store b ↔ is_pending old.node.store b))
+  pub kept : premise → (volume : List ℕ) → keeps old.node.store volume → IfSome given (λ receipt. keeps new.node.store (volume_at volume old.node.state receipt.front))
+  pub fails : IfSome given (λ receipt. failures new.node.store ≡ failures old.node.store)
+
 -- ---- a receipt is posted
 
 -- The member runs and had a receipt, which is on the board now.
@@ -117,14 +140,32 @@ pub record PostsNone {S : Type 0} (at : ℕ) (old new : Chained S) : Type 0 wher
 
 -- ---- what a stop leaves
 
--- A stop at any moment of the call leaves of the store of the member at the place what means what the store kept before; which is, as
--- the member was shown before the call, some front from the durable one to the known commit, with the volume there.
-pub record LeavesAt {S : Type 0} (about : S → About) (keeps : S → List ℕ → Type 0) (may_leave_now : S → List ℕ → Type 0) (moment : S → ℕ) (left_since : S → ℕ → List ℕ → Type 0)
+-- a content means what the member's store kept, this volume at its front
+abbrev pub MeansOld : {S : Type 0} → (S → About) → Linked S → List ℕ → List ℕ → Type 0
+MeansOld about before volume c = Means (meaning_with (about before.node.store) volume) c
+
+-- or the volume at the front of the commit that was under way
+abbrev pub MeansEither : {S : Type 0} → (S → About) → Linked S → List ℕ → List ℕ → Type 0
+MeansEither about before volume c =
+    MeansOld about before volume c
+    ⊎ IsSomeAnd before.node.state.commit (λ commit. Means (meaning_with (record (about before.node.store) { front = commit.front }) (volume_at volume before.node.state commit.front)) c)
+
+-- A stop at any moment of the call leaves of the store of the member at the place what means that, of what the store kept before; which
+-- is, as the member was shown before the call, some front from the durable one to the known commit, with the volume there.
+pub record StopsAt {S : Type 0} (IsMeant : Linked S → List ℕ → List ℕ → Type 0) (about : S → About) (keeps : S → List ℕ → Type 0) (may_leave_now : S → List ℕ → Type 0) (moment : S → ℕ) (left_since : S → ℕ → List ℕ → Type 0)
     (at : ℕ) (old new : Chained S) : Type 0 where
   pub before : Linked S
   pub after : Linked S
   pub here : slice_get old.members at ≡ Some before
   pub there : slice_get new.members at ≡ Some after
-  pub means : (volume : List ℕ) → keeps before.node.store volume → LeavesOnly moment left_since before.node.store after.node.store (Means (meaning_with (about before.node.store) volume))
+  pub means : (volume : List ℕ) → keeps before.node.store volume → LeavesOnly moment left_since before.node.store after.node.store (IsMeant before volume)
   pub leaves : (shown : Member) → IsShown about keeps may_leave_now (bytes_of old) before shown
       → LeavesOnly moment left_since before.node.store after.node.store (IsLeft (about before.node.store) shown.volume before.node.state)
+
+-- the content means what it meant before
+abbrev pub LeavesAt : {S : Type 0} → (S → About) → (S → List ℕ → Type 0) → (S → List ℕ → Type 0) → (S → ℕ) → (S → ℕ → List ℕ → Type 0) → ℕ → Chained S → Chained S → Type 0
+LeavesAt about keeps may_leave_now moment left_since at old new = StopsAt (MeansOld about) about keeps may_leave_now moment left_since at old new
+
+-- or what the commit makes of it
+abbrev pub EndsAt : {S : Type 0} → (S → About) → (S → List ℕ → Type 0) → (S → List ℕ → Type 0) → (S → ℕ) → (S → ℕ → List ℕ → Type 0) → ℕ → Chained S → Chained S → Type 0
+EndsAt about keeps may_leave_now moment left_since at old new = StopsAt (MeansEither about) about keeps may_leave_now moment left_since at old new

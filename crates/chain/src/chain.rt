@@ -1,14 +1,18 @@
-ghost use Rattle.std.specs.Prelude.{◌≡◌, length};
+ghost use Rattle.std.specs.Prelude.{◌≡◌, ◌<◌, IfSome, length, slice_get};
+ghost use Rattle.chain_steps.specs.Node.{is_stopped};
 
 use crate::lone_board::LoneBoard;
 use crate::member::Member;
+use board::Board;
+use chain_steps::Cause;
 use configurations::Record;
+use gate_journal::Slot;
 use local_store::StoreLike;
 use std::alloc::Global;
 use std::marker::Model;
 use volume::Geometry;
 
-/// A chain of one to eight members.
+/// A chain of one to eight members. It has no `Drop`, since it holds tokens: `abandon` ends it.
 pub struct Chain<S: StoreLike> {
     pub(crate) alloc: Global,
     pub(crate) board: LoneBoard,
@@ -48,5 +52,43 @@ impl<S: StoreLike + Drop> Chain<S> {
         ensures { result ≡ length self.now.members }
     {
         self.members.len()
+    }
+
+    /// The sizes of its volume.
+    pub fn geometry(&self) -> Geometry
+        ensures { result ≡ self.now.geometry }
+    {
+        self.geometry
+    }
+
+    /// Its board.
+    pub fn board(&self) -> &Board
+        ensures { result.now ≡ self.now.id }
+    {
+        self.board.board()
+    }
+
+    /// The slot of the member at a place.
+    pub fn slot(&self, at: usize) -> Slot
+        requires { at < length self.now.members }
+        ensures { IfSome (slice_get self.now.members at) (λ m. result ≡ m.node.state.place.slot) }
+    {
+        self.record.members()[at].slot
+    }
+
+    /// Why the member at a place stopped. `None` while it runs.
+    pub fn cause(&self, at: usize) -> Option<Cause>
+        requires { at < length self.now.members }
+        ensures { IfSome (slice_get self.now.members at) (λ m. result ≡ m.node.state.stopped) }
+    {
+        self.members[at].cause()
+    }
+
+    /// Whether the member at a place has stopped.
+    pub fn is_stopped(&self, at: usize) -> bool
+        requires { at < length self.now.members }
+        ensures { IfSome (slice_get self.now.members at) (λ m. result ≡ is_stopped m.node.state) }
+    {
+        self.members[at].cause().is_some()
     }
 }

@@ -1,12 +1,14 @@
 //! Commits, and what the store does beside them.
-ghost use Rattle.std.specs.Prelude.{◌≡◌, ◌⊎◌, ◌<◌, ◌↔◌, [], false, length, true, List, None, ℕ, IfErr, IfOk, IsErrOf};
+ghost use Rattle.std.specs.Prelude.{◌≡◌, ◌⊎◌, ◌<◌, ◌↔◌, [], false, length, true, List, None, ℕ, IfErr, IfNone, IfOk, IfSome, IsErrOf};
+ghost use Rattle.std.specs.Option.{ForSome};
 ghost use Rattle.disk_model.specs.Disk.{LeavesOnly};
 ghost use Rattle.gate_journal.specs.declared.batch.TheConstants.{MAX_NUMBER};
 ghost use Rattle.local_store.specs.About.{meaning_with};
 ghost use Rattle.local_store.specs.Meaning.{Means};
+ghost use Rattle.chain_core.specs.Node.{IsUnderWay};
 ghost use Rattle.chain_steps.specs.Node.{is_stopped};
 ghost use Rattle.chain.specs.Chain.{Changes, IsOfOneVolume, RestsAt};
-ghost use Rattle.chain.specs.Commits.{HasBegunCommits, HasCheckpointed, HasNoGroup, HasNoNumber, HasNoReceipt, HasPosted, HasTicked, IsUsedUpAt, LeavesAt, PostsAt, PostsNone, replies_of};
+ghost use Rattle.chain.specs.Commits.{EndsAt, HasBegunCommits, HasCheckpointed, HasEndedCommit, HasNoGroup, HasNoNumber, HasNoReceipt, HasPosted, HasTicked, IsUsedUpAt, LeavesAt, MeansEither, PostsAt, PostsNone, replies_of};
 ghost use Rattle.chain.specs.Member.{HasCalled};
 
 use crate::chain::Chain;
@@ -77,6 +79,31 @@ impl<S: StoreLike + Drop> Member<S> {
             replies,
         } = out;
         Ok(replies)
+    }
+
+    /// Ends the commit under way, and keeps its receipt: an older one that wasn't posted is gone.
+    /// `None` once stopped.
+    pub(crate) fn end_commit(&mut self) -> Option<Vec<Served>>
+        ensures done { IfSome result (λ replies. HasEndedCommit S.keeps_model S.about S.is_pending S.failures S.keeps replies.items self.old self.new) }
+        ensures any_moment { S.keeps_model → (volume : List ℕ) → S.keeps self.old.node.store volume
+            → LeavesOnly S.moment S.may_have_left_since self.old.node.store self.new.node.store (MeansEither S.about self.old volume) }
+        ensures stopped { IfNone result ((is_stopped self.old.node.state ≡ true) × (self.new ≡ self.old)) }
+        ensures under_way { ForSome self.old.node.state.commit (IsUnderWay (S.about self.old.node.store) self.old.node.state) }
+    {
+        self.node.sound();
+        if self.node.stopped().is_some() {
+            return None;
+        }
+        let (out, given) = self.node.end_commit();
+        let Out {
+            messages: _,
+            replies,
+        } = out;
+        let Some(receipt) = given else {
+            return Some(replies);
+        };
+        self.receipt = Some(receipt);
+        Some(replies)
     }
 
     /// Posts the receipt that it kept, which is gone then. `false` where there is none, or it has
@@ -151,6 +178,23 @@ impl<S: StoreLike + Drop> Chain<S> {
         ensures one_volume { S.keeps_model → IsOfOneVolume S.about S.keeps S.may_leave_now self.old self.new (replies_of (λ r. r.items) result) }
     {
         self.members[at].begin_commits(most)
+    }
+
+    /// The member at a place ends the commit under way, and keeps its receipt until it is posted: an
+    /// older one is gone. Where none is under way, nothing changes. Where memory runs out or the
+    /// disk refuses, it stops.
+    ///
+    /// `None` once stopped: nothing changed.
+    pub fn end_commit(&mut self, at: usize) -> Option<Vec<Served>>
+        requires { at < length self.old.members }
+        ensures ended { IfSome result (λ replies. Changes at self.old self.new (HasEndedCommit S.keeps_model S.about S.is_pending S.failures S.keeps replies.items)) }
+        ensures stopped { IfNone result (RestsAt at self.old self.new) }
+
+        // A stop at any moment of the call leaves what the member was shown with, or what the commit makes of it.
+        ensures any_moment { S.keeps_model → EndsAt S.about S.keeps S.may_leave_now S.moment S.may_have_left_since at self.old self.new }
+        ensures one_volume { S.keeps_model → IfSome result (λ replies. IsOfOneVolume S.about S.keeps S.may_leave_now self.old self.new replies.items) }
+    {
+        self.members[at].end_commit()
     }
 
     /// The member at a place posts the receipt that it kept, which is gone then. `false` where

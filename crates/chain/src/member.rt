@@ -4,7 +4,7 @@ ghost use Rattle.std.specs.Prelude.{◌≡◌};
 use crate::muster::Muster;
 use board::Front;
 use chain_core::Node;
-use chain_steps::Envelope;
+use chain_steps::{Cause, Envelope};
 use gate_journal::Synced;
 use local_store::StoreLike;
 use std::collections::VecDeque;
@@ -51,4 +51,29 @@ impl<S: StoreLike> Model for Member<S> {
       muster = m.muster;
       receipt = m.receipt;
     }) };
+}
+
+impl<S: StoreLike + Drop> Member<S> {
+    /// Why it stopped. `None` while it runs.
+    pub(crate) fn cause(&self) -> Option<Cause>
+        ensures { result ≡ self.now.node.state.stopped }
+    {
+        self.node.stopped()
+    }
+
+    /// Gives the member up, and its store back. The tokens that wait are abandoned.
+    pub(crate) fn abandon(self) -> S
+        ensures { result ≡ self.node.store }
+    {
+        let Member {
+            node,
+            puts: _,
+            acks: _,
+            submits: _,
+            front: _,
+            muster: _,
+            receipt: _,
+        } = self;
+        node.abandon()
+    }
 }

@@ -77,6 +77,34 @@ impl<S: StoreLike + Drop> Chain<S> {
             members,
         })
     }
+
+    /// Gives the chain up, and its stores back, from the head's to the tail's. The tokens that wait are abandoned.
+    ///
+    /// Where memory runs out, the stores are dropped.
+    pub fn abandon(self) -> Result<Vec<S>, AllocError>
+        ensures { IfOk result (λ stores. stores.items ≡ map (λ m. m.node.store) self.members) }
+    {
+        let Chain {
+            alloc,
+            board: _,
+            record: _,
+            geometry: _,
+            mut members,
+        } = self;
+        let Ok(mut stores) = Vec::with_capacity(alloc, members.len()) else {
+            while let Some(member) = members.pop() {
+                drop(member.abandon());
+            }
+            members.destroy_empty();
+            return Err(AllocError);
+        };
+        while !members.is_empty() {
+            let member = members.remove(0);
+            stores.push_reserved(member.abandon());
+        }
+        members.destroy_empty();
+        Ok(stores)
+    }
 }
 
 /// The members of these stores, each of which was told the record. Where memory runs out, it hands the stores back.

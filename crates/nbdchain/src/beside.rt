@@ -4,12 +4,12 @@ use bytes::Bytes;
 use disk_model::MemDisk;
 use flush_barrier::SessionId;
 use gate_journal::Slot;
+use lone_world::{Answer, Output, Step, World};
 use std::alloc::{AllocError, Global};
 use std::collections::VecDeque;
 use std::process::Abort;
 use std::test::Fail;
 use volume::{Geometry, Write};
-use world::{Answer, Output, Step, World};
 use world_model::{Machine, Request};
 
 /// The bytes of a request before its payload.

@@ -11,14 +11,14 @@ use bytes::Bytes;
 use disk_model::{Event, MemDisk, Script};
 use flush_barrier::SessionId;
 use gate_journal::Slot;
+use lone_world::{
+    Answer, Answers, MemberState, Step, World, plays_are_of_one_volume, refusals_have_a_cause,
+    restarts_stand, sessions_are_lawful, what_is_left_is_durable,
+};
 use std::alloc::Global;
 use std::process::Abort;
 use std::test::Fail;
 use volume::{Geometry, Write};
-use world::{
-    Answer, Answers, MemberState, Step, World, plays_are_of_one_volume, refusals_have_a_cause,
-    restarts_stand, sessions_are_lawful, what_is_left_is_durable,
-};
 use world_model::{Request, flushes_owe, owed_stays, reads_are_fresh, runs_go_on, runs_keep_sound};
 
 /// A world with the machine beside it.
@@ -285,7 +285,7 @@ fn worlds_on_disks_that_fail(rt: HostRuntime) -> Result<(), Fail> {
     ] {
         assert_eq!(rt; refusal_on(alloc, event)?, wanted, "{event:?}");
     }
-    assert_eq!(rt; world::Refusal::Memory.number(), Some(100));
+    assert_eq!(rt; lone_world::Refusal::Memory.number(), Some(100));
     Ok(())
 }
 

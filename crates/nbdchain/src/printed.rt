@@ -3,10 +3,10 @@ use crate::client::ScriptedClient;
 use crate::refusal::Refusal;
 use flush_barrier::SessionId;
 use gate_journal::Slot;
+use lone_world::Output;
 use std::alloc::Global;
 use std::collections::BTreeMap;
 use std::io::Write;
-use world::Output;
 
 /// What a session put out during a command.
 #[derive(Debug, Drop)]

@@ -6,12 +6,12 @@ use crate::script::{MemberAct, ScriptCommand, parse};
 use disk_model::{Cut, Event, MemDisk, Script};
 use flush_barrier::SessionId;
 use gate_journal::{Refusal as JournalRefusal, Slot};
+use lone_world::{Answer, Answers, MemberState, Step, World};
 use std::alloc::Global;
 use std::collections::BTreeMap;
 use std::io::{BufRead, Write};
 use std::mem;
 use volume::Geometry;
-use world::{Answer, Answers, MemberState, Step, World};
 
 /// The bytes of the member's journal area, which is its whole disk.
 pub const AREA: u32 = 4_194_304;

@@ -3,10 +3,10 @@ use crate::script::parse;
 use disk_model::{MemDisk, Script};
 use flush_barrier::SessionId;
 use gate_journal::Slot;
+use lone_world::{Answer, MemberState, Step, World};
 use std::alloc::Global;
 use std::test::Fail;
 use volume::Geometry;
-use world::{Answer, MemberState, Step, World};
 
 /// A script, and what it prints.
 pub(crate) struct Row {
