@@ -1,0 +1,318 @@
+-- What a call to one client is for all sessions: lemmas.
+use Rattle.std.proofs.Common.{◌≡◌, ℕ, ◌<◌, Bool, true, false, Option, Some, None, List, [], ◌∷◌, ◌++◌, length, map, set, get_or, refl, sym, ◌∙◌, ap, subst, inl, inr}
+use Rattle.std.specs.Prelude.{All, IfSome, if◌then◌else◌, slice_get}
+use Rattle.std.specs.List.{AllPairs}
+use Rattle.std.proofs.Math.Seq.{map-set_same}
+use Rattle.std.proofs.lemmas.List.{map-append, set-get_or}
+use Rattle.std.proofs.lemmas.List.Elements.{All-head, All-push, All-set, All-tail, All-weaker}
+use Rattle.std.proofs.lemmas.List.Quantifiers.{all_pairs_push}
+use Rattle.std.proofs.lemmas.Option.{get_or_from_slice_get, same_Some, slice_get_read, slice_get_within}
+use Rattle.board.specs.Seats.{BoardId}
+use Rattle.flush_barrier.specs.Reply.{GivenReply}
+use Rattle.flush_barrier.specs.declared.session_id.SessionId.{SessionId}
+use Rattle.nbd_session.specs.Begun.{greeted, greeted_holds_none}
+use Rattle.nbd_session.specs.Demand.{Asked, IsAskedInside, asked_by, owed_by}
+use Rattle.nbd_session.specs.Laws.{HistoriesAreLawful, HoldsInOneWay, OutputIsLawful, OutputKeeps, RepliesAreLawful, RepliesKeep}
+use Rattle.nbd_session.specs.Progress.{is_over, progress_in}
+use Rattle.nbd_session.specs.Replies.{WireReply, answered, is_owed, reply_seen}
+use Rattle.nbd_session.specs.Session.{Holds, MakesFirst, State}
+use Rattle.nbd_session.specs.declared.answer.Export.{Export}
+use Rattle.nbd_session.specs.declared.demand.Demand.{Demand}
+use Rattle.world_model.specs.Chain.{ArePutOut, reply_event}
+use Rattle.world_model.specs.Event.{ClientEvent}
+use Rattle.world_model.specs.Requests.{Held}
+use Rattle.clients.specs.Calls.{AreAtPlaces, BeginsToKeep, Delivers, EndsInput, HasNothing, IsDemandOf, IsHanded, IsSameClient, PutsOut, TakesReply, TakesUp, bytes_out, ended, has_waiting}
+use Rattle.clients.specs.Clients.{AreKept, AreSessions, Client, GoOn, HasClient, IsOf, Keeps, Sessions, held_of, held_under, no_one, of_session, place_of}
+use Rattle.clients.specs.declared.output.Output.{Output}
+use Rattle.clients.proofs.Histories.{go_on_answered, go_on_ended, go_on_handed, go_on_none, go_on_still}
+use Rattle.clients.proofs.Places.{IsApart, apart_by_ids, ids_stay, none_there, place_is}
+use Rattle.clients.proofs.Zips.{zip_get, zip_push, zip_set, zip_swap}
+
+-- ---- the sessions stay sessions, at their places
+
+-- what a call reads at a place
+pub read_at : (old now : Sessions) (place : ℕ) (client : Client) → old ≡ now → place < length now.clients
+    → client ≡ get_or old.clients place client → slice_get old.clients place ≡ Some client
+read_at old now place client same within is =
+    slice_get_read old.clients (length now.clients) place client (ap (λ (s : Sessions). length s.clients) (sym same)) within is
+
+-- where it looked
+pub found_at : (id : SessionId) (old now : Sessions) (place : ℕ) → old ≡ now → Some place ≡ place_of id now.clients
+    → place_of id old.clients ≡ Some place
+found_at id old now place same found = ap (λ (s : Sessions). place_of id s.clients) same ∙ sym found
+
+-- the client that has the number is this one
+pub is_the_client : (id : SessionId) (cs : List Client) (place : ℕ) (client : Client) (Is : Client → Type 0) → place_of id cs ≡ Some place
+    → slice_get cs place ≡ Some client → HasClient id cs Is → Is client
+is_the_client id cs place client Is there here has =
+    let at : has.place ≡ place = same_Some has.place place (sym has.there ∙ there) in
+    let is : has.client ≡ client = same_Some has.client client (sym has.here ∙ ap (slice_get cs) at ∙ here) in
+    subst Is is has.is
+
+pub same_client : (before after : Client) → after ≡ before → IsSameClient before after
+same_client before after is = record {
+  id = ap (λ (c : Client). c.session.id) is;
+  board = ap (λ (c : Client). c.session.board) is;
+  export = ap (λ (c : Client). c.session.export) is;
+  at = ap (λ (c : Client). c.at) is;
+}
+
+-- put back as it was
+pub set_not : (cs : List Client) (place : ℕ) (before after : Client) → slice_get cs place ≡ Some before → after ≡ before
+    → set cs place after ≡ cs
+set_not cs place before after here is = ap (set cs place) (is ∙ sym (get_or_from_slice_get cs place before before here))
+    ∙ set-get_or cs place before
+
+all_at : (P : Client → Type 0) (cs : List Client) (place : ℕ) (client : Client) → slice_get cs place ≡ Some client → All P cs → P client
+all_at P cs place client here all =
+    subst P (get_or_from_slice_get cs place client client here) (all place client (slice_get_within cs place client here))
+
+module _ (old : Sessions) (place : ℕ) (before after : Client) (here : slice_get old.clients place ≡ Some before) (same : IsSameClient before after) where
+  -- the sessions with this client changed
+  abbrev pub changed : Sessions
+  changed = record old { clients = set old.clients place after }
+
+  pub changed_at_places : AreAtPlaces old changed
+  changed_at_places = record {
+    board = refl;
+    export = refl;
+    ids = ids_stay old.clients place before after here same.id;
+    places = map-set_same (λ (c : Client). c.at) old.clients place after before (same.at
+        ∙ ap (λ (c : Client). c.at) (sym (get_or_from_slice_get old.clients place before before here)));
+  }
+
+  pub changed_are_sessions : AreSessions old → AreSessions changed
+  changed_are_sessions are =
+      let own = all_at (IsOf old.board old.export) old.clients place before here are.own in
+      record {
+        apart = apart_by_ids (set old.clients place after) old.clients (ids_stay old.clients place before after here same.id) are.apart;
+        own = All-set (IsOf old.board old.export) old.clients place after (record {
+          own_board = same.board
+              ∙ own.own_board;
+          own_export = same.export ∙ own.own_export;
+        }) are.own;
+      }
+
+  pub changed_not : after ≡ before → changed ≡ old
+  changed_not is =
+      ap (λ (cs : List Client). let s : Sessions = record old { clients = cs } in s) (set_not old.clients place before after here is)
+
+pub at_same_places : (old : Sessions) → AreAtPlaces old old
+at_same_places old = record { board = refl; export = refl; ids = refl; places = refl }
+
+-- a client that begins a session of another number than all
+pub begun_are_sessions : (old : Sessions) (client : Client) → place_of client.session.id old.clients ≡ None
+    → IsOf old.board old.export client → AreSessions old → AreSessions (record old { clients = old.clients ++ client ∷ [] })
+begun_are_sessions old client none own are = record {
+  apart = all_pairs_push IsApart old.clients client are.apart (none_there client.session.id old.clients none);
+  own = All-push (IsOf old.board old.export) old.clients client are.own own;
+}
+
+-- ---- what they keep
+
+pub keeps_ended : (client : Client) → Keeps (ended client) []
+unfolding progress_in
+keeps_ended client = ([], ((ended client).session, record { steps = 0; there = refl; done = inr refl }), refl)
+
+pub keeps_answered : RepliesKeep → (client : Client) (reply : WireReply) (held : List Held) → Keeps client held
+    → Keeps (record client { session = answered client.session reply }) held
+keeps_answered replies client reply held keeps = (keeps.0, replies client.session reply keeps.0 keeps.1, keeps.2)
+
+pub keeps_handed : OutputKeeps → (client after : Client) → after.session ≡ record client.session { output = [] } → (held : List Held)
+    → Keeps client held → Keeps after held
+keeps_handed output client after is held keeps = (
+  keeps.0,
+  subst (λ (s : State). Holds s keeps.0) (sym is) (output client.session keeps.0 keeps.1),
+  keeps.2 ∙ ap (λ (s : State). map (held_under s.id) keeps.0) (sym is),
+)
+
+pub begun_keeps : (old : List Client) (board : BoardId) (id : SessionId) (export : Export) (at : ℕ) (client : Client)
+    → client.session ≡ greeted board id export → BeginsToKeep old (old ++ client ∷ [])
+begun_keeps old board id export at client is kept are =
+    zip_push Keeps old kept client [] are ([], subst (λ (s : State). Holds s []) (sym is) (greeted_holds_none board id export), refl)
+
+pub stay_kept : (old : List Client) (place : ℕ) (before after : Client) → slice_get old place ≡ Some before
+    → ((held : List Held) → Keeps before held → Keeps after held)
+    → (kept : List (List Held)) → AreKept old kept → AreKept (set old place after) kept
+stay_kept old place before after here stays kept are = zip_swap Keeps old kept place before after are here stays
+
+pub forget_kept : (old : List Client) (place : ℕ) (after : Client) → Keeps after [] → (kept : List (List Held)) → AreKept old kept
+    → AreKept (set old place after) (set kept place [])
+forget_kept old place after none kept are = zip_set Keeps old kept place after [] are none
+
+-- the requests of demands of the session
+held_all : (id : SessionId) (demands : List Demand) → All (λ demand. (owed_by demand).session ≡ id) demands
+    → map held_of demands ≡ map (held_under id) (map asked_by demands)
+held_all id [] all = refl
+held_all id (demand ∷ demands) all =
+    let P : Demand → Type 0 = λ one. (owed_by one).session ≡ id in
+    ap (λ (one : Held). one ∷ map held_of demands) (ap (λ (i : SessionId). held_under i (asked_by demand)) (All-head P demand demands all))
+    ∙ ap (λ (l : List Held). held_under id (asked_by demand) ∷ l) (held_all id demands (All-tail P demand demands all))
+
+pub takes_up : HoldsInOneWay
+    → (id : SessionId) (old : List Client) (place : ℕ) (before after : Client) (piece : List ℕ) (demands : List Demand)
+    → place_of id old ≡ Some place → slice_get old place ≡ Some before → before.session.id ≡ id → after.session.id ≡ id
+    → MakesFirst before.session piece after.session (map asked_by demands) → (board : BoardId) (size : ℕ)
+    → All (IsDemandOf id board size) demands
+    → TakesUp id demands old (set old place after)
+takes_up one_way id old place before after piece demands there here is same first board size of_session kept are =
+    let own =
+    All-weaker (IsDemandOf id board size) (λ demand. (owed_by demand).session ≡ id)
+    (λ demand one. one.own_session) demands of_session in
+    let at = zip_get Keeps old kept place before are here in
+    let asked : List Asked = at.2.0 in
+    let all : asked ≡ first.held = one_way before.session asked first.held at.2.1 first.holds in
+    let held_is : at.0 ≡ map (held_under id) first.held = at.2.2 ∙ ap (λ (i : SessionId). map (held_under i) asked) is
+    ∙ ap (map (held_under id)) all in
+    record {
+      place = place;
+      held = at.0;
+      more = map (held_under id) first.more;
+      rest = map (held_under id) first.rest;
+      there = there;
+      here = at.1;
+      whole =
+          ap (λ (l : List Held). l ++ map (held_under id) first.more) held_is
+          ∙ sym (map-append (held_under id) first.held first.more)
+          ∙ ap (map (held_under id)) first.whole
+          ∙ map-append (held_under id) (map asked_by demands) first.rest
+          ∙ ap (λ (l : List Held). l ++ map (held_under id) first.rest) (sym (held_all id demands own));
+      keeps =
+          zip_set Keeps old kept place after (map (held_under id) first.rest) are
+          (first.rest, first.keeps, ap (λ (i : SessionId). map (held_under i) first.rest) (sym same));
+    }
+
+-- ---- bytes come in
+
+-- what its session's demands are for the board and the export of all
+pub demands_of : (id : SessionId) (old : Sessions) (place : ℕ) (before : Client) (demands : List Demand) → AreSessions old
+    → place_of id old.clients ≡ Some place → slice_get old.clients place ≡ Some before
+    → All (IsDemandOf before.session.id before.session.board before.session.export.size) demands
+    → All (IsDemandOf id old.board old.export.size) demands
+demands_of id old place before demands are there here all =
+    let own = all_at (IsOf old.board old.export) old.clients place before here are.own in
+    All-weaker (IsDemandOf before.session.id before.session.board before.session.export.size) (IsDemandOf id old.board old.export.size)
+    (λ demand is. record {
+      own_session = is.own_session ∙ place_is id old.clients place before there here;
+      own_board = is.own_board ∙ own.own_board;
+      unnumbered = is.unnumbered;
+      inside = subst (λ (export : Export). IsAskedInside export.size (asked_by demand)) own.own_export is.inside;
+    })
+    demands all
+
+-- ---- input ends
+
+pub ends_same : (before after : Client) → EndsInput before after → IsSameClient before after
+ends_same before after did = subst (IsSameClient before) (sym did.are) (record { id = refl; board = refl; export = refl; at = refl })
+
+pub end_same : (result : Bool) (before after : Client) → (result ≡ true → EndsInput before after)
+    → (result ≡ false → (is_over before.session.phase ≡ true) × (after ≡ before)) → IsSameClient before after
+end_same true before after done idle = ends_same before after (done refl)
+end_same false before after done idle = same_client before after (idle refl).1
+
+-- ---- what waits goes out
+
+pub handed_same : (output : Output) (before after : Client) → IsHanded output before after → IsSameClient before after
+handed_same output before after did =
+    subst (IsSameClient before) (sym did.are) (record { id = refl; board = refl; export = refl; at = refl })
+
+module _ (before after : Client) where
+  pub put_same : (result : Option Output) → IfSome result (λ output. IsHanded output before after)
+      → (result ≡ None → HasNothing before after) → IsSameClient before after
+  put_same None out none = same_client before after (none refl).same
+  put_same (Some output) out none = handed_same output before after out
+
+  pub put_keeps : OutputKeeps → (result : Option Output) → IfSome result (λ output. IsHanded output before after)
+      → (result ≡ None → HasNothing before after) → (held : List Held) → Keeps before held → Keeps after held
+  put_keeps laws None out none held keeps = subst (λ (c : Client). Keeps c held) (sym (none refl).same) keeps
+  put_keeps laws (Some output) out none held keeps = keeps_handed laws before after (ap (λ (c : Client). c.session) out.are) held keeps
+
+module _ (id : SessionId) (old : Sessions) (place : ℕ) (before after : Client) (there : place_of id old.clients ≡ Some place) (here : slice_get old.clients place ≡ Some before) where
+  pub puts_out : (result : Option Output) → IfSome result (λ output. IsHanded output before after)
+      → (result ≡ None → HasNothing before after)
+      → PutsOut id old result (record old { clients = set old.clients place after })
+  puts_out None out none =
+      let nothing = none refl in (
+        λ has. let waits : has_waiting before ≡ true =
+            is_the_client id old.clients place before (λ client. has_waiting client ≡ true) there here has in
+            let none_waits : has_waiting before ≡ false = nothing.none in absurd cc,
+        changed_not old place before after here (same_client before after nothing.same) nothing.same,
+      )
+  puts_out (Some output) out none = record {
+    place = place;
+    before = before;
+    after = after;
+    there = there;
+    here = here;
+    did = out;
+    are = refl;
+  }
+
+pub put_goes_on : (cs : List Client) → AllPairs IsApart cs → (id : SessionId) (place : ℕ) (before after : Client)
+    → place_of id cs ≡ Some place → slice_get cs place ≡ Some before → OutputIsLawful
+    → (result : Option Output) → IfSome result (λ output. IsHanded output before after) → (result ≡ None → HasNothing before after)
+    → GoOn cs (set cs place after) no_one (of_session id (bytes_out result)) no_one []
+put_goes_on cs apart id place before after there here laws None out none =
+    subst (λ (l : List Client). GoOn cs l no_one (of_session id []) no_one []) (sym (set_not cs place before after here (none refl).same))
+    (go_on_none cs id)
+put_goes_on cs apart id place before after there here laws (Some output) out none =
+    subst (λ (bytes : List ℕ). GoOn cs (set cs place after) no_one (of_session id bytes) no_one []) (sym out.bytes)
+    (go_on_handed cs apart id place before after there here (handed_same output before after out).id laws
+    (ap (λ (c : Client). c.session) out.are))
+
+-- ---- a reply comes
+
+pub taken_same : (reply : GivenReply) (before after : Client) (events : List ClientEvent) → TakesReply reply before after events
+    → IsSameClient before after
+taken_same reply before after events (inl put) =
+    subst (IsSameClient before) (sym put.0) (record { id = refl; board = refl; export = refl; at = refl })
+taken_same reply before after events (inr gave_up) =
+    subst (IsSameClient before) (sym gave_up.1) (record { id = refl; board = refl; export = refl; at = refl })
+
+-- a reply that is owed is put out
+put_out_if : (owed : Bool) (reply : GivenReply) → ArePutOut (reply ∷ []) (if owed then reply_event reply ∷ [] else [])
+put_out_if true reply = inr ([], refl, refl)
+put_out_if false reply = inl refl
+
+module _ (reply : GivenReply) (old : Sessions) (are : AreSessions old) (place : ℕ) (before after : Client)
+    (there : place_of reply.session old.clients ≡ Some place) (here : slice_get old.clients place ≡ Some before) where
+  pub delivers : HistoriesAreLawful → RepliesAreLawful → RepliesKeep → (events : List ClientEvent) → TakesReply reply before after events
+      → Delivers reply old (record old { clients = set old.clients place after }) events
+  delivers histories replies keep events (inl put) =
+      let same = taken_same reply before after events (inl put) in
+      let session : after.session ≡ answered before.session (reply_seen reply) = ap (λ (c : Client). c.session) put.0 in
+      record {
+        did = inl (record { place = place; before = before; after = after; there = there; here = here; did = inl put; are = refl });
+        put_out = subst (ArePutOut (reply ∷ [])) (sym put.1) (put_out_if (is_owed before.session.phase before.session.in_flight) reply);
+        keeps = λ kept had. inl (stay_kept old.clients place before after here
+            (λ held keeps. subst (λ (c : Client). Keeps c held) (sym put.0)
+            (keeps_answered keep before (reply_seen reply) held keeps)) kept had);
+        lawful = subst (λ (e : List ClientEvent). GoOn old.clients (set old.clients place after) no_one no_one no_one e) (sym put.1)
+            (go_on_answered old.clients are.apart reply.session place before after there here same.id replies reply refl session);
+        places = changed_at_places old place before after here same;
+      }
+  delivers histories replies keep events (inr gave_up) =
+      let same = taken_same reply before after events (inr gave_up) in
+      record {
+        did = inl (record { place = place; before = before; after = after; there = there; here = here; did = inr gave_up; are = refl });
+        put_out = inl gave_up.2;
+        keeps =
+            λ kept had. inr (
+              place,
+              forget_kept old.clients place after
+                  (subst (λ (c : Client). Keeps c []) (sym gave_up.1) (keeps_ended before)) kept had,
+            );
+        lawful = subst (λ (e : List ClientEvent). GoOn old.clients (set old.clients place after) no_one no_one no_one e) (sym gave_up.2)
+            (go_on_ended old.clients are.apart reply.session place before after there here same.id histories
+            (ap (λ (c : Client). c.session) gave_up.1));
+        places = changed_at_places old place before after here same;
+      }
+
+pub drops : (reply : GivenReply) (old : Sessions) → place_of reply.session old.clients ≡ None → Delivers reply old old []
+drops reply old none = record {
+  did = inr (record { none = none; same = refl; unseen = refl });
+  put_out = inl refl;
+  keeps = λ kept are. inl are;
+  lawful = go_on_still old.clients;
+  places = at_same_places old;
+}

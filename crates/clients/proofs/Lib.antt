@@ -1,0 +1,4 @@
+pub mod CallSteps
+pub mod Histories
+pub mod Places
+pub mod Zips

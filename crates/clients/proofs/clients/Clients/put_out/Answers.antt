@@ -1,0 +1,25 @@
+use Rattle.clients.proofs.CallSteps.{changed_at_places, found_at, put_goes_on, put_keeps, put_same, puts_out, read_at, stay_kept}
+use Rattle.clients.proofs.clients.Clients.put_out.Goals as goal
+
+pub returns-clause-out : goal.returns-clause-out
+returns-clause-out c = rw (← c.self.view_is)
+    (let here = read_at _ _ c.in_ok-place.place _ c.self.view_is c.in_ok-place.ensures.within c.index_mut.ensures.value in
+    let there = found_at c.args.id _ _ c.in_ok-place.place c.self.view_is c.in_ok-place.ensures.place in
+    puts_out c.args.id _ c.in_ok-place.place _ _ there here c.put_out.result c.put_out.ensures.out c.put_out.ensures.nothing)
+
+pub returns-clause-places : goal.returns-clause-places
+returns-clause-places c = rw (← c.self.view_is)
+    (let here = read_at _ _ c.in_ok-place.place _ c.self.view_is c.in_ok-place.ensures.within c.index_mut.ensures.value in
+    changed_at_places _ c.in_ok-place.place _ _ here (put_same _ _ c.put_out.result c.put_out.ensures.out c.put_out.ensures.nothing))
+
+pub returns-clause-keeps : goal.returns-clause-keeps
+returns-clause-keeps c = rw (← c.self.view_is)
+    (let here = read_at _ _ c.in_ok-place.place _ c.self.view_is c.in_ok-place.ensures.within c.index_mut.ensures.value in
+    stay_kept _ c.in_ok-place.place _ _ here
+    (put_keeps _ _ c.requests_are_held.ensures.output c.put_out.result c.put_out.ensures.out c.put_out.ensures.nothing))
+
+pub returns-clause-lawful : goal.returns-clause-lawful
+returns-clause-lawful c = rw (← c.self.view_is)
+    (let here = read_at _ _ c.in_ok-place.place _ c.self.view_is c.in_ok-place.ensures.within c.index_mut.ensures.value in
+    let there = found_at c.args.id _ _ c.in_ok-place.place c.self.view_is c.in_ok-place.ensures.place in
+    put_goes_on c.self.inside.clients.items c.self.invariant.apart c.args.id c.in_ok-place.place _ _ there here c.feeds_are_lawful.ensures.output c.put_out.result c.put_out.ensures.out c.put_out.ensures.nothing)

@@ -1,0 +1,111 @@
+-- What a call of members and the board is, with its replies told: what happens in the world, and what holds of it then.
+use Rattle.std.proofs.Common.{◌≡◌, ℕ, Bool, List, [], ◌∷◌, ◌++◌, length, refl, ap, sym, subst, ◌∙◌, inl, inr}
+use Rattle.std.specs.Prelude.{◌⊎◌, ◌<◌, ◌*◌, All, get_or, map, true}
+use Rattle.std.proofs.lemmas.List.Elements.{All-map}
+use Rattle.std.proofs.lemmas.List.{append-nil, get_or-map, length-map}
+use Rattle.flush_barrier.specs.Reply.{GivenReply}
+use Rattle.flush_barrier.specs.declared.session_id.SessionId.{SessionId}
+use Rattle.local_store.specs.About.{About}
+use Rattle.world_model.specs.Chain.{ArePutOut, View}
+use Rattle.world_model.specs.Event.{ClientEvent}
+use Rattle.chain.specs.Chain.{Chained, bytes_of}
+use Rattle.chain.specs.Chain as chain
+use Rattle.chain.proofs.Keeping.{goes_keeps}
+use Rattle.clients.specs.Calls.{AreAtPlaces}
+use Rattle.clients.specs.Clients.{AreKept, Client, held_of, no_one}
+use Rattle.clients.specs.declared.output.Output.{Output}
+use Rattle.world.specs.Telling.{AreTold, handed_by}
+use Rattle.world.specs.World.{AskWhatWasSent, Goes, HappensSo, IsJoined, IsOfOneVolume, Seen, sent_in}
+use Rattle.world.proofs.Going.{goes_as, goes_on, goes_same}
+use Rattle.world.proofs.TellingSteps.{told_go_on, told_keeps, told_put_out}
+
+-- ---- nobody sent anything
+
+pub none_sent : (id : SessionId) (rs : List GivenReply) (events : List ClientEvent) → ArePutOut rs events → sent_in id events ≡ []
+none_sent id [] events none = ap (sent_in id) none
+none_sent id (r ∷ rs) events out = elim out [
+  | inl rest ↦ none_sent id rs events rest
+  | inr (more, is, rest) ↦ ap (sent_in id) is ∙ none_sent id rs more rest
+]
+
+-- where nobody sent anything, and nobody asked, sessions keep what they kept, or nothing
+pub asks_nothing : (clients : List Client) (v w : View) (events : List ClientEvent) → ((id : SessionId) → sent_in id events ≡ [])
+    → ((place : ℕ) → (get_or w.kept place [] ≡ get_or v.kept place []) ⊎ (get_or w.kept place [] ≡ [])) → AskWhatWasSent clients v w no_one events
+asks_nothing clients v w events none each id place there = elim (each place) [
+  | inl same ↦ inl (ap (λ l. get_or v.kept place [] ++ l) (none id) ∙ append-nil (get_or v.kept place []) ∙ sym same)
+  | inr gone ↦ inr (none id, refl, gone)
+]
+
+-- ---- one call
+
+module _ {S : Type 0} (about : S → About) (keeps : S → List ℕ → Type 0) (may_leave_now : S → List ℕ → Type 0) where
+  -- the chain is shown as before, whatever sessions keep
+  pub shows_with : (c : Chained S) (v w : View) → w.told ≡ v.told → w.members ≡ v.members → chain.Shows about keeps may_leave_now c v → chain.Shows about keeps may_leave_now c w
+  shows_with c v w told members shows = record { told = told ∙ shows.told; members = rw members shows.members }
+
+  -- replies come to their sessions in a world that has come so far
+  pub tells_so : (old new : Seen S) (room : Bool) (replies : List GivenReply) (outputs : List Output) (events : List ClientEvent) (v w : View)
+      → AreTold room replies old.sessions new.sessions outputs events
+      → chain.Shows about keeps may_leave_now new.chain w → map (λ m. m.demands) w.members ≡ map (map held_of) new.queues → w.kept ≡ v.kept → AreKept old.sessions.clients v.kept
+      → Goes (bytes_of old.chain) v w events
+      → HappensSo about keeps may_leave_now old new no_one (handed_by outputs) v
+  tells_so old new room replies outputs events v w told shows demands kept are goes =
+      let less = told_keeps (bytes_of old.chain) room replies old.sessions new.sessions outputs events w told (rw kept are) in
+      let then = record w { kept = less.kept } in
+      record {
+        w = then;
+        events = events;
+        asked = no_one;
+        shows = record { chain = shows_with new.chain w then refl refl shows; demands = demands; kept = less.are };
+        goes = goes_same v then (events ++ []) events (append-nil events) (goes_on v w then events [] goes less.goes);
+        go_on = told_go_on room replies old.sessions new.sessions outputs events told;
+        sent = asks_nothing new.sessions.clients v then events (λ id. none_sent id replies events (told_put_out room replies old.sessions new.sessions outputs events told))
+            (λ place. elim (less.each place) [
+              | inl same ↦ inl (same ∙ ap (λ l. get_or l place []) kept)
+              | inr none ↦ inr none
+            ]);
+      }
+
+  -- a call of the chain, with its replies
+  pub answers_so : (old new : Seen S) (room : Bool) (replies : List GivenReply) (outputs : List Output) (events : List ClientEvent)
+      → chain.IsOfOneVolume about keeps may_leave_now old.chain new.chain replies → AreTold room replies old.sessions new.sessions outputs events → new.queues ≡ old.queues
+      → IsOfOneVolume about keeps may_leave_now no_one (handed_by outputs) old new
+  answers_so old new room replies outputs events lead told queues v s shows stands =
+      let did = lead v s events shows.chain stands (told_put_out room replies old.sessions new.sessions outputs events told) in
+      let stays = goes_keeps v did.0 events did.2 in
+      tells_so old new room replies outputs events v did.0 told did.1 (stays.1 ∙ shows.demands ∙ sym (ap (map (map held_of)) queues)) stays.0 shows.kept (goes_as v did.0 events did.2)
+
+  -- a call of the chain without a reply
+  pub moves_so : (old new : Seen S) → chain.IsOfOneVolume about keeps may_leave_now old.chain new.chain [] → new ≡ record old { chain = new.chain }
+      → IsOfOneVolume about keeps may_leave_now no_one no_one old new
+  moves_so old new lead are v s shows stands =
+      answers_so old new true [] [] [] lead (ap (λ w. w.sessions) are, refl, refl) (ap (λ w. w.queues) are) v s shows stands
+
+  -- nothing changed
+  pub rests_so : (old new : Seen S) → new ≡ old → IsOfOneVolume about keeps may_leave_now no_one no_one old new
+  rests_so old new same = subst (IsOfOneVolume about keeps may_leave_now no_one no_one old) (sym same)
+      (moves_so old old (λ v s events shows stands out. (v, shows, record { happenings = []; each = []; inner = refl; era = (refl, refl); all = sym out })) refl)
+
+-- ---- the chain and its sessions go together still
+
+-- the chain is of the same board and sizes, with as many members
+pub record IsAlike {S : Type 0} (old new : Chained S) : Type 0 where
+  pub id : new.id ≡ old.id
+  pub geometry : new.geometry ≡ old.geometry
+  pub many : length new.members ≡ length old.members
+
+of_map : {A B : Type 0} (f : A → B) (Q : B → Type 0) (xs : List A) → All Q (map f xs) → All (λ x. Q (f x)) xs
+of_map f Q xs all k d within = subst Q (get_or-map f xs k d (f d) within) (all k (f d) (rw (length-map xs f) within))
+
+pub joined_so : {S : Type 0} (old new : Seen S) → IsAlike old.chain new.chain → AreAtPlaces old.sessions new.sessions → new.queues ≡ old.queues → IsJoined old → IsJoined new
+joined_so old new alike places queues joined = record {
+  board = places.board ∙ joined.board ∙ sym alike.id;
+  size = ap (λ e. e.size) places.export ∙ joined.size ∙ ap (λ g. 4096 * g.blocks) (sym alike.geometry);
+  places = rw alike.many (of_map (λ c. c.at) (λ at. at < length old.chain.members) new.sessions.clients
+      (subst (All (λ at. at < length old.chain.members)) (sym places.places) (All-map (λ at. at < length old.chain.members) (λ c. c.at) old.sessions.clients joined.places)));
+  queues = ap length queues ∙ joined.queues ∙ sym alike.many;
+  demands = rw (queues, alike.id, alike.geometry) joined.demands;
+}
+
+pub alike_still : {S : Type 0} (c : Chained S) → IsAlike c c
+alike_still c = record { id = refl; geometry = refl; many = refl }

@@ -1,0 +1,12 @@
+mod AlikeSteps
+mod BeginningSteps
+mod CallSteps
+mod FeedSteps
+pub mod Going
+pub mod GoingOn
+mod InnerSteps
+mod JoinedSteps
+mod ReceptionSteps
+mod TakenSteps
+mod TakingSteps
+mod TellingSteps

@@ -1,0 +1,4 @@
+pub mod Reception
+pub mod Taking
+pub mod Telling
+pub mod World

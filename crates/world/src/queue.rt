@@ -1,0 +1,78 @@
+//! The demands that wait for a member.
+ghost use Rattle.std.specs.Prelude.{◌≡◌, ◌≤◌, ◌∷◌, ◌++◌, [], ◌+◌, None, length, IfSome, OnOk};
+ghost use Rattle.std.specs.VecDeque.{deque_capacity, deque_len};
+
+use nbd_session::Demand;
+use std::alloc::{AllocError, Global};
+use std::collections::VecDeque;
+use std::marker::Model;
+
+/// The demands of a member's sessions that it hasn't taken, in order. It has no `Drop`, since they hold tokens.
+pub(crate) struct Queue {
+    pub(crate) demands: VecDeque<Demand>,
+}
+
+impl Model for Queue {
+    ghost use Rattle.std.specs.Prelude.{List};
+    ghost use Rattle.nbd_session.specs.declared.demand.Demand.{Demand as Waiting};
+
+    ghost Value = { List Waiting };
+
+    ghost view = { λ q. q.demands.items };
+}
+
+impl Queue {
+    /// No demands.
+    pub(crate) fn new(alloc: Global) -> Queue
+        ensures { result ≡ [] }
+    {
+        Queue {
+            demands: VecDeque::new(alloc),
+        }
+    }
+
+    /// The first demand leaves it. `None` where there is none.
+    pub(crate) fn take(&mut self) -> Option<Demand>
+        ensures first { IfSome result (λ demand. self.old ≡ demand ∷ self.new) }
+        ensures none { result ≡ None → (self.old ≡ []) × (self.new ≡ []) }
+    {
+        self.demands.pop_front()
+    }
+
+    /// Gives all demands up.
+    pub(crate) fn abandon(self) {
+        let Queue { mut demands } = self;
+        while let Some(demand) = demands.pop_front() {
+            abandon(demand);
+        }
+        demands.destroy_empty();
+    }
+}
+
+/// Puts demands behind those of a queue that has room for them.
+pub(crate) fn put_behind(queue: &mut VecDeque<Demand>, demands: Vec<Demand>)
+    requires { deque_len queue.old + length demands.items ≤ deque_capacity queue.old }
+    ensures { queue.new.items ≡ queue.old.items ++ demands.items }
+{
+    let mut demands = VecDeque::from_vec(demands);
+    let put = queue.append(&mut demands);
+    demands.destroy_empty();
+    match put {
+        Ok(()) => (),
+        Err(_) => unreachable!(),
+    }
+}
+
+/// Ends a demand without a reply.
+fn abandon(demand: Demand) {
+    match demand {
+        Demand::Read {
+            token,
+            offset: _,
+            length: _,
+        } => token.abandon(),
+        Demand::Write { token, write: _ } => token.abandon(),
+        Demand::Fua { token, write: _ } => token.abandon(),
+        Demand::Flush { token } => token.abandon(),
+    }
+}

@@ -1,0 +1,11 @@
+use clients::Output;
+
+/// What the clients were told in a call.
+#[must_use]
+#[derive(Debug, Drop)]
+pub enum Told {
+    /// What went out with the replies, in the order in which they were given: a session may stand there more than once.
+    Out(Vec<Output>),
+    /// Memory for the list of it ran out. The replies came to their sessions all the same, and wait there until they are handed out.
+    Withheld,
+}

@@ -1,0 +1,126 @@
+ghost use Rattle.std.specs.Prelude.{◌≡◌, ◌≤◌, ◌<◌, ◌*◌, ℕ, [], List, None, length, map, replicate, slice_get, All, IfErr, IfOk, IfSome, IsTrue, ◌↔◌};
+ghost use Rattle.std.specs.Prelude.{◌∷◌};
+
+use crate::queue::Queue;
+use chain::Chain;
+use chain_steps::Cause;
+use clients::Clients;
+use flush_barrier::SessionId;
+use gate_journal::Slot;
+use local_store::StoreLike;
+use std::alloc::{AllocError, Global};
+use std::marker::Model;
+use volume::Geometry;
+
+/// A chain of one to eight members, and the clients of its volume. It has no `Drop`, since it holds tokens: `abandon` ends it.
+pub struct World<S: StoreLike> {
+    pub(crate) alloc: Global,
+    pub(crate) chain: Chain<S>,
+    pub(crate) clients: Clients,
+    /// For each member, by place.
+    pub(crate) queues: Vec<Queue>,
+}
+
+impl<S: StoreLike> Model for World<S> {
+    ghost use Rattle.world.specs.World.{IsJoined, Seen};
+
+    ghost Value = { Seen S };
+
+    ghost view = { λ w. record { chain = w.chain; sessions = w.clients; queues = w.queues.items } };
+
+    ghost invariant = { λ w. IsJoined (record { chain = w.chain; sessions = w.clients; queues = w.queues.items }) };
+}
+
+impl<S: StoreLike + Drop> World<S> {
+    ghost use Rattle.chain.specs.Chain as chains;
+    ghost use Rattle.world.specs.World.{HasNoClients, Shows};
+    ghost use Rattle.world_model.specs.Chain.{View};
+
+    /// The world of a chain, without clients. Their sessions will be at the chain's volume.
+    ///
+    /// Where memory runs out, it hands the chain back.
+    pub fn new(alloc: Global, chain: Chain<S>) -> Result<World<S>, Chain<S>>
+        ensures chain { IfOk result (λ world. world.chain ≡ chain) }
+        ensures sessions { IfOk result (λ world. world.sessions ≡ record {
+          board = chain.id;
+          export = record { size = 4096 * chain.geometry.blocks; max_payload = chain.geometry.max_payload };
+          clients = [];
+        }) }
+        ensures queues { IfOk result (λ world. world.queues ≡ replicate (length chain.members) []) }
+        ensures shows { IfOk result (λ world. (v : View) → chains.Shows S.about S.keeps S.may_leave_now chain v → HasNoClients v → Shows S.about S.keeps S.may_leave_now world v) }
+        ensures back { IfErr result (λ given. given ≡ chain) }
+    {
+        let Ok(queues) = queues_of(alloc, chain.len()) else {
+            return Err(chain);
+        };
+        let geometry = chain.geometry();
+        let clients = Clients::new(alloc, chain.board(), geometry.size(), geometry.max_payload);
+        Ok(World {
+            alloc,
+            chain,
+            clients,
+            queues,
+        })
+    }
+
+    /// How many members it has.
+    pub fn len(&self) -> usize
+        ensures { result ≡ length self.now.chain.members }
+    {
+        self.chain.len()
+    }
+
+    /// The sizes of its volume.
+    pub fn geometry(&self) -> Geometry
+        ensures { result ≡ self.now.chain.geometry }
+    {
+        self.chain.geometry()
+    }
+
+    /// The slot of the member at a place.
+    pub fn slot(&self, at: usize) -> Slot
+        requires { at < length self.now.chain.members }
+        ensures { IfSome (slice_get self.now.chain.members at) (λ m. result ≡ m.node.state.place.slot) }
+    {
+        self.chain.slot(at)
+    }
+
+    /// Why the member at a place stopped. `None` while it runs.
+    pub fn cause(&self, at: usize) -> Option<Cause>
+        requires { at < length self.now.chain.members }
+        ensures { IfSome (slice_get self.now.chain.members at) (λ m. result ≡ m.node.state.stopped) }
+    {
+        self.chain.cause(at)
+    }
+
+    /// Gives the world up, and its members' stores back, from the head's to the tail's. What waits for clients is gone, and the tokens
+    /// are abandoned.
+    ///
+    /// Where memory runs out, the stores are dropped.
+    pub fn abandon(self) -> Result<Vec<S>, AllocError>
+        ensures { IfOk result (λ stores. stores.items ≡ map (λ m. m.node.store) self.chain.members) }
+    {
+        let World {
+            alloc: _,
+            chain,
+            clients: _,
+            mut queues,
+        } = self;
+        while let Some(queue) = queues.pop() {
+            queue.abandon();
+        }
+        queues.destroy_empty();
+        chain.abandon()
+    }
+}
+
+/// So many empty queues.
+fn queues_of(alloc: Global, count: usize) -> Result<Vec<Queue>, AllocError>
+    ensures { IfOk result (λ queues. queues.items ≡ replicate count []) }
+{
+    let mut queues = Vec::with_capacity(alloc, count)?;
+    for _ in 0..count {
+        queues.push_reserved(Queue::new(alloc));
+    }
+    Ok(queues)
+}
