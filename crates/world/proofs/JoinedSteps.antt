@@ -1,15 +1,14 @@
--- What holds of every world holds when its sessions are others, and when more demands wait.
-use Rattle.std.proofs.Common.{◌≡◌, ℕ, ◌<◌, false, Some, List, [], ◌∷◌, length, map, set, ap, sym, subst, ◌∙◌}
+-- What holds of every world holds when a session was fed, and what it asks waits.
+use Rattle.std.proofs.Common.{◌≡◌, ℕ, ◌<◌, Some, List, [], ◌∷◌, length, map, set, ap, sym, subst, ◌∙◌}
 use Rattle.std.specs.Prelude.{All, slice_get}
 use Rattle.std.proofs.lemmas.List.{length-set}
-use Rattle.std.proofs.lemmas.List.Elements.{All-append, All-cons, All-head, All-push, All-set, All-tail, All-weaker}
+use Rattle.std.proofs.lemmas.List.Elements.{All-append, All-cons, All-head, All-set, All-tail, All-weaker}
 use Rattle.flush_barrier.specs.declared.session_id.SessionId.{SessionId}
-use Rattle.nbd_session.specs.Begun.{greeted}
 use Rattle.nbd_session.specs.Demand.{IsAskedInside, asked_by}
 use Rattle.nbd_session.specs.declared.demand.Demand.{Demand}
 use Rattle.world_model.specs.Counting.{all_got}
 use Rattle.chain.specs.Chain.{bytes_of}
-use Rattle.clients.specs.Calls.{AreAtPlaces, Begins, IsDemandOf}
+use Rattle.clients.specs.Calls.{IsDemandOf}
 use Rattle.clients.specs.Clients.{Client, Sessions}
 use Rattle.world.specs.Reception.{IsFed}
 use Rattle.world.specs.World.{IsJoined, IsOfVolume, Seen}
@@ -26,29 +25,6 @@ at_members n (c ∷ cs) (d ∷ ds) same all =
     All-cons (λ (c : Client). c.at < n) d ds (subst (λ (k : ℕ). k < n) here (All-head (λ (c : Client). c.at < n) c cs all)) (at_members n cs ds (cc both) (All-tail (λ (c : Client). c.at < n) c cs all))
 
 module _ {S : Type 0} (w : Seen S) (joined : IsJoined w) where
-  -- its sessions are at the same places
-  pub joined_at_places : (sessions : Sessions) → AreAtPlaces w.sessions sessions → IsJoined (record w { sessions = sessions })
-  joined_at_places sessions places = record {
-    board = places.board ∙ joined.board;
-    size = ap (λ export. export.size) places.export ∙ joined.size;
-    places = at_members (length w.chain.members) w.sessions.clients sessions.clients places.places joined.places;
-    queues = joined.queues;
-    demands = joined.demands;
-  }
-
-  -- one more session is at a member
-  pub joined_begun : (id : SessionId) (at : ℕ) (sessions : Sessions) → at < length w.chain.members → Begins id at w.sessions sessions
-      → IsJoined (record w { sessions = sessions })
-  joined_begun id at sessions within begins = subst (λ (s : Sessions). IsJoined (record w { sessions = s })) (sym begins.are) (
-      record {
-        board = joined.board;
-        size = joined.size;
-        places = All-push (λ (c : Client). c.at < length w.chain.members) w.sessions.clients (record { session = greeted w.sessions.board id w.sessions.export; at = at; told = false }) joined.places within;
-        queues = joined.queues;
-        demands = joined.demands;
-      }
-      )
-
   of_volume : (id : SessionId) (d : Demand) → IsDemandOf id w.sessions.board w.sessions.export.size d
       → IsOfVolume w.chain.id (bytes_of w.chain) d
   of_volume id d is = record { board = is.own_board ∙ joined.board; unnumbered = is.unnumbered; inside = subst (λ (size : ℕ). IsAskedInside size (asked_by d)) joined.size is.inside }

@@ -29,8 +29,8 @@ impl<S: StoreLike + Drop> World<S> {
         self.clients.connect(self.chain.board(), id, at)
     }
 
-    /// The session takes the next piece of its client's bytes, which may be empty, and goes on with what it kept; what it asks of the volume
-    /// waits for its member. `None` where there is no such session: nothing changed.
+    /// The session takes the next piece of its client's bytes, which may be empty, and goes on with what it kept; what it asks of the
+    /// volume waits for its member. `None` where there is no such session: nothing changed.
     ///
     /// 100 `Memory`: nothing of the piece was taken. 201 `SessionOver`: the session takes no more input. Either changed nothing.
     pub fn feed(&mut self, id: SessionId, piece: &[u8]) -> Option<Result<(), Refusal>>
