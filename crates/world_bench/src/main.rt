@@ -1,0 +1,169 @@
+//! `world_bench`: how long a world of three members takes for requests, from a session's bytes to the bytes of its replies.
+//!
+//! The members keep stores in memory, and the client's session is at the one in the middle. A flight is 64 writes of a block
+//! each: they are numbered by the head and go down to the tail, the front is raised, the Acks come back, each member journals
+//! them in one batch, and those with FUA wait for the floor. READs and FLUSHes go one at a time. Without a word each load is
+//! played once, and the replies are counted; with the word `time` each is played many times, and its time is printed.
+#![tactic(auto)]
+
+mod replies;
+mod requests;
+mod row;
+mod steps;
+
+use crate::replies::Replies;
+use crate::requests::{BLOCK, flight, flush, read, write};
+use crate::steps::{acknowledge, ask, commit, join, look, send_down, settle};
+use anyhow::ensure;
+use local_store::PlainStore;
+use std::alloc::Global;
+use std::env;
+use std::time::{Clock, Duration, Instant};
+use world::World;
+
+/// The byte of which the first writes are.
+const FIRST: u8 = 7;
+
+/// The byte of which the later writes are.
+const LATER: u8 = 9;
+
+/// The block that the dirty READs read.
+const DIRTY: u64 = 0;
+
+/// How often each load is timed.
+const FLIGHTS: u32 = 1_600;
+
+const FLUSHES: u32 = 10_000;
+
+const READS: u32 = 100_000;
+
+fn main(rt: HostRuntime) -> anyhow::Result<()> {
+    let words: Vec<String> = env::args(&rt)?.collect(rt.alloc())?;
+    let timed = words.iter().any(|word| word.as_str() == "time");
+    let mut world = row::new(rt.alloc())?;
+    let played = play(&rt, rt.alloc(), &mut world, timed);
+    drop(world.abandon());
+    played
+}
+
+/// Plays each load, and prints what it came to.
+fn play<R: Clock + Print>(
+    rt: &R,
+    alloc: Global,
+    world: &mut World<PlainStore>,
+    timed: bool,
+) -> anyhow::Result<()> {
+    join(world)?;
+    let first = vec![in alloc; FIRST; BLOCK]?;
+    let (flights, flushes, reads) = if timed {
+        (FLIGHTS, FLUSHES, READS)
+    } else {
+        (1, 1, 1)
+    };
+    let start = Instant::now(rt)?;
+    let durable = write_all(world, &flight(alloc, FIRST, true)?, flights)?;
+    report(rt, "writes with FUA", durable, start.elapsed(rt)?, timed)?;
+    let start = Instant::now(rt)?;
+    let flushed = flush_all(world, &flush(alloc)?, flushes)?;
+    report(rt, "flushes", flushed, start.elapsed(rt)?, timed)?;
+    let start = Instant::now(rt)?;
+    let plain = write_all(world, &flight(alloc, FIRST, false)?, flights)?;
+    report(rt, "writes", plain, start.elapsed(rt)?, timed)?;
+    let start = Instant::now(rt)?;
+    let clean = read_clean(world, &read(alloc, DIRTY)?, &first, reads)?;
+    report(rt, "clean READs", clean, start.elapsed(rt)?, timed)?;
+    begin_write(world, &write(alloc, DIRTY, LATER)?)?;
+    let start = Instant::now(rt)?;
+    let dirty = read_dirty(world, &read(alloc, DIRTY)?, &first, reads)?;
+    report(rt, "dirty READs", dirty, start.elapsed(rt)?, timed)
+}
+
+/// Prints how many requests were answered, and how long each took.
+fn report<R: Print>(
+    rt: &R,
+    name: &str,
+    answered: usize,
+    took: Duration,
+    timed: bool,
+) -> anyhow::Result<()> {
+    if timed {
+        let each = took.as_nanos() / (answered as u128).max(1);
+        let (micros, rest) = (each / 1_000, each % 1_000);
+        let a_second = 1_000_000_000 / each.max(1);
+        println!(rt;
+            "{name}: {answered} answered, {micros}.{rest:03} us each, {a_second} a second"
+        )?;
+    } else {
+        println!(rt; "{name}: {answered} answered")?;
+    }
+    Ok(())
+}
+
+/// So many flights of writes: how many were answered.
+fn write_all(world: &mut World<PlainStore>, text: &[u8], flights: u32) -> anyhow::Result<usize> {
+    let mut replies = Replies::new(b"");
+    for _flight in 0..flights {
+        ask(world, text, &mut replies)?;
+        send_down(world, &mut replies)?;
+        acknowledge(world, &mut replies)?;
+        commit(world, &mut replies)?;
+        settle(world, &mut replies)?;
+    }
+    Ok(replies.answered)
+}
+
+/// So many FLUSHes, one after another: how many were answered.
+fn flush_all(world: &mut World<PlainStore>, text: &[u8], flushes: u32) -> anyhow::Result<usize> {
+    let mut replies = Replies::new(b"");
+    for _flush in 0..flushes {
+        ask(world, text, &mut replies)?;
+        look(world, &mut replies)?;
+        settle(world, &mut replies)?;
+    }
+    Ok(replies.answered)
+}
+
+/// So many READs of a block that no write above the known commit touches: how many were answered at once, with these bytes.
+fn read_clean(
+    world: &mut World<PlainStore>,
+    text: &[u8],
+    block: &[u8],
+    reads: u32,
+) -> anyhow::Result<usize> {
+    let mut replies = Replies::new(block);
+    for _read in 0..reads {
+        ask(world, text, &mut replies)?;
+    }
+    Ok(replies.answered)
+}
+
+/// A write goes down to the tail, and isn't answered.
+fn begin_write(world: &mut World<PlainStore>, text: &[u8]) -> anyhow::Result<()> {
+    let mut replies = Replies::new(b"");
+    ask(world, text, &mut replies)?;
+    send_down(world, &mut replies)?;
+    ensure!(
+        replies.answered == 0,
+        "a write that was answered before the front was raised"
+    );
+    Ok(())
+}
+
+/// So many READs of a block with such a write, each with a look-up of its own: how many were answered by it, with these bytes.
+fn read_dirty(
+    world: &mut World<PlainStore>,
+    text: &[u8],
+    block: &[u8],
+    reads: u32,
+) -> anyhow::Result<usize> {
+    let mut replies = Replies::new(block);
+    for index in 0..reads {
+        ask(world, text, &mut replies)?;
+        ensure!(
+            replies.answered == index as usize,
+            "a dirty READ that was answered at once"
+        );
+        look(world, &mut replies)?;
+    }
+    Ok(replies.answered)
+}
