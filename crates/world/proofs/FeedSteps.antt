@@ -1,6 +1,6 @@
 -- What a call that feeds a session did: the session took the piece, or nothing changed.
 use Rattle.std.proofs.Common.{◌≡◌, ◌⊎◌, ℕ, ◌<◌, Option, Some, None, Result, Ok, Err, List, length, set, refl, ap, sym, subst, ◌∙◌, inl, inr}
-use Rattle.std.specs.Prelude.{IfNone, IfOk, IfSome, OnErr, get_or, slice_get}
+use Rattle.std.specs.Prelude.{IfNone, IfOk, IfSome, IsSome, OnErr, get_or, slice_get}
 use Rattle.std.proofs.lemmas.List.{set-get_or}
 use Rattle.std.proofs.lemmas.Option.{get_or_from_slice_get, same_Some, slice_get_read}
 use Rattle.flush_barrier.specs.declared.session_id.SessionId.{SessionId}
@@ -88,3 +88,8 @@ module _ {S : Type 0} (w : Seen S) (id : SessionId) (piece : List ℕ) (at : ℕ
   feed_feeds None has did = did
   feed_feeds (Some (Ok v)) has did = feeds has did
   feed_feeds (Some (Err e)) has did = did
+
+-- a session that is fed, or refuses to be, is there
+pub feed_known : {R : Type 0} (clients : List Client) (id : SessionId) (at : ℕ) (fed : Option R) → HasClient id clients (λ client. client.at ≡ at) → IfSome fed (λ r. IsSome (place_of id clients))
+feed_known clients id at None has = tt
+feed_known clients id at (Some r) has = rw has.there refl

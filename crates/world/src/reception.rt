@@ -36,6 +36,7 @@ impl<S: StoreLike + Drop> World<S> {
     pub fn feed(&mut self, id: SessionId, piece: &[u8]) -> Option<Result<(), Refusal>>
         ensures fed { IfSome result (λ fed. IfOk fed (λ _. Feeds id piece.now self.old self.new)) }
         ensures none { IfNone result ((place_of id self.old.sessions.clients ≡ None) × (self.new ≡ self.old)) }
+        ensures known { IfSome result (λ fed. IsSome (place_of id self.old.sessions.clients)) }
         ensures over { IfSome result (λ fed. IsErrOf fed Refusal.SessionOver → HasClient id self.old.sessions.clients (λ client. is_over client.session.phase ≡ true)) }
         ensures err { IfSome result (λ fed. OnErr fed (self.new ≡ self.old)) }
         ensures one_volume { IsOfOneVolume S.about S.keeps S.may_leave_now (fed_in id piece.now result) no_one self.old self.new }
