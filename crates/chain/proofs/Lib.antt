@@ -1,5 +1,6 @@
 mod AckSteps
 mod AnswerSteps
+mod ArmingSteps
 mod AskingSteps
 mod BeginningSteps
 pub mod Cells

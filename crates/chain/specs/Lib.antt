@@ -1,3 +1,4 @@
+pub mod Arming
 pub mod Asking
 pub mod Chain
 pub mod Commits

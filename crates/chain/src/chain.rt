@@ -1,5 +1,5 @@
 ghost use Rattle.std.specs.Prelude.{◌≡◌, ◌<◌, IfSome, length, slice_get};
-ghost use Rattle.chain_steps.specs.Node.{is_stopped};
+ghost use Rattle.chain_steps.specs.Node.{durable_of, is_stopped, last_of};
 
 use crate::lone_board::LoneBoard;
 use crate::member::Member;
@@ -68,6 +68,14 @@ impl<S: StoreLike + Drop> Chain<S> {
         self.board.board()
     }
 
+    /// The committed front.
+    pub fn front(&mut self) -> u64
+        ensures front { result ≡ self.old.words.front }
+        ensures unchanged { self.new ≡ self.old }
+    {
+        self.board.look().number()
+    }
+
     /// The slot of the member at a place.
     pub fn slot(&self, at: usize) -> Slot
         requires { at < length self.now.members }
@@ -82,6 +90,30 @@ impl<S: StoreLike + Drop> Chain<S> {
         ensures { IfSome (slice_get self.now.members at) (λ m. result ≡ m.node.state.stopped) }
     {
         self.members[at].cause()
+    }
+
+    /// The durable front of the member at a place.
+    pub fn durable(&self, at: usize) -> u64
+        requires { at < length self.now.members }
+        ensures { IfSome (slice_get self.now.members at) (λ m. result ≡ durable_of m.node.state) }
+    {
+        self.members[at].durable()
+    }
+
+    /// The known commit of the member at a place.
+    pub fn known(&self, at: usize) -> u64
+        requires { at < length self.now.members }
+        ensures { IfSome (slice_get self.now.members at) (λ m. result ≡ m.node.state.known) }
+    {
+        self.members[at].known()
+    }
+
+    /// The number of the last write that the member at a place has applied.
+    pub fn applied(&self, at: usize) -> u64
+        requires { at < length self.now.members }
+        ensures { IfSome (slice_get self.now.members at) (λ m. result ≡ last_of m.node.state) }
+    {
+        self.members[at].applied()
     }
 
     /// Whether the member at a place has stopped.

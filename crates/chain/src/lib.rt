@@ -6,6 +6,7 @@
 //! Which call comes when, and how sessions put the replies out, is left to the layers above.
 #![tactic(auto)]
 
+mod arming;
 mod chain;
 mod commits;
 mod fronts;

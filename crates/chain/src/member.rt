@@ -1,5 +1,6 @@
 //! A member with its links.
 ghost use Rattle.std.specs.Prelude.{◌≡◌};
+ghost use Rattle.chain_steps.specs.Node.{durable_of, last_of};
 
 use crate::muster::Muster;
 use board::Front;
@@ -59,6 +60,27 @@ impl<S: StoreLike + Drop> Member<S> {
         ensures { result ≡ self.now.node.state.stopped }
     {
         self.node.stopped()
+    }
+
+    /// Its durable front.
+    pub(crate) fn durable(&self) -> u64
+        ensures { result ≡ durable_of self.now.node.state }
+    {
+        self.node.durable()
+    }
+
+    /// Its known commit.
+    pub(crate) fn known(&self) -> u64
+        ensures { result ≡ self.now.node.state.known }
+    {
+        self.node.known()
+    }
+
+    /// The number of its last applied write.
+    pub(crate) fn applied(&self) -> u64
+        ensures { result ≡ last_of self.now.node.state }
+    {
+        self.node.applied()
     }
 
     /// Gives the member up, and its store back. The tokens that wait are abandoned.

@@ -1,4 +1,5 @@
 mod Answering
+mod ArmedSteps
 mod Counting
 mod Grouping
 mod Images

@@ -7,6 +7,7 @@
 //! Who takes which step when, and how links carry messages, is left to the layers above.
 #![tactic(auto)]
 
+mod arming;
 mod clients;
 mod commit;
 mod commits;

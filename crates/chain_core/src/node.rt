@@ -1,5 +1,5 @@
 ghost use Rattle.std.specs.Prelude.{◌≡◌, ◌≤◌, ◌+◌, [], List, ℕ, length, true, false, None, IfSome};
-ghost use Rattle.chain_steps.specs.Node.{NodeState, last_of};
+ghost use Rattle.chain_steps.specs.Node.{NodeState, durable_of, last_of};
 ghost use Rattle.chain_steps.specs.Steps.{stop};
 ghost use Rattle.chain_core.specs.Node.{IsSound, IsStep, Seen, size_of};
 
@@ -124,6 +124,20 @@ impl<S: StoreLike + Drop> Node<S> {
         ensures { result ≡ self.now.state.stopped }
     {
         self.stopped
+    }
+
+    /// The number of its durable front's last write.
+    pub fn durable(&self) -> u64
+        ensures { result ≡ durable_of self.now.state }
+    {
+        self.table.forgotten()
+    }
+
+    /// Its known commit.
+    pub fn known(&self) -> u64
+        ensures { result ≡ self.now.state.known }
+    {
+        self.known
     }
 
     /// The number of its last applied write.

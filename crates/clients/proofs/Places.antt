@@ -1,6 +1,6 @@
 -- Where the clients of sessions stand: lemmas.
 use Rattle.std.proofs.Common.{◌≡◌, ℕ, zero, suc, ◌+◌, ◌<◌, cond, eqb, Bool, Option, Some, None, List, [], ◌∷◌, ◌++◌, length, map, set, get_or, refl, sym, ◌∙◌, ap, subst, inl, inr, true, arith}
-use Rattle.std.specs.Prelude.{◌≢◌, ◌==◌, slice_get}
+use Rattle.std.specs.Prelude.{◌≢◌, ◌⊎◌, ◌≤◌, ◌==◌, slice_get}
 use Rattle.std.specs.List.{AllPairs, position_from}
 use Rattle.std.proofs.Math.Seq.{map-set_same}
 use Rattle.std.proofs.lemmas.Bool.{cases_eq, cases_lt, cond-true, cond-false, eq-eqb, eqb-true, ne_eqb}
@@ -105,6 +105,55 @@ from_pushed id i (c ∷ cs) client none = elim (cases_eq c.session.id.0 id.0) [
 pub none_before : (id : SessionId) (cs : List Client) (client : Client) → place_of id (cs ++ client ∷ []) ≡ None → place_of id cs ≡ None
 none_before id cs client none = position_from-zero (is_of id) cs
     ∙ from_pushed id 0 cs client (sym (position_from-zero (is_of id) (cs ++ client ∷ [])) ∙ none)
+
+from_there : (id : SessionId) (i : ℕ) (cs : List Client) (client : Client) (place : ℕ) → position_from (is_of id) i cs ≡ Some place
+    → position_from (is_of id) i (cs ++ client ∷ []) ≡ Some place
+from_there id i [] client place there = let none : None ≡ Some place = there in absurd (cc)
+from_there id i (c ∷ cs) client place there = elim (cases_eq c.session.id.0 id.0) [
+  | inl same ↦
+      let is = eq-eqb c.session.id.0 id.0 same in
+      cond-true (eqb c.session.id.0 id.0) (Some i) (position_from (is_of id) (i + 1) (cs ++ client ∷ [])) is
+      ∙ sym (cond-true (eqb c.session.id.0 id.0) (Some i) (position_from (is_of id) (i + 1) cs) is) ∙ there
+  | inr other ↦
+      let no = ne_eqb c.session.id.0 id.0 other in
+      cond-false (eqb c.session.id.0 id.0) (Some i) (position_from (is_of id) (i + 1) (cs ++ client ∷ [])) no
+      ∙ from_there id (i + 1) cs client place (sym (cond-false (eqb c.session.id.0 id.0) (Some i) (position_from (is_of id) (i + 1) cs) no) ∙ there)
+]
+
+-- who has a place keeps it when a client comes
+pub place_before : (id : SessionId) (cs : List Client) (client : Client) (place : ℕ) → place_of id cs ≡ Some place → place_of id (cs ++ client ∷ []) ≡ Some place
+place_before id cs client place there = position_from-zero (is_of id) (cs ++ client ∷ [])
+    ∙ from_there id 0 cs client place (sym (position_from-zero (is_of id) cs) ∙ there)
+
+from_came : (id : SessionId) (i : ℕ) (cs : List Client) (client : Client) (place : ℕ) → position_from (is_of id) i (cs ++ client ∷ []) ≡ Some place
+    → (position_from (is_of id) i cs ≡ Some place) ⊎ ((position_from (is_of id) i cs ≡ None) × (place ≡ i + length cs))
+from_came id i [] client place there = elim (cases_eq client.session.id.0 id.0) [
+  | inl same ↦
+      let here : Some i ≡ Some place = sym (cond-true (eqb client.session.id.0 id.0) (Some i) None (eq-eqb client.session.id.0 id.0 same)) ∙ there in
+      let is : i ≡ place = cc here in inr (refl, omega (arith, is))
+  | inr other ↦
+      let no : None ≡ Some place = sym (cond-false (eqb client.session.id.0 id.0) (Some i) None (ne_eqb client.session.id.0 id.0 other)) ∙ there in absurd (cc)
+]
+from_came id i (c ∷ cs) client place there = elim (cases_eq c.session.id.0 id.0) [
+  | inl same ↦
+      let is = eq-eqb c.session.id.0 id.0 same in
+      inl (cond-true (eqb c.session.id.0 id.0) (Some i) (position_from (is_of id) (i + 1) cs) is
+      ∙ sym (cond-true (eqb c.session.id.0 id.0) (Some i) (position_from (is_of id) (i + 1) (cs ++ client ∷ [])) is) ∙ there)
+  | inr other ↦
+      let no = ne_eqb c.session.id.0 id.0 other in
+      elim (from_came id (i + 1) cs client place (sym (cond-false (eqb c.session.id.0 id.0) (Some i) (position_from (is_of id) (i + 1) (cs ++ client ∷ [])) no) ∙ there)) [
+        | inl was ↦ inl (cond-false (eqb c.session.id.0 id.0) (Some i) (position_from (is_of id) (i + 1) cs) no ∙ was)
+        | inr (none, last) ↦ inr (cond-false (eqb c.session.id.0 id.0) (Some i) (position_from (is_of id) (i + 1) cs) no ∙ none, omega (arith, last))
+      ]
+]
+
+-- who has a place once a client came had it, or came behind all
+pub place_came : (id : SessionId) (cs : List Client) (client : Client) (place : ℕ) → place_of id (cs ++ client ∷ []) ≡ Some place
+    → (place_of id cs ≡ Some place) ⊎ ((place_of id cs ≡ None) × (length cs ≤ place))
+place_came id cs client place there = elim (from_came id 0 cs client place (sym (position_from-zero (is_of id) (cs ++ client ∷ [])) ∙ there)) [
+  | inl was ↦ inl (position_from-zero (is_of id) cs ∙ was)
+  | inr (none, last) ↦ inr (position_from-zero (is_of id) cs ∙ none, omega (arith, last))
+]
 
 -- ---- one of them changes
 

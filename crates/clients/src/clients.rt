@@ -42,7 +42,7 @@ impl Model for Clients {
 
 impl Clients {
     ghost use Rattle.clients.specs.Calls.{AreAtPlaces, BeginsToKeep, Begins, Changes, Delivers, Ends, Forgets, IsDemandOf, KeepsAll, PutsOut, TakesPiece, TakesUp, bytes_out};
-    ghost use Rattle.clients.specs.Clients.{AreKept, GoOn, HasClient, no_one, of_session, place_of};
+    ghost use Rattle.clients.specs.Clients.{AreKept, AreSessions, GoOn, HasClient, no_one, of_session, place_of};
 
     /// No sessions of a board's chain. They will be at an export of `size` bytes that takes payloads of up to `max_payload` bytes.
     pub fn new(alloc: Global, board: &Board, size: u64, max_payload: u32) -> Clients
@@ -172,6 +172,13 @@ impl Clients {
     {
         let place = self.position(id)?;
         Some(self.clients[place].at())
+    }
+
+    /// Does nothing: its clause is what holds of all sessions.
+    pub fn sound(&self)
+        ensures { AreSessions self.now }
+    {
+        let _ = &self.clients;
     }
 
     /// How many sessions there are, with those that have ended.

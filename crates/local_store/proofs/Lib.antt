@@ -1,3 +1,4 @@
+mod ArmedSteps
 mod Boxes
 mod Changing
 mod Homes

@@ -1,4 +1,5 @@
 pub mod About
+pub mod Arming
 pub mod Kept
 pub mod Meaning
 pub mod Overlay

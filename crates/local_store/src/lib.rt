@@ -6,6 +6,7 @@
 //! which blocks a write touches, is left to those layers.
 #![tactic(auto)]
 
+mod arming;
 mod contents;
 mod laws;
 mod pending;

@@ -1,13 +1,16 @@
 -- How sessions' histories go on, one call after another.
-use Rattle.std.proofs.Common.{◌≡◌, ℕ, List, [], ◌++◌, ap, sym, subst, ◌∙◌}
+use Rattle.std.proofs.Common.{◌≡◌, ℕ, List, [], ◌++◌, length, arith, inl, ap, sym, subst, ◌∙◌}
 use Rattle.std.proofs.lemmas.Grind.{flat_map-append}
-use Rattle.std.proofs.lemmas.List.{append_assoc, append-nil}
+use Rattle.std.proofs.lemmas.List.{append_assoc, append-nil, length-map}
 use Rattle.flush_barrier.specs.declared.session_id.SessionId.{SessionId}
 use Rattle.nbd_session.specs.Demand.{Asked}
 use Rattle.nbd_session.specs.Lawful.{History}
 use Rattle.nbd_session.specs.Replies.{WireReply}
 use Rattle.world_model.specs.Event.{ClientEvent}
-use Rattle.clients.specs.Clients.{Client, Extends, GoOn, replies_in, reply_by}
+use Rattle.clients.specs.Calls.{AreAtPlaces}
+use Rattle.clients.specs.Clients.{Client, Extends, GoOn, Sessions, replies_in, reply_by}
+use Rattle.clients.proofs.Places.{place_by_ids}
+use Rattle.world.specs.World.{Remain}
 
 extends_on : (a b c : History) (fed fed2 handed handed2 : List ℕ) (asked asked2 : List Asked) (replies replies2 : List WireReply)
     → Extends a b fed handed asked replies → Extends b c fed2 handed2 asked2 replies2 → Extends a c (fed ++ fed2) (handed ++ handed2) (asked ++ asked2) (replies ++ replies2)
@@ -58,3 +61,16 @@ go_on_still a histories going = (
     replies = sym (append-nil (histories id).replies);
   },
 )
+
+-- sessions of the same numbers stand where they stood
+pub remain_at : (a b : Sessions) → AreAtPlaces a b → Remain a b
+remain_at a b same = record {
+  places = λ id place there. place_by_ids id b.clients a.clients same.ids ∙ there;
+  came = λ id place there. inl (place_by_ids id a.clients b.clients (sym same.ids) ∙ there);
+  many =
+      let one = length-map a.clients (λ c. c.session.id) in
+      let other = length-map b.clients (λ c. c.session.id) in
+      let both = ap length same.ids in
+      omega (arith, one, other, both);
+  export = same.export;
+}

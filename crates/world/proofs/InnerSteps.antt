@@ -17,7 +17,8 @@ use Rattle.clients.specs.declared.output.Output.{Output}
 use Rattle.world.specs.Telling.{AreTold, handed_by}
 use Rattle.world.specs.World.{AskWhatWasSent, Goes, HappensSo, IsJoined, IsOfOneVolume, Seen, sent_in}
 use Rattle.world.proofs.Going.{goes_as, goes_on, goes_same}
-use Rattle.world.proofs.TellingSteps.{told_go_on, told_keeps, told_put_out}
+use Rattle.world.proofs.GoingOn.{remain_at}
+use Rattle.world.proofs.TellingSteps.{told_go_on, told_keeps, told_places, told_put_out}
 
 -- ---- nobody sent anything
 
@@ -64,6 +65,7 @@ module _ {S : Type 0} (about : S → About) (keeps : S → List ℕ → Type 0) 
               | inl same ↦ inl (same ∙ ap (λ l. get_or l place []) kept)
               | inr none ↦ inr none
             ]);
+        remain = remain_at old.sessions new.sessions (told_places room replies old.sessions new.sessions outputs events told);
       }
 
   -- a call of the chain, with its replies
@@ -101,6 +103,7 @@ pub joined_so : {S : Type 0} (old new : Seen S) → IsAlike old.chain new.chain 
 joined_so old new alike places queues joined = record {
   board = places.board ∙ joined.board ∙ sym alike.id;
   size = ap (λ e. e.size) places.export ∙ joined.size ∙ ap (λ g. 4096 * g.blocks) (sym alike.geometry);
+  payload = ap (λ e. e.max_payload) places.export ∙ joined.payload ∙ ap (λ g. g.max_payload) (sym alike.geometry);
   places = rw alike.many (of_map (λ c. c.at) (λ at. at < length old.chain.members) new.sessions.clients
       (subst (All (λ at. at < length old.chain.members)) (sym places.places) (All-map (λ at. at < length old.chain.members) (λ c. c.at) old.sessions.clients joined.places)));
   queues = ap length queues ∙ joined.queues ∙ sym alike.many;

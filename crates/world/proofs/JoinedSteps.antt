@@ -36,6 +36,7 @@ module _ {S : Type 0} (w : Seen S) (joined : IsJoined w) where
   joined_fed id piece at queue later sessions here fed = record {
     board = fed.places.board ∙ joined.board;
     size = ap (λ export. export.size) fed.places.export ∙ joined.size;
+    payload = ap (λ export. export.max_payload) fed.places.export ∙ joined.payload;
     places = at_members (length w.chain.members) w.sessions.clients sessions.clients fed.places.places joined.places;
     queues = length-set w.queues at later ∙ joined.queues;
     demands = All-set (All (IsOfVolume w.chain.id (bytes_of w.chain))) w.queues at later

@@ -7,6 +7,7 @@ pub mod GoingOn
 mod InnerSteps
 mod JoinedSteps
 mod ReceptionSteps
+mod Results
 mod TakenSteps
 mod TakingSteps
 mod TellingSteps

@@ -1,9 +1,10 @@
 -- What a client's call is in the model of the one volume: requests are sent and taken up, a session begins or ends, or nothing happens.
-use Rattle.std.proofs.Common.{◌≡◌, ◌≢◌, ℕ, zero, suc, Bool, true, false, eqb, Some, None, Result, Ok, Err, List, [], ◌∷◌, ◌++◌, length, map, set, refl, ap, sym, subst, ◌∙◌, inl, inr}
+use Rattle.std.proofs.Common.{◌≡◌, ◌≢◌, ℕ, zero, suc, Bool, true, false, eqb, Some, None, Result, Ok, Err, List, [], ◌∷◌, ◌++◌, length, map, set, refl, ap, sym, subst, ◌∙◌, inl, inr, arith}
 use Rattle.std.specs.Prelude.{All, IfOk, IsSome, OnErr, ◌==◌, get_or, slice_get}
 use Rattle.std.specs.List.{insert}
 use Rattle.std.proofs.lemmas.Bool.{cases_Bool, cond-true, cond-false, eq-eqb, eqb-true}
-use Rattle.std.proofs.lemmas.List.{append-nil, get_or-set_other, get_or-set_same, map-append, map-set, set-set}
+use Rattle.std.proofs.Math.Nat.{le_refl}
+use Rattle.std.proofs.lemmas.List.{append-nil, get_or-set_other, get_or-set_same, length-append, map-append, map-set, set-set}
 use Rattle.std.proofs.lemmas.List.Edits.{insert_end}
 use Rattle.std.proofs.lemmas.List.Elements.{All-append, All-cons, All-head, All-nil, All-tail}
 use Rattle.std.proofs.lemmas.List.Quantifiers.{position-Some}
@@ -12,6 +13,7 @@ use Rattle.std.proofs.lemmas.Slice.Zip.{AllZip-long}
 use Rattle.board.specs.Seats.{BoardId}
 use Rattle.flush_barrier.specs.declared.session_id.SessionId.{SessionId}
 use Rattle.local_store.specs.About.{About}
+use Rattle.nbd_session.specs.Begun.{greeted}
 use Rattle.nbd_session.specs.Demand.{Asked, asked_by}
 use Rattle.nbd_session.specs.Demand as demands
 use Rattle.nbd_session.specs.declared.demand.Demand.{Demand}
@@ -23,13 +25,13 @@ use Rattle.chain.specs.Chain.{bytes_of}
 use Rattle.chain.specs.Chain as chain
 use Rattle.chain.proofs.Cells.{Place, set_there, zip_at}
 use Rattle.chain.proofs.Cells as cells
-use Rattle.clients.specs.Calls.{BeginsToKeep, Forgets, IsDemandOf, KeepsAll, TakesUpFrom}
+use Rattle.clients.specs.Calls.{AreAtPlaces, Begins, BeginsToKeep, Forgets, IsDemandOf, KeepsAll, TakesUpFrom}
 use Rattle.clients.specs.Clients.{AreKept, Client, GoOn, Keeps, Sessions, held_of, held_under, no_one, of_session, place_of, replies_in}
-use Rattle.clients.proofs.Places.{place_by_ids, same_id}
+use Rattle.clients.proofs.Places.{place_before, place_by_ids, place_came, same_id}
 use Rattle.world.specs.Reception.{IsFed}
-use Rattle.world.specs.World.{Goes, IsAccounted, IsOfOneVolume, Seen, Shows, sent_in}
+use Rattle.world.specs.World.{Goes, IsAccounted, IsOfOneVolume, Remain, Seen, Shows, sent_in}
 use Rattle.world.proofs.Going.{goes_by, goes_nowhere, goes_on, goes_same}
-use Rattle.world.proofs.GoingOn.{go_on_still}
+use Rattle.world.proofs.GoingOn.{go_on_still, remain_at}
 use Rattle.world.proofs.TakingSteps.{WaitsAt, demands_then, shows_demands, waits_at, with_demands}
 use Rattle.world.proofs.TellingSteps.{set_none}
 
@@ -194,6 +196,19 @@ module _ (size : ℕ) (v : View) (at : ℕ) (member : Member) (place : ℕ) (hel
       spot : Place v.members at member
       spot = cells.place_of v.members at member there
 
+-- the client that comes
+abbrev greeted_client : Sessions → SessionId → ℕ → Client
+greeted_client old id at = record { session = greeted old.board id old.export; at = at; told = false }
+
+-- who was there keeps its place before whom comes
+come_behind : (old new : Sessions) (id : SessionId) (at : ℕ) → Begins id at old new → Remain old new
+come_behind old new id at begins = record {
+  places = λ one place there. rw begins.are (place_before one old.clients (greeted_client old id at) place there);
+  came = λ one place there. place_came one old.clients (greeted_client old id at) place (subst (λ (x : Sessions). place_of one x.clients ≡ Some place) begins.are there);
+  many = rw begins.are (let sum = length-append old.clients (greeted_client old id at ∷ []) in omega (arith, sum));
+  export = ap (λ s. s.export) begins.are;
+}
+
 -- ---- of the one volume
 
 module _ {S : Type 0} (about : S → About) (keeps : S → List ℕ → Type 0) (may_leave_now : S → List ℕ → Type 0) where
@@ -212,12 +227,13 @@ module _ {S : Type 0} (about : S → About) (keeps : S → List ℕ → Type 0) 
     goes = goes_nowhere v;
     go_on = go_on_still w.sessions.clients;
     sent = λ id place there. nothing_sent (get_or v.kept place []) (get_or v.kept place []) refl;
+    remain = record { places = λ id place there. there; came = λ id place there. inl there; many = le_refl (length w.sessions.clients); export = refl };
   }
 
-  pub begins_one_volume : (old : Seen S) (sessions : Sessions) → BeginsToKeep old.sessions.clients sessions.clients
+  pub begins_one_volume : (old : Seen S) (sessions : Sessions) → Remain old.sessions sessions → BeginsToKeep old.sessions.clients sessions.clients
       → GoOn old.sessions.clients sessions.clients no_one no_one no_one []
       → IsOfOneVolume about keeps may_leave_now no_one no_one old (record old { sessions = sessions })
-  begins_one_volume old sessions begins lawful v s shows stands = record {
+  begins_one_volume old sessions stay begins lawful v s shows stands = record {
     w = record v { kept = insert v.kept (length old.sessions.clients) [] };
     events = [];
     asked = no_one;
@@ -225,6 +241,7 @@ module _ {S : Type 0} (about : S → About) (keeps : S → List ℕ → Type 0) 
     goes = goes_by SessionBegins v (record v { kept = insert v.kept (length old.sessions.clients) [] }) [] (length old.sessions.clients, refl, refl);
     go_on = lawful;
     sent = λ id place there. nothing_sent (get_or v.kept place []) (get_or (insert v.kept (length old.sessions.clients) []) place []) (kept_then place);
+    remain = stay;
   }
     where
       none_behind : (kept : List (List Held)) (place : ℕ) → get_or (kept ++ [] ∷ []) place [] ≡ get_or kept place []
@@ -239,10 +256,10 @@ module _ {S : Type 0} (about : S → About) (keeps : S → List ℕ → Type 0) 
           ∙ ap (λ (l : List (List Held)). get_or l place []) (insert_end v.kept [])
           ∙ none_behind v.kept place
 
-  pub ends_one_volume : (old : Seen S) (sessions : Sessions) → Forgets old.sessions.clients sessions.clients
+  pub ends_one_volume : (old : Seen S) (sessions : Sessions) → Remain old.sessions sessions → Forgets old.sessions.clients sessions.clients
       → GoOn old.sessions.clients sessions.clients no_one no_one no_one []
       → IsOfOneVolume about keeps may_leave_now no_one no_one old (record old { sessions = sessions })
-  ends_one_volume old sessions forgets lawful v s shows stands =
+  ends_one_volume old sessions stay forgets lawful v s shows stands =
       let (at, are) = forgets v.kept shows.kept in
       record {
         w = record v { kept = set v.kept at [] };
@@ -255,12 +272,13 @@ module _ {S : Type 0} (about : S → About) (keeps : S → List ℕ → Type 0) 
           | inl same ↦ nothing_sent (get_or v.kept place []) (get_or (set v.kept at []) place []) same
           | inr none ↦ inr (refl, refl, none)
         ];
+        remain = stay;
       }
 
-  pub hands_one_volume : (old : Seen S) (sessions : Sessions) (handed : SessionId → List ℕ) → KeepsAll old.sessions.clients sessions.clients
+  pub hands_one_volume : (old : Seen S) (sessions : Sessions) (handed : SessionId → List ℕ) → Remain old.sessions sessions → KeepsAll old.sessions.clients sessions.clients
       → GoOn old.sessions.clients sessions.clients no_one handed no_one []
       → IsOfOneVolume about keeps may_leave_now no_one handed old (record old { sessions = sessions })
-  hands_one_volume old sessions handed still lawful v s shows stands = record {
+  hands_one_volume old sessions handed stay still lawful v s shows stands = record {
     w = v;
     events = [];
     asked = no_one;
@@ -268,6 +286,7 @@ module _ {S : Type 0} (about : S → About) (keeps : S → List ℕ → Type 0) 
     goes = goes_nowhere v;
     go_on = lawful;
     sent = λ id place there. nothing_sent (get_or v.kept place []) (get_or v.kept place []) refl;
+    remain = stay;
   }
 
   pub fed_one_volume : (old : Seen S) (id : SessionId) (piece : List ℕ) (at : ℕ) (queue later : List Demand) (sessions : Sessions)
@@ -281,6 +300,7 @@ module _ {S : Type 0} (about : S → About) (keeps : S → List ℕ → Type 0) 
     goes = fed_goes (bytes_of old.chain) v at waits.member takes.place takes.held takes.more (map held_of fed.demands) takes.rest waits.here takes.here takes.whole;
     go_on = go_on_sent old.sessions.clients sessions.clients (of_session id piece) no_one (of_session id (map asked_by fed.demands)) takes.more fed.lawful;
     sent = fed_accounted id old.sessions.board old.sessions.export.size fed.demands old.sessions.clients sessions.clients v.kept fed.own takes fed.places.ids;
+    remain = remain_at old.sessions sessions fed.places;
   }
     where
       takes : TakesUpFrom id fed.demands old.sessions.clients sessions.clients v.kept
@@ -312,16 +332,18 @@ module _ {S : Type 0} (about : S → About) (keeps : S → List ℕ → Type 0) 
       → IsOfOneVolume about keeps may_leave_now no_one no_one w (record w { sessions = sessions })
   unchanged w sessions same = subst (λ (s : Sessions). IsOfOneVolume about keeps may_leave_now no_one no_one w (record w { sessions = s })) (sym same) (nothing_happens w)
 
-  pub connected_one_volume : {E : Type 0} (w : Seen S) (id : SessionId) (sessions : Sessions) (r : Result Bool E)
+  pub connected_one_volume : {E : Type 0} (w : Seen S) (id : SessionId) (at : ℕ) (sessions : Sessions) (r : Result Bool E)
+      → IfOk r (λ begun. begun ≡ true → Begins id at w.sessions sessions)
       → IfOk r (λ begun. begun ≡ true → BeginsToKeep w.sessions.clients sessions.clients)
       → IfOk r (λ begun. begun ≡ true → GoOn w.sessions.clients sessions.clients no_one no_one no_one []) → IfOk r (λ begun. begun ≡ false → IsSome (place_of id w.sessions.clients) × (sessions ≡ w.sessions)) → OnErr r (sessions ≡ w.sessions)
       → IsOfOneVolume about keeps may_leave_now no_one no_one w (record w { sessions = sessions })
-  connected_one_volume w id sessions (Ok true) begins lawful known err = begins_one_volume w sessions (begins refl) (lawful refl)
-  connected_one_volume w id sessions (Ok false) begins lawful known err = unchanged w sessions (known refl).1
-  connected_one_volume w id sessions (Err e) begins lawful known err = unchanged w sessions err
+  connected_one_volume w id at sessions (Ok true) come begins lawful known err = begins_one_volume w sessions (come_behind w.sessions sessions id at (come refl)) (begins refl) (lawful refl)
+  connected_one_volume w id at sessions (Ok false) come begins lawful known err = unchanged w sessions (known refl).1
+  connected_one_volume w id at sessions (Err e) come begins lawful known err = unchanged w sessions err
 
   pub ended_one_volume : {Idle : Type 0} (w : Seen S) (sessions : Sessions) (ended : Bool)
+      → AreAtPlaces w.sessions sessions
       → (ended ≡ true → Forgets w.sessions.clients sessions.clients)
       → GoOn w.sessions.clients sessions.clients no_one no_one no_one [] → (ended ≡ false → Idle × (sessions ≡ w.sessions)) → IsOfOneVolume about keeps may_leave_now no_one no_one w (record w { sessions = sessions })
-  ended_one_volume w sessions true forgets lawful idle = ends_one_volume w sessions (forgets refl) lawful
-  ended_one_volume w sessions false forgets lawful idle = unchanged w sessions (idle refl).1
+  ended_one_volume w sessions true places forgets lawful idle = ends_one_volume w sessions (remain_at w.sessions sessions places) (forgets refl) lawful
+  ended_one_volume w sessions false places forgets lawful idle = unchanged w sessions (idle refl).1

@@ -94,6 +94,7 @@ joined_taken old new at demand rest room replies outputs events here queues alik
     record {
       board = so.board;
       size = so.size;
+      payload = so.payload;
       places = so.places;
       queues = ap length queues ∙ length-set old.queues at rest ∙ so.queues;
       demands = subst (All (All (IsOfVolume new.chain.id (bytes_of new.chain)))) (sym queues)

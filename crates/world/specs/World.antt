@@ -1,5 +1,5 @@
 -- What contracts see of a world, what holds of every one, and when a call of it is of the one volume.
-use Rattle.std.specs.Prelude.{◌≡◌, ◌⊎◌, ℕ, ◌<◌, ◌==◌, Some, List, [], ◌∷◌, ◌++◌, All, if◌then◌else◌, get_or, length, map}
+use Rattle.std.specs.Prelude.{◌≡◌, ◌⊎◌, ℕ, ◌<◌, ◌≤◌, ◌==◌, None, Some, List, [], ◌∷◌, ◌++◌, All, if◌then◌else◌, get_or, length, map}
 use Rattle.std.specs.List.{flat_map}
 use Rattle.board.specs.Seats.{BoardId}
 use Rattle.flush_barrier.specs.declared.session_id.SessionId.{SessionId}
@@ -31,6 +31,7 @@ pub record IsOfVolume (id : BoardId) (size : ℕ) (demand : Demand) : Type 0 whe
 pub record IsJoined {S : Type 0} (w : Seen S) : Type 0 where
   pub board : w.sessions.board ≡ w.chain.id
   pub size : w.sessions.export.size ≡ bytes_of w.chain
+  pub payload : w.sessions.export.max_payload ≡ w.chain.geometry.max_payload
   pub places : All (λ client. client.at < length w.chain.members) w.sessions.clients
   pub queues : length w.queues ≡ length w.chain.members
   pub demands : All (All (IsOfVolume w.chain.id (bytes_of w.chain))) w.queues
@@ -74,6 +75,13 @@ AskWhatWasSent clients v w asked events =
     (id : SessionId) (place : ℕ) → place_of id clients ≡ Some place
     → IsAccounted (get_or v.kept place []) (sent_in id events) (map (held_under id) (asked id)) (get_or w.kept place [])
 
+-- each session that was there keeps its place, others come behind, and the export is the same
+pub record Remain (old new : Sessions) : Type 0 where
+  pub places : (id : SessionId) (place : ℕ) → place_of id old.clients ≡ Some place → place_of id new.clients ≡ Some place
+  pub came : (id : SessionId) (place : ℕ) → place_of id new.clients ≡ Some place → (place_of id old.clients ≡ Some place) ⊎ ((place_of id old.clients ≡ None) × (length old.clients ≤ place))
+  pub many : length old.clients ≤ length new.clients
+  pub export : new.export ≡ old.export
+
 -- ---- what a call does
 
 -- What happens in a world while sessions are fed this and hand this out: clients see these events, each session's history goes on
@@ -86,6 +94,7 @@ pub record HappensSo {S : Type 0} (about : S → About) (keeps : S → List ℕ 
   pub goes : Goes (bytes_of old.chain) v w events
   pub go_on : GoOn old.sessions.clients new.sessions.clients fed handed asked events
   pub sent : AskWhatWasSent new.sessions.clients v w asked events
+  pub remain : Remain old.sessions new.sessions
 
 -- Whatever state of the one volume the world stood for, what the call did can happen in such a world.
 abbrev pub IsOfOneVolume : {S : Type 0} → (S → About) → (S → List ℕ → Type 0) → (S → List ℕ → Type 0) → (fed handed : SessionId → List ℕ) → Seen S → Seen S → Type 0

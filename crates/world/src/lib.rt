@@ -6,6 +6,7 @@
 //! see of all calls together is one volume. Which call comes when is left to the layer above.
 #![tactic(auto)]
 
+mod arming;
 mod asking;
 mod members;
 mod queue;

@@ -1,5 +1,6 @@
 ghost use Rattle.std.specs.Prelude.{◌≡◌, ◌≤◌, ◌<◌, ◌*◌, ℕ, [], List, None, length, map, replicate, slice_get, All, IfErr, IfOk, IfSome, IsTrue, ◌↔◌};
 ghost use Rattle.std.specs.Prelude.{◌∷◌};
+ghost use Rattle.chain_steps.specs.Node.{durable_of, last_of};
 
 use crate::queue::Queue;
 use chain::Chain;
@@ -33,7 +34,8 @@ impl<S: StoreLike> Model for World<S> {
 
 impl<S: StoreLike + Drop> World<S> {
     ghost use Rattle.chain.specs.Chain as chains;
-    ghost use Rattle.world.specs.World.{HasNoClients, Shows};
+    ghost use Rattle.clients.specs.Clients.{AreSessions};
+    ghost use Rattle.world.specs.World.{HasNoClients, IsJoined, Shows};
     ghost use Rattle.world_model.specs.Chain.{View};
 
     /// The world of a chain, without clients. Their sessions will be at the chain's volume.
@@ -63,6 +65,14 @@ impl<S: StoreLike + Drop> World<S> {
         })
     }
 
+    /// Does nothing: its clauses are what holds of every world.
+    pub fn sound(&self)
+        ensures joined { IsJoined self.now }
+        ensures sessions { AreSessions self.now.sessions }
+    {
+        self.clients.sound();
+    }
+
     /// How many members it has.
     pub fn len(&self) -> usize
         ensures { result ≡ length self.now.chain.members }
@@ -75,6 +85,14 @@ impl<S: StoreLike + Drop> World<S> {
         ensures { result ≡ self.now.chain.geometry }
     {
         self.chain.geometry()
+    }
+
+    /// The committed front.
+    pub fn front(&mut self) -> u64
+        ensures front { result ≡ self.old.chain.words.front }
+        ensures unchanged { self.new ≡ self.old }
+    {
+        self.chain.front()
     }
 
     /// The slot of the member at a place.
@@ -91,6 +109,30 @@ impl<S: StoreLike + Drop> World<S> {
         ensures { IfSome (slice_get self.now.chain.members at) (λ m. result ≡ m.node.state.stopped) }
     {
         self.chain.cause(at)
+    }
+
+    /// The durable front of the member at a place.
+    pub fn durable(&self, at: usize) -> u64
+        requires { at < length self.now.chain.members }
+        ensures { IfSome (slice_get self.now.chain.members at) (λ m. result ≡ durable_of m.node.state) }
+    {
+        self.chain.durable(at)
+    }
+
+    /// The known commit of the member at a place.
+    pub fn known(&self, at: usize) -> u64
+        requires { at < length self.now.chain.members }
+        ensures { IfSome (slice_get self.now.chain.members at) (λ m. result ≡ m.node.state.known) }
+    {
+        self.chain.known(at)
+    }
+
+    /// The number of the last write that the member at a place has applied.
+    pub fn applied(&self, at: usize) -> u64
+        requires { at < length self.now.chain.members }
+        ensures { IfSome (slice_get self.now.chain.members at) (λ m. result ≡ last_of m.node.state) }
+    {
+        self.chain.applied(at)
     }
 
     /// Gives the world up, and its members' stores back, from the head's to the tail's. What waits for clients is gone, and the tokens

@@ -1,0 +1,4 @@
+mod Among
+mod Answering
+mod Lives
+pub mod Passing

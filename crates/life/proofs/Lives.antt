@@ -1,0 +1,244 @@
+-- One era after another: lemmas.
+use Rattle.std.proofs.Common.{◌≡◌, ℕ, List, [], ◌∷◌, ◌++◌, length, refl, ap, sym, subst, ◌∙◌, inl, inr, arith}
+use Rattle.std.specs.Prelude.{◌⊎◌, ◌==◌, ◌*◌, ◌≤◌, All, IfSome, IsSome, None, Option, Some, fold, get_or, map, slice_get, zip}
+use Rattle.std.specs.List.{AllZip, flat_map}
+use Rattle.std.proofs.lemmas.Bool.{eqb-true}
+use Rattle.std.proofs.lemmas.List.Quantifiers.{position-Some}
+use Rattle.flush_barrier.specs.declared.session_id.SessionId.{SessionId}
+use Rattle.local_store.specs.About.{About, meaning_with}
+use Rattle.local_store.specs.Meaning.{Meaning, Means}
+use Rattle.nbd_session.specs.Lawful.{History, IsLawful, nothing}
+use Rattle.nbd_session.specs.declared.answer.Export.{Export}
+use Rattle.version_table.specs.Held.{writes_upto}
+use Rattle.volume.specs.Writes.{patched, volume_of}
+use Rattle.volume.specs.declared.geometry.Geometry.{Geometry}
+use Rattle.chain_steps.specs.Steps.{volume_at}
+use Rattle.world_model.specs.Chain.{Member, StandsFor, View}
+use Rattle.world_model.specs.ChainLaws.{FirstChain, IsBeginning, RestartsChain, with_members}
+use Rattle.world_model.specs.Event.{ClientEvent}
+use Rattle.world_model.specs.Life.{HappeningsAreOfOneVolume}
+use Rattle.world_model.specs.Machine.{May, Restart, State, after, shown, start}
+use Rattle.world_model.specs.Requests.{Held}
+use Rattle.chain.specs.Chain.{Chained, bytes_of}
+use Rattle.chain.specs.Member.{IsShown, Linked}
+use Rattle.chain.proofs.Cells.{place_of as cell_of, twin_of}
+use Rattle.clients.specs.Clients.{AllGo, AreKept, AreSessions, Client, Extends, IsOf, Sessions, held_under, place_of, replies_in}
+use Rattle.clients.specs.Laws.{FirstHasNone, IsLawfulFor, OutputsAreLawful}
+use Rattle.clients.proofs.Places.{same_id}
+use Rattle.world.specs.World.{IsJoined, Seen, Shows, sent_in}
+use Rattle.life.specs.Begun.{BeginsWith, export_of}
+use Rattle.life.specs.Headline.{IsLawfulEra, IsLawfulSession, IsOneLife, RestartsBetween, Told, fed_in, handed_in, told_in}
+use Rattle.life.specs.Lived.{Continued, Continues, IsFresh, Lives}
+use Rattle.life.specs.Passing.{AreAmong, PassAsOne, Passes}
+use Rattle.life.specs.declared.answer.Answer.{Answer}
+use Rattle.life.specs.declared.era.Deed.{Deed}
+use Rattle.life.specs.declared.era.Era.{Era}
+use Rattle.life.proofs.Among.{among_cut}
+use Rattle.life.proofs.Passing.{goes_plays}
+
+-- ---- lists
+
+pub told_more : (eras : List Era) (answers : List (List Answer)) (era : Era) (these : List Answer) → length answers ≡ length eras
+    → told_in (eras ++ era ∷ []) (answers ++ these ∷ []) ≡ told_in eras answers ++ zip era.deeds.items these ∷ []
+told_more [] [] era these same = refl
+told_more [] (a ∷ answers) era these same = absurd (omega (arith, same))
+told_more (e ∷ eras) [] era these same = absurd (omega (arith, same))
+told_more (e ∷ eras) (a ∷ answers) era these same = ap (λ l. zip e.deeds.items a ∷ l) (told_more eras answers era these (omega (arith, same)))
+
+pub zip_more : {A B : Type 0} (xs : List A) (ys : List B) (x : A) (y : B) → length ys ≡ length xs → zip (xs ++ x ∷ []) (ys ++ y ∷ []) ≡ zip xs ys ++ (x, y) ∷ []
+zip_more [] [] x y same = refl
+zip_more [] (b ∷ ys) x y same = absurd (omega (arith, same))
+zip_more (a ∷ xs) [] x y same = absurd (omega (arith, same))
+zip_more (a ∷ xs) (b ∷ ys) x y same = ap (λ l. (a, b) ∷ l) (zip_more xs ys x y (omega (arith, same)))
+
+pub all_more : {A B : Type 0} (R : A → B → Type 0) (xs : List A) (ys : List B) (x : A) (y : B) → AllZip R xs ys → R x y → AllZip R (xs ++ x ∷ []) (ys ++ y ∷ [])
+all_more R [] [] x y all fits = (fits, tt)
+all_more R [] (b ∷ ys) x y all fits = absurd all
+all_more R (a ∷ xs) [] x y all fits = absurd all
+all_more R (a ∷ xs) (b ∷ ys) x y all fits = (all.0, all_more R xs ys x y all.1 fits)
+
+-- ---- the machine
+
+pub restarts_more : (size : ℕ) (s t : State) (eras : List (List ClientEvent)) (era : List ClientEvent) (u : State) → RestartsBetween size s eras t → RestartsBetween size t (era ∷ []) u
+    → RestartsBetween size s (eras ++ era ∷ []) u
+restarts_more size s t [] era u same later = subst (λ x. RestartsBetween size x (era ∷ []) u) same later
+restarts_more size s t (e ∷ eras) era u (moves, end, front, on, seen, may, rest) later = (moves, end, front, on, seen, may, restarts_more size (after end (Restart front)) t eras era u rest later)
+
+-- ---- an era of sessions
+
+-- no session was there before
+none_before : (histories : SessionId → History) → AllGo [] histories → (id : SessionId) → histories id ≡ nothing
+none_before histories all id = all.none id refl
+
+-- what went out to each session is lawful
+lawful_in : (sessions : Sessions) (later : SessionId → History) → OutputsAreLawful → AllGo sessions.clients later → AreSessions sessions
+    → (id : SessionId) → IsLawfulSession sessions.export (later id).fed (later id).handed (later id).asked (later id).replies
+lawful_in sessions later lawful all are id = by_place (place_of id sessions.clients) refl
+  where
+    at_place : (cs : List Client) (place : ℕ) → place_of id cs ≡ Some place → All (λ client. IsLawfulFor client (later client.session.id)) cs → All (IsOf sessions.board sessions.export) cs
+        → IsLawfulSession sessions.export (later id).fed (later id).handed (later id).asked (later id).replies
+    at_place [] place there out own = let none : None ≡ Some place = there in absurd (cc)
+    at_place (c ∷ cs) place there out own =
+        let (within, passes) = position-Some (λ (client : Client). client.session.id.0 == id.0) (c ∷ cs) place c there in
+        let client = get_or (c ∷ cs) place c in
+        let same : client.session.id ≡ id = same_id client.session.id id (eqb-true client.session.id.0 id.0 passes) in
+        let is = subst (λ i. IsLawfulFor client (later i)) same (out place c within) in
+        inl (client.session.output, subst (λ e. IsLawful e (later id).fed ((later id).handed ++ client.session.output) (later id).asked (later id).replies) (own place c within).own_export is)
+
+    by_place : (place : Option ℕ) → place_of id sessions.clients ≡ place → IsLawfulSession sessions.export (later id).fed (later id).handed (later id).asked (later id).replies
+    by_place None none =
+        let is = all.none id none in
+        inr (ap (λ h. h.fed) is, ap (λ h. h.handed) is, ap (λ h. h.asked) is, ap (λ h. h.replies) is)
+    by_place (Some place) there = at_place sessions.clients place there (lawful sessions.clients later all) are.own
+
+-- what a history became that was nothing
+was_nothing : {A : Type 0} (xs ys more : List A) → xs ≡ ys ++ more → ys ≡ [] → xs ≡ more
+was_nothing xs ys more is none = is ∙ ap (λ l. l ++ more) none
+
+-- where there are no sessions, nothing is kept
+none_kept : (cs : List Client) (kept : List (List Held)) → cs ≡ [] → AreKept cs kept → kept ≡ []
+none_kept [] [] none are = refl
+none_kept [] (held ∷ kept) none are = absurd are
+none_kept (c ∷ cs) kept none are = absurd (cc)
+
+module _ {S : Type 0} (about : S → About) (keeps : S → List ℕ → Type 0) (may_leave_now : S → List ℕ → Type 0) where
+  -- an era of sessions that all began in it
+  pub era_lawful : (old new : Seen S) (told : Told) (v : View) (one : Passes about keeps may_leave_now old new (fed_in told) (handed_in told) v) → FirstHasNone → OutputsAreLawful
+      → old.sessions.clients ≡ [] → v.kept ≡ [] → AreSessions new.sessions → IsLawfulEra new.sessions.export told one.events
+  era_lawful old new told v one first lawful none kept are = record {
+    asked = one.asked;
+    lawful = λ id.
+        let ext = extends id in
+        let h = later id in
+        let fed = was_nothing h.fed [] (fed_in told id) ext.fed refl in
+        let handed = was_nothing h.handed [] (handed_in told id) ext.handed refl in
+        let asked = was_nothing h.asked [] (one.asked id) ext.asked refl in
+        let replies = was_nothing h.replies [] (replies_in id one.events) ext.replies refl in
+        rw (← fed, ← handed, ← asked, ← replies) (lawful_in new.sessions later lawful all are id);
+    sent = λ id. by_place id (place_of id new.sessions.clients) refl;
+  }
+    where
+      going : AllGo old.sessions.clients (λ id. nothing)
+      going = subst (λ cs. AllGo cs (λ id. nothing)) (sym none) first
+
+      later : SessionId → History
+      later = (one.go_on (λ id. nothing) going).0
+
+      all : AllGo new.sessions.clients later
+      all = (one.go_on (λ id. nothing) going).1
+
+      extends : (id : SessionId) → Extends nothing (later id) (fed_in told id) (handed_in told id) (one.asked id) (replies_in id one.events)
+      extends = (one.go_on (λ id. nothing) going).2
+
+      by_place : (id : SessionId) (place : Option ℕ) → place_of id new.sessions.clients ≡ place → AreAmong (map (held_under id) (one.asked id)) (sent_in id one.events)
+      by_place id None there =
+          let silent : one.asked id ≡ [] = sym (was_nothing (later id).asked [] (one.asked id) (extends id).asked refl) ∙ ap (λ h. h.asked) (all.none id there) in
+          subst (λ l. AreAmong (map (held_under id) l) (sent_in id one.events)) (sym silent) tt
+      by_place id (Some place) there =
+          let none_kept : get_or v.kept place [] ≡ [] = ap (λ l. get_or l place []) kept in
+          among_cut (map (held_under id) (one.asked id)) (get_or one.w.kept place []) (sent_in id one.events)
+              (subst (λ l. AreAmong (map (held_under id) (one.asked id) ++ get_or one.w.kept place []) (l ++ sent_in id one.events)) none_kept (one.sent (λ id. nothing) going id place there))
+
+  -- ---- a cut
+
+  -- what a disk is left with is some front of its member, and the machine restarts there
+  pub recovers : RestartsChain → (old : Seen S) (v : View) (s : State) (at : ℕ) (m : Linked S) (c : List ℕ) (meaning : Meaning) (new : Seen S)
+      → ((one other : Meaning) (bytes : List ℕ) → Means one bytes → Means other bytes → one ≡ other)
+      → Shows about keeps may_leave_now old v → StandsFor (bytes_of old.chain) v s → slice_get old.chain.members at ≡ Some m → may_leave_now m.node.store c → Means meaning c
+      → (about m.node.store).geometry ≡ old.chain.geometry
+      → BeginsWith about keeps may_leave_now meaning.geometry meaning.front meaning.volume new
+      → (front : ℕ) × May s (Restart front) × IsFresh about keeps may_leave_now (bytes_of old.chain) (export_of old.chain.geometry) new (after s (Restart front))
+  recovers law old v s at m c meaning new one_meaning shows stands here left means sizes begun =
+      let place = cell_of old.chain.members at m here in
+      let twin = twin_of (IsShown about keeps may_leave_now (bytes_of old.chain)) place.above m place.below v.members (subst (λ l. AllZip (IsShown about keeps may_leave_now (bytes_of old.chain)) l v.members) place.split shows.chain.members) in
+      let so = twin.fits in
+      let own = twin.own in
+      let (front, durable, known, is) = so.left c left in
+      let same = one_meaning meaning (meaning_with (record (about m.node.store) { front = front }) (volume_at own.volume m.node.state front)) c means is in
+      let node : own.node ≡ m.node.state = ap (λ x. x.node) so.is in
+      let begins : IsBeginning front (fold patched own.volume (writes_upto own.node.table front)) begun.view =
+          rw node (subst (λ f. IsBeginning f (volume_at own.volume m.node.state front) begun.view) (ap (λ x. x.front) same) (subst (λ l. IsBeginning meaning.front l begun.view) (ap (λ x. x.volume) same) begun.begins)) in
+      let did = law (bytes_of old.chain) v twin.over own twin.under s front begun.view
+          (subst (λ ms. StandsFor (bytes_of old.chain) (with_members v ms) s) twin.are (same_members v (bytes_of old.chain) s stands)) (rw node durable) (rw node known) begins in (
+        front,
+        did.0,
+        record {
+          view = begun.view;
+          shows = begun.shows;
+          stands = did.1;
+          no_clients = begun.no_clients;
+          has = begun.export ∙ ap export_of (ap (λ x. x.geometry) same ∙ sizes);
+        },
+      )
+    where
+      same_members : (v : View) (size : ℕ) (s : State) → StandsFor size v s → StandsFor size (with_members v v.members) s
+      same_members v size s stands = stands
+
+  -- the export is that of the chain's sizes
+  exported_as : (w : Seen S) → IsJoined w → export_of w.chain.geometry ≡ w.sessions.export
+  exported_as w joined = rw (joined.size, joined.payload) refl
+
+  -- ---- a life
+
+  pub era_continues : HappeningsAreOfOneVolume → RestartsChain → FirstHasNone → OutputsAreLawful
+      → ((one other : Meaning) (bytes : List ℕ) → Means one bytes → Means other bytes → one ≡ other)
+      → (old mid new : Seen S) (told : Told) (at : ℕ) (m : Linked S) (c : List ℕ) (meaning : Meaning) → IsJoined old → IsJoined mid → AreSessions mid.sessions
+      → PassAsOne about keeps may_leave_now (fed_in told) (handed_in told) old mid
+      → slice_get mid.chain.members at ≡ Some m → may_leave_now m.node.store c → Means meaning c
+      → (about m.node.store).geometry ≡ mid.chain.geometry
+      → BeginsWith about keeps may_leave_now meaning.geometry meaning.front meaning.volume new
+      → Continues about keeps may_leave_now told old new
+  era_continues happenings restarts first lawful one_meaning old mid new told at m c meaning joined joined_then are pass here left means sizes begun export s fresh =
+      let size : export.size ≡ bytes_of old.chain = ap (λ e. e.size) (sym fresh.has) ∙ joined.size in
+      let stands = subst (λ n. StandsFor n fresh.view s) size fresh.stands in
+      let one = pass fresh.view s fresh.shows stands in
+      let plays = goes_plays happenings (bytes_of old.chain) fresh.view one.w one.events one.goes s stands in
+      let stays : bytes_of mid.chain ≡ bytes_of old.chain = sym joined_then.size ∙ ap (λ e. e.size) one.remain.export ∙ joined.size in
+      let kept : fresh.view.kept ≡ [] = none_kept old.sessions.clients fresh.view.kept fresh.no_clients fresh.shows.kept in
+      let rec_ = recovers restarts mid one.w plays.1 at m c meaning new one_meaning one.shows (subst (λ n. StandsFor n one.w plays.1) (sym stays) plays.4) here left means sizes begun in
+      let exported : mid.sessions.export ≡ export = one.remain.export ∙ fresh.has in
+      let again : export_of mid.chain.geometry ≡ export = exported_as mid joined_then ∙ exported in
+      record {
+        events = one.events;
+        lawful = subst (λ e. IsLawfulEra e told one.events) exported (era_lawful old mid told fresh.view one first lawful fresh.no_clients kept are);
+        moves = plays.0;
+        end = plays.1;
+        front = rec_.0;
+        on = plays.2;
+        seen = subst (λ n. shown n s plays.0 ≡ one.events) (sym size) plays.3;
+        may = rec_.1;
+        fresh = subst (λ n. IsFresh about keeps may_leave_now n export new (after plays.1 (Restart rec_.0))) (stays ∙ sym size)
+            (subst (λ e. IsFresh about keeps may_leave_now (bytes_of mid.chain) e new (after plays.1 (Restart rec_.0))) again rec_.2);
+      }
+
+  pub begins_life : FirstChain → (geometry : Geometry) (w : Seen S) → BeginsWith about keeps may_leave_now geometry 0 (volume_of (4096 * geometry.blocks) []) w
+      → Lives about keeps may_leave_now (4096 * geometry.blocks) (export_of geometry) [] w
+  begins_life first geometry w begun = record {
+    events = [];
+    lawful = tt;
+    end = start;
+    runs = refl;
+    fresh = record { view = begun.view; shows = begun.shows; stands = first (4096 * geometry.blocks) begun.view begun.begins; no_clients = begun.no_clients; has = begun.export };
+  }
+
+  pub lives_on : (export : Export) (eras : List Told) (told : Told) (old new : Seen S) → Lives about keeps may_leave_now export.size export eras old → Continues about keeps may_leave_now told old new
+      → Lives about keeps may_leave_now export.size export (eras ++ told ∷ []) new
+  lives_on export eras told old new was continues =
+      let did = continues export was.end was.fresh in
+      record {
+        events = was.events ++ did.events ∷ [];
+        lawful = all_more (IsLawfulEra export) eras was.events told did.events was.lawful did.lawful;
+        end = after did.end (Restart did.front);
+        runs = restarts_more export.size start was.end was.events did.events (after did.end (Restart did.front)) was.runs (did.moves, did.end, did.front, did.on, did.seen, did.may, refl);
+        fresh = did.fresh;
+      }
+
+  pub one_life : (size : ℕ) (export : Export) (eras : List Told) (w : Seen S) → Lives about keeps may_leave_now size export eras w
+      → IsOneLife size export eras (λ end. (v : View) × Shows about keeps may_leave_now w v × StandsFor size v end)
+  one_life size export eras w lives = record {
+    events = lives.events;
+    lawful = lives.lawful;
+    end = lives.end;
+    runs = lives.runs;
+    so = (lives.fresh.view, lives.fresh.shows, lives.fresh.stands);
+  }

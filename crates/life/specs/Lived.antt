@@ -1,0 +1,44 @@
+-- An era of a life, and the eras before it.
+use Rattle.std.specs.Prelude.{◌≡◌, ℕ, List, []}
+use Rattle.std.specs.List.{AllZip}
+use Rattle.local_store.specs.About.{About}
+use Rattle.nbd_session.specs.declared.answer.Export.{Export}
+use Rattle.world_model.specs.Chain.{StandsFor, View}
+use Rattle.world_model.specs.Event.{ClientEvent}
+use Rattle.world_model.specs.Machine.{May, Move, Restart, RunsOn, State, after, shown, start}
+use Rattle.chain.specs.Chain.{bytes_of}
+use Rattle.world.specs.World.{Seen, Shows}
+use Rattle.life.specs.Headline.{IsLawfulEra, RestartsBetween, Told}
+
+-- The world stands for this state of the machine, and has no clients.
+pub record IsFresh {S : Type 0} (about : S → About) (keeps : S → List ℕ → Type 0) (may_leave_now : S → List ℕ → Type 0) (size : ℕ) (export : Export) (w : Seen S) (s : State) : Type 0 where
+  pub view : View
+  pub shows : Shows about keeps may_leave_now w view
+  pub stands : StandsFor size view s
+  pub no_clients : w.sessions.clients ≡ []
+  pub has : w.sessions.export ≡ export
+
+-- an era was lawful, one run of the machine without a restart shows it, and then the machine restarts
+pub record Continued {S : Type 0} (about : S → About) (keeps : S → List ℕ → Type 0) (may_leave_now : S → List ℕ → Type 0) (size : ℕ) (export : Export) (told : Told) (s : State) (new : Seen S) : Type 0 where
+  pub events : List ClientEvent
+  pub lawful : IsLawfulEra export told events
+  pub moves : List Move
+  pub end : State
+  pub front : ℕ
+  pub on : RunsOn s moves end
+  pub seen : shown size s moves ≡ events
+  pub may : May end (Restart front)
+  pub fresh : IsFresh about keeps may_leave_now size export new (after end (Restart front))
+
+-- whatever the world stood for, it went on so
+abbrev pub Continues : {S : Type 0} → (S → About) → (S → List ℕ → Type 0) → (S → List ℕ → Type 0) → Told → Seen S → Seen S → Type 0
+Continues about keeps may_leave_now told old new =
+    (export : Export) (s : State) → IsFresh about keeps may_leave_now export.size export old s → Continued about keeps may_leave_now export.size export told s new
+
+-- these eras were, and the world goes on
+pub record Lives {S : Type 0} (about : S → About) (keeps : S → List ℕ → Type 0) (may_leave_now : S → List ℕ → Type 0) (size : ℕ) (export : Export) (eras : List Told) (w : Seen S) : Type 0 where
+  pub events : List (List ClientEvent)
+  pub lawful : AllZip (IsLawfulEra export) eras events
+  pub end : State
+  pub runs : RestartsBetween size start events end
+  pub fresh : IsFresh about keeps may_leave_now size export w end

@@ -1,0 +1,16 @@
+use clients::Output;
+use world::Told;
+
+/// What became of a step.
+#[must_use]
+#[derive(Debug, Drop)]
+pub enum Answer {
+    /// It was taken, and clients were told this.
+    Taken(Told),
+    /// It was taken, and this went out to the client.
+    HandedOut(Output),
+    /// It was refused with this number.
+    Refused(u16),
+    /// There is no such step now: nothing changed.
+    Skipped,
+}

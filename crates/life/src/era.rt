@@ -1,0 +1,22 @@
+use crate::step::Step;
+use disk_model::{Cut, Event};
+
+/// What is done in an era.
+#[derive(Debug, Drop)]
+pub enum Deed {
+    /// A step of the world.
+    Step(Step),
+    /// Something is to happen at a device call to come, of the member at a place.
+    Arm { at: usize, event: Event },
+}
+
+/// From a beginning, or a recovery, to the next cut.
+#[derive(Debug, Drop)]
+pub struct Era {
+    /// What is done, in order.
+    pub deeds: Vec<Deed>,
+    /// What a stop leaves of the ranges that aren't synced.
+    pub cut: Cut,
+    /// The place of the member whose disk returns.
+    pub returned: usize,
+}

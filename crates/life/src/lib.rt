@@ -1,0 +1,27 @@
+//! The life of a chain: what clients, members and the board do, one thing after another, with cuts in between.
+//!
+//! A step of a world is a value here (`Step`), so that a list can hold what is done, and `play` is the call of `World` that it
+//! names. `begin`, `cut` and `recover` make a world over disks in memory, stop it, and go on from one of its disks. `live` plays
+//! whole lives of eras, and carries the headline of this project, `specs/Headline.antt`: what clients see of all eras is one volume,
+//! and what they were told is durable is there after each cut.
+#![tactic(auto)]
+
+mod answer;
+mod begin;
+mod cut;
+mod era;
+mod live;
+mod play;
+mod recover;
+mod refusal;
+mod step;
+
+pub use answer::Answer;
+pub use begin::begin;
+pub use cut::cut;
+pub use era::{Deed, Era};
+pub use live::live;
+pub use play::play;
+pub use recover::recover;
+pub use refusal::Refusal;
+pub use step::{Act, Step};

@@ -1,0 +1,151 @@
+//! Whole lives.
+ghost use Rattle.std.specs.Prelude.{◌≡◌, ◌*◌, ◌<◌, ◌≤◌, IfOk, IfSome, IsSome, length, slice_get, zip};
+ghost use Rattle.clients.specs.Clients.{no_one};
+ghost use Rattle.disk_model.specs.Memory.{given_of};
+ghost use Rattle.local_store.specs.Meaning.{Meaning, Means};
+ghost use Rattle.std.specs.List.{AllZip};
+ghost use Rattle.life.specs.Begun.{BeginsWith, export_of};
+ghost use Rattle.life.specs.Headline.{IsOneLife, fed_in, handed_in, told_in};
+ghost use Rattle.life.specs.Lived.{Continues};
+ghost use Rattle.life.specs.Passing.{PassAsOne};
+ghost use Rattle.world_model.specs.Chain.{StandsFor, View};
+ghost use Rattle.life.specs.Played.{fed_by, handed_by};
+ghost use Rattle.world.specs.World.{IsOfOneVolume, Shows};
+
+use crate::answer::Answer;
+use crate::begin::begin;
+use crate::cut::cut;
+use crate::era::{Deed, Era};
+use crate::play::play;
+use crate::recover::recover;
+use crate::refusal::Refusal;
+use clients::sessions_are_lawful;
+use disk_model::{Event, MemDisk};
+use local_store::{Store, StoreLike, disks_mean_one};
+use std::alloc::{AllocError, Global};
+use volume::Geometry;
+use world::{Told, World};
+use world_model::{chains_begin_again, lives_are_of_one_volume};
+
+/// The number of the refusal for want of memory.
+const MEMORY: u16 = 100;
+
+/// What became of a life.
+pub struct Lived {
+    /// The world that goes on.
+    pub world: World<Store<MemDisk>>,
+    /// The answers, for each era in the order of its deeds.
+    pub answers: Vec<Vec<Answer>>,
+}
+
+/// A chain of so many members, 1 to 8, lives through these eras. It begins over new disks, with a volume of zeros. In each era its
+/// deeds are played, one after another; then everything stops, and the chain goes on from one member's disk.
+///
+/// 192 `NotInChain` where an era returns a place that is none; 100 `Memory`; and what `recover` refuses.
+pub fn live(alloc: Global, geometry: Geometry, members: u8, eras: &[Era]) -> Result<Lived, Refusal>
+    requires some { 0 < members }
+    requires few { members ≤ 8 }
+    ensures all { IfOk result (λ lived. AllZip (λ era answers. length answers.items ≡ length era.deeds.items) eras.now lived.answers.items) }
+    ensures one_life { IfOk result (λ lived. IsOneLife (4096 * geometry.blocks) (export_of geometry) (told_in eras.now lived.answers.items)
+        (λ end. (v : View) × Shows ⟦<Store<MemDisk> as StoreLike>⟧.about ⟦<Store<MemDisk> as StoreLike>⟧.keeps ⟦<Store<MemDisk> as StoreLike>⟧.may_leave_now lived.world v × StandsFor (4096 * geometry.blocks) v end)) }
+{
+    chains_begin_again();
+    let mut answers = Vec::with_capacity(alloc, eras.len())?;
+    let mut world = begin(alloc, geometry, members)?;
+    for era in eras {
+        let (told, next) = live_era(alloc, world, era)?;
+        answers.push_reserved(told);
+        world = next;
+    }
+    Ok(Lived { world, answers })
+}
+
+/// One era, and how it goes on.
+fn live_era(
+    alloc: Global,
+    world: World<Store<MemDisk>>,
+    era: &Era,
+) -> Result<(Vec<Answer>, World<Store<MemDisk>>), Refusal>
+    ensures all { IfOk result (λ lived. length lived.0.items ≡ length era.now.deeds.items) }
+    ensures continues { IfOk result (λ lived. Continues ⟦<Store<MemDisk> as StoreLike>⟧.about ⟦<Store<MemDisk> as StoreLike>⟧.keeps ⟦<Store<MemDisk> as StoreLike>⟧.may_leave_now
+        (zip era.now.deeds.items lived.0.items) world lived.1) }
+{
+    disks_mean_one();
+    chains_begin_again();
+    lives_are_of_one_volume();
+    sessions_are_lawful();
+    let mut world = world;
+    let told = match play_all(alloc, &mut world, &era.deeds) {
+        Ok(told) => told,
+        Err(_) => {
+            drop(world.abandon());
+            return Err(Refusal::Memory);
+        }
+    };
+    let disks = cut(alloc, world, era.cut)?;
+    let next = go_on(alloc, disks, era.returned)?;
+    Ok((told, next))
+}
+
+/// Plays the deeds of an era, one after another.
+fn play_all(
+    alloc: Global,
+    world: &mut World<Store<MemDisk>>,
+    deeds: &[Deed],
+) -> Result<Vec<Answer>, AllocError>
+    ensures all { IfOk result (λ answers. length answers.items ≡ length deeds.now) }
+    ensures pass { IfOk result (λ answers. PassAsOne ⟦<Store<MemDisk> as StoreLike>⟧.about ⟦<Store<MemDisk> as StoreLike>⟧.keeps ⟦<Store<MemDisk> as StoreLike>⟧.may_leave_now
+        (fed_in (zip deeds.now answers.items)) (handed_in (zip deeds.now answers.items)) world.old world.new) }
+{
+    lives_are_of_one_volume();
+    let mut answers = Vec::with_capacity(alloc, deeds.len())?;
+    for deed in deeds {
+        answers.push_reserved(play_deed(alloc, world, deed));
+    }
+    Ok(answers)
+}
+
+/// Does one deed.
+fn play_deed(alloc: Global, world: &mut World<Store<MemDisk>>, deed: &Deed) -> Answer
+    ensures { IsOfOneVolume ⟦<Store<MemDisk> as StoreLike>⟧.about ⟦<Store<MemDisk> as StoreLike>⟧.keeps ⟦<Store<MemDisk> as StoreLike>⟧.may_leave_now
+        (fed_by deed.now result) (handed_by deed.now result) world.old world.new }
+{
+    match deed {
+        Deed::Step(step) => play(alloc, world, step),
+        Deed::Arm { at, event } => arm(alloc, world, *at, *event),
+    }
+}
+
+/// Something is to happen at a device call to come, of the member at a place.
+fn arm(alloc: Global, world: &mut World<Store<MemDisk>>, at: usize, event: Event) -> Answer
+    ensures { IsOfOneVolume ⟦<Store<MemDisk> as StoreLike>⟧.about ⟦<Store<MemDisk> as StoreLike>⟧.keeps ⟦<Store<MemDisk> as StoreLike>⟧.may_leave_now
+        no_one no_one world.old world.new }
+{
+    if at >= world.len() {
+        return Answer::Skipped;
+    }
+    match world.arm(at, event) {
+        Ok(()) => Answer::Taken(Told::Out(Vec::new(alloc))),
+        Err(_) => Answer::Refused(MEMORY),
+    }
+}
+
+/// The chain goes on from the disk at a place.
+fn go_on(
+    alloc: Global,
+    disks: Vec<MemDisk>,
+    at: usize,
+) -> Result<World<Store<MemDisk>>, Refusal>
+    ensures { IfOk result (λ world. IfSome (slice_get disks.items at) (λ disk. (meaning : Meaning) × Means meaning (given_of disk)
+        × BeginsWith ⟦<Store<MemDisk> as StoreLike>⟧.about ⟦<Store<MemDisk> as StoreLike>⟧.keeps ⟦<Store<MemDisk> as StoreLike>⟧.may_leave_now
+            meaning.geometry meaning.front meaning.volume world) × IsSome (slice_get disks.items at)) }
+{
+    let mut disks = disks;
+    if at >= disks.len() {
+        return Err(Refusal::NotInChain);
+    }
+    match recover(alloc, disks.swap_remove(at)) {
+        Ok(world) => Ok(world),
+        Err(refused) => Err(refused.refusal),
+    }
+}

@@ -1,0 +1,191 @@
+//! The steps of a world, as a list holds them.
+ghost use Rattle.std.specs.Prelude.{◌≡◌, ◌<◌, [], length};
+ghost use Rattle.clients.specs.Clients.{no_one};
+ghost use Rattle.life.specs.Played.{fed_by_step, fed_to, handed_by_step, handed_from, handed_of, told_in, tried_in, went_in};
+ghost use Rattle.world.specs.Telling.{outputs_of};
+ghost use Rattle.world.specs.World.{IsOfOneVolume};
+
+use crate::answer::Answer;
+use crate::step::{Act, Step};
+use chain_core::Refusal;
+use flush_barrier::SessionId;
+use local_store::StoreLike;
+use std::alloc::Global;
+use world::{Told, World};
+
+/// The number of the refusal for want of memory.
+const MEMORY: u16 = 100;
+
+/// Plays one step: the call of the world that it names. Where there is no member at its place, no such session, or no such step now,
+/// it is skipped, and nothing changed.
+pub fn play<S: StoreLike + Drop>(alloc: Global, world: &mut World<S>, step: &Step) -> Answer
+    ensures one_volume { S.keeps_model → IsOfOneVolume S.about S.keeps S.may_leave_now (fed_by_step step.now result) (handed_by_step step.now result) world.old world.new }
+{
+    match step {
+        Step::Connect { session, at } => connect(alloc, world, *session, *at),
+        Step::Bytes { session, piece } => feed(alloc, world, *session, piece),
+        Step::End { session } => end(alloc, world, *session),
+        Step::HandOut { session } => hand_out(world, *session),
+        Step::Member { at, act } => {
+            if *at < world.len() {
+                play_at(alloc, world, *at, *act)
+            } else {
+                Answer::Skipped
+            }
+        }
+    }
+}
+
+/// A client begins its session.
+fn connect<S: StoreLike + Drop>(
+    alloc: Global,
+    world: &mut World<S>,
+    session: SessionId,
+    at: usize,
+) -> Answer
+    ensures one_volume { IsOfOneVolume S.about S.keeps S.may_leave_now no_one (handed_of result) world.old world.new }
+{
+    if at >= world.len() {
+        return Answer::Skipped;
+    }
+    match world.connect(session, at) {
+        Ok(true) => silent(alloc),
+        Ok(false) => Answer::Skipped,
+        Err(_) => Answer::Refused(MEMORY),
+    }
+}
+
+/// The client sends a piece.
+fn feed<S: StoreLike + Drop>(
+    alloc: Global,
+    world: &mut World<S>,
+    session: SessionId,
+    piece: &[u8],
+) -> Answer
+    ensures one_volume { IsOfOneVolume S.about S.keeps S.may_leave_now (fed_to session piece.now result) (handed_of result) world.old world.new }
+{
+    match world.feed(session, piece) {
+        Some(Ok(())) => silent(alloc),
+        Some(Err(refusal)) => Answer::Refused(refusal.number()),
+        None => Answer::Skipped,
+    }
+}
+
+/// The client's input ends.
+fn end<S: StoreLike + Drop>(alloc: Global, world: &mut World<S>, session: SessionId) -> Answer
+    ensures one_volume { IsOfOneVolume S.about S.keeps S.may_leave_now no_one (handed_of result) world.old world.new }
+{
+    done(alloc, world.end(session))
+}
+
+/// What waits for the client goes out.
+fn hand_out<S: StoreLike + Drop>(world: &mut World<S>, session: SessionId) -> Answer
+    ensures one_volume { IsOfOneVolume S.about S.keeps S.may_leave_now no_one (handed_from session result) world.old world.new }
+{
+    match world.hand_out(session) {
+        Some(output) => Answer::HandedOut(output),
+        None => Answer::Skipped,
+    }
+}
+
+/// The member at a place acts.
+fn play_at<S: StoreLike + Drop>(
+    alloc: Global,
+    world: &mut World<S>,
+    at: usize,
+    act: Act,
+) -> Answer
+    requires { at < length world.old.chain.members }
+    ensures one_volume { S.keeps_model → IsOfOneVolume S.about S.keeps S.may_leave_now no_one (handed_of result) world.old world.new }
+{
+    match act {
+        Act::Take => told(world.take(at)),
+        Act::Number => tried(world.number(at)),
+        Act::Put => tried(world.put(at)),
+        Act::Ack => tried(world.ack(at)),
+        Act::Look => done(alloc, world.look(at)),
+        Act::AnswerFront => told(world.answer_front(at)),
+        Act::Raise => done(alloc, world.raise(at)),
+        Act::Raised => told(world.raised(at)),
+        Act::FindFront => done(alloc, world.find_front(at)),
+        Act::Crew => done(alloc, world.crew(at)),
+        Act::Gauge => done(alloc, world.gauge(at)),
+        Act::Settle => told(world.settle(at)),
+        Act::BeginCommits { most } => begin_commits(world, at, most),
+        Act::EndCommit => told(world.end_commit(at)),
+        Act::Post => done(alloc, world.post(at)),
+        Act::Tick => tick(world, at),
+        Act::Checkpoint => went(world.checkpoint(at)),
+        Act::Stop => Answer::Taken(world.stop(at)),
+    }
+}
+
+/// It begins a commit of at most so many writes.
+fn begin_commits<S: StoreLike + Drop>(world: &mut World<S>, at: usize, most: u64) -> Answer
+    requires { at < length world.old.chain.members }
+    ensures one_volume { S.keeps_model → IsOfOneVolume S.about S.keeps S.may_leave_now no_one (handed_of result) world.old world.new }
+{
+    if most == 0 {
+        return Answer::Skipped;
+    }
+    went(world.begin_commits(at, most))
+}
+
+/// Its store writes a block home.
+fn tick<S: StoreLike + Drop>(world: &mut World<S>, at: usize) -> Answer
+    requires { at < length world.old.chain.members }
+    ensures one_volume { S.keeps_model → IsOfOneVolume S.about S.keeps S.may_leave_now no_one (handed_of result) world.old world.new }
+{
+    match world.tick(at) {
+        Ok((told, _)) => Answer::Taken(told),
+        Err(refusal) => Answer::Refused(refusal.number()),
+    }
+}
+
+/// A step that tells clients something, where it is taken.
+fn told(told: Option<Told>) -> Answer
+    ensures { result ≡ told_in told }
+{
+    match told {
+        Some(told) => Answer::Taken(told),
+        None => Answer::Skipped,
+    }
+}
+
+/// One that may be refused, too.
+fn tried(tried: Result<Option<Told>, Refusal>) -> Answer
+    ensures { result ≡ tried_in tried }
+{
+    match tried {
+        Ok(given) => told(given),
+        Err(refusal) => Answer::Refused(refusal.number()),
+    }
+}
+
+/// One that is taken or refused.
+fn went(went: Result<Told, Refusal>) -> Answer
+    ensures { result ≡ went_in went }
+{
+    match went {
+        Ok(told) => Answer::Taken(told),
+        Err(refusal) => Answer::Refused(refusal.number()),
+    }
+}
+
+/// One that tells nobody anything.
+fn done(alloc: Global, taken: bool) -> Answer
+    ensures { handed_of result ≡ no_one }
+{
+    if taken {
+        silent(alloc)
+    } else {
+        Answer::Skipped
+    }
+}
+
+/// It was taken, and told nobody anything.
+fn silent(alloc: Global) -> Answer
+    ensures { (told : Told) × (result ≡ Answer.Taken told) × (outputs_of told ≡ []) }
+{
+    Answer::Taken(Told::Out(Vec::new(alloc)))
+}

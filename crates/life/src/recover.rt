@@ -1,0 +1,66 @@
+//! A chain of one goes on.
+ghost use Rattle.std.specs.Prelude.{◌≡◌, ◌<◌, ℕ, List, IfOk, false};
+ghost use Rattle.disk_model.specs.Memory.{given_of};
+ghost use Rattle.life.specs.Begun.{BeginsWith};
+ghost use Rattle.local_store.specs.Meaning.{Meaning, Means};
+
+use crate::begin::world_of;
+use crate::refusal::Refusal;
+use disk_model::MemDisk;
+use local_store::{Store, StoreLike};
+use std::alloc::{AllocError, Global};
+use world::World;
+
+/// Why a chain doesn't go on, with the disk, where that is still there.
+#[derive(Drop)]
+pub struct Refused {
+    /// The refusal.
+    pub refusal: Refusal,
+    /// The disk. `None` where memory ran out once its store was open.
+    pub disk: Option<MemDisk>,
+}
+
+/// The member of a disk goes on alone, without clients: at the front that the disk means, with the volume there.
+///
+/// What `Store::open` refuses; 131 `NotAVolume` also for an incarnation of 0, which no member's disk is given; and 100 `Memory`.
+pub fn recover(alloc: Global, disk: MemDisk) -> Result<World<Store<MemDisk>>, Refused>
+    ensures goes_on { IfOk result (λ world. (meaning : Meaning) × Means meaning (given_of disk)
+        × BeginsWith ⟦<Store<MemDisk> as StoreLike>⟧.about ⟦<Store<MemDisk> as StoreLike>⟧.keeps ⟦<Store<MemDisk> as StoreLike>⟧.may_leave_now
+            meaning.geometry meaning.front meaning.volume world) }
+{
+    match Store::open(alloc, disk) {
+        Ok(store) => {
+            if store.incarnation() == 0 {
+                Err(Refused {
+                    refusal: Refusal::Store(local_store::Refusal::NotAVolume),
+                    disk: Some(store.into_disk()),
+                })
+            } else {
+                match alone(alloc, store) {
+                    Ok(world) => Ok(world),
+                    Err(_) => Err(Refused {
+                        refusal: Refusal::Memory,
+                        disk: None,
+                    }),
+                }
+            }
+        }
+        Err((refusal, disk)) => Err(Refused {
+            refusal: Refusal::Store(refusal),
+            disk: Some(disk),
+        }),
+    }
+}
+
+/// The world of a store's member alone.
+fn alone<S: StoreLike + Drop>(alloc: Global, store: S) -> Result<World<S>, AllocError>
+    requires given { 0 < (S.about store).incarnation }
+    requires runs { (S.about store).broken ≡ false }
+    requires keeps { S.keeps_model → (volume : List ℕ) × S.keeps store volume }
+    ensures begins { S.keeps_model → IfOk result (λ world. (volume : List ℕ) → S.keeps store volume
+        → BeginsWith S.about S.keeps S.may_leave_now (S.about store).geometry (S.about store).front volume world) }
+{
+    let mut stores = Vec::with_capacity(alloc, 1)?;
+    stores.push_reserved(store);
+    world_of(alloc, stores)
+}

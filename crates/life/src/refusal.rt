@@ -1,0 +1,21 @@
+use thiserror::Error;
+
+/// Why a world doesn't begin, or doesn't go on.
+#[derive(Clone, Copy, Debug, PartialEq, Eq, Error)]
+pub enum Refusal {
+    /// Memory ran out.
+    #[error("100 Memory")]
+    Memory,
+    /// No member is at the place whose disk was to return.
+    #[error("192 NotInChain")]
+    NotInChain,
+    /// The store on the disk was refused.
+    #[error(transparent)]
+    Store(local_store::Refusal),
+}
+
+impl From<std::alloc::AllocError> for Refusal {
+    fn from(_: std::alloc::AllocError) -> Refusal {
+        Refusal::Memory
+    }
+}

@@ -1,0 +1,57 @@
+use flush_barrier::SessionId;
+
+/// One thing that a client, a member or the board does in a world.
+#[derive(Debug, Drop)]
+pub enum Step {
+    /// A client begins a session with this number, used once, at the member at a place.
+    Connect { session: SessionId, at: usize },
+    /// The client sends a piece; an empty one lets the session go on with what it kept.
+    Bytes { session: SessionId, piece: Vec<u8> },
+    /// The client's input ends.
+    End { session: SessionId },
+    /// What waits for the client goes out.
+    HandOut { session: SessionId },
+    /// The member at a place acts. Places are counted from the head's, 0.
+    Member { at: usize, act: Act },
+}
+
+/// What a member does.
+#[derive(Clone, Copy, Debug, PartialEq, Eq)]
+pub enum Act {
+    /// It takes the first demand of its sessions.
+    Take,
+    /// The head takes the first write on its way from the member, and gives it the next number.
+    Number,
+    /// It takes the first Put on its way from the one before it.
+    Put,
+    /// It takes the first Ack on its way from the one behind it.
+    Ack,
+    /// It looks the committed front up, and keeps it.
+    Look,
+    /// It goes on with the front that it looked up.
+    AnswerFront,
+    /// The tail raises the committed front, and keeps it.
+    Raise,
+    /// It goes on with the front that it raised.
+    Raised,
+    /// It looks the committed front up, for a crew.
+    FindFront,
+    /// It looks the mask of counted slots up.
+    Crew,
+    /// It looks the gauge of its crew's next slot up.
+    Gauge,
+    /// It answers what waits for a floor, with that of its crew.
+    Settle,
+    /// It begins a commit of at most so many writes. None at all is no step.
+    BeginCommits { most: u64 },
+    /// It ends the commit under way.
+    EndCommit,
+    /// It posts its last receipt.
+    Post,
+    /// Its store writes the next pending block home.
+    Tick,
+    /// Its store writes all pending blocks home, and empties its journal area.
+    Checkpoint,
+    /// It stops.
+    Stop,
+}
