@@ -1,6 +1,11 @@
--- What is among what, in order: lemmas.
-use Rattle.std.proofs.Common.{◌≡◌, List, [], ◌∷◌, ◌++◌, refl, ap, sym, subst, ◌∙◌}
-use Rattle.std.proofs.lemmas.List.{append_assoc}
+-- What is among what, in order, and what goes with what: lemmas.
+use Rattle.std.proofs.Common.{◌≡◌, ℕ, zero, suc, Bool, true, false, List, [], ◌∷◌, ◌++◌, length, map, refl, ap, sym, subst, ◌∙◌, arith}
+use Rattle.std.specs.Prelude.{◌==◌, ◌&&◌, Result, Ok, Err, IfOk, None, Some, slice_get}
+use Rattle.std.specs.List.{AllZip}
+use Rattle.std.proofs.lemmas.Bool.{eqb-true}
+use Rattle.std.proofs.lemmas.List.{append_assoc, append-nil}
+use Rattle.volume.specs.declared.geometry.Geometry.{Geometry}
+use Rattle.life.specs.Begun.{export_of}
 use Rattle.life.specs.Passing.{AreAmong}
 
 pub among_same : {A : Type 0} (xs : List A) → AreAmong xs xs
@@ -41,3 +46,50 @@ among_then (x ∷ xs) ys zs (passed, behind, is, among) two =
 pub among_cut : {A : Type 0} (xs ys zs : List A) → AreAmong (xs ++ ys) zs → AreAmong xs zs
 among_cut [] ys zs among = tt
 among_cut (x ∷ xs) ys zs (passed, behind, is, among) = (passed, behind, is, among_cut xs ys behind among)
+
+-- ---- two lists, item by item
+
+pub all_more : {A B : Type 0} (R : A → B → Type 0) (xs : List A) (ys : List B) (x : A) (y : B) → AllZip R xs ys → R x y → AllZip R (xs ++ x ∷ []) (ys ++ y ∷ [])
+all_more R [] [] x y all fits = (fits, tt)
+all_more R [] (b ∷ ys) x y all fits = absurd all
+all_more R (a ∷ xs) [] x y all fits = absurd all
+all_more R (a ∷ xs) (b ∷ ys) x y all fits = (all.0, all_more R xs ys x y all.1 fits)
+
+pub zip_mapped : {A B C : Type 0} (R : B → C → Type 0) (f : A → B) (xs : List A) (ys : List C) → AllZip R (map f xs) ys → AllZip (λ x y. R (f x) y) xs ys
+zip_mapped R f [] [] all = tt
+zip_mapped R f [] (y ∷ ys) all = absurd all
+zip_mapped R f (x ∷ xs) [] all = absurd all
+zip_mapped R f (x ∷ xs) (y ∷ ys) all = (all.0, zip_mapped R f xs ys all.1)
+
+-- what was yielded, when the next item was, and all of it
+pub one_behind : {A : Type 0} (xs rest next all : List A) (x : A) → xs ++ rest ≡ all → rest ≡ x ∷ next → (xs ++ x ∷ []) ++ next ≡ all
+one_behind xs rest next all x whole is = append_assoc xs (x ∷ []) next ∙ ap (λ l. xs ++ l) (sym is) ∙ whole
+
+pub all_yielded : {A : Type 0} (yielded rest all : List A) → yielded ++ rest ≡ all → length rest ≡ 0 → yielded ≡ all
+all_yielded yielded [] all whole none = sym (append-nil yielded) ∙ whole
+all_yielded yielded (x ∷ rest) all whole none = absurd (omega (arith, none))
+
+-- what is said of an answer, said otherwise
+pub ok_then : {T E : Type 0} (result : Result T E) (P R : T → Type 0) → IfOk result P → ((t : T) → P t → R t) → IfOk result R
+ok_then (Ok t) P R ok then = then t ok
+ok_then (Err e) P R ok then = tt
+
+-- who stands beside an item
+pub zip_there : {A B : Type 0} (R : A → B → Type 0) (xs : List A) (ys : List B) (k : ℕ) (y : B) → AllZip R xs ys → slice_get ys k ≡ Some y → (x : A) × (slice_get xs k ≡ Some x) × R x y
+zip_there R [] [] k y all there = let none : None ≡ Some y = there in absurd (cc)
+zip_there R [] (b ∷ ys) k y all there = absurd all
+zip_there R (a ∷ xs) [] k y all there = absurd all
+zip_there R (a ∷ xs) (b ∷ ys) zero y all there = let some : Some b ≡ Some y = there in let same : b ≡ y = cc some in (a, refl, subst (R a) same all.0)
+zip_there R (a ∷ xs) (b ∷ ys) (suc k) y all there = zip_there R xs ys k y all.1 there
+
+-- ---- sizes that are compared
+
+both : (x y : Bool) → true ≡ (x && y) → (x ≡ true) × (y ≡ true)
+both true y is = (refl, sym is)
+both false y is = absurd (cc)
+
+pub same_export : (one other : Geometry) → true ≡ ((one.blocks == other.blocks) && ((one.area == other.area) && (one.max_payload == other.max_payload))) → export_of one ≡ export_of other
+same_export one other is =
+    let (blocks, rest) = both (one.blocks == other.blocks) ((one.area == other.area) && (one.max_payload == other.max_payload)) is in
+    let (area, payload) = both (one.area == other.area) (one.max_payload == other.max_payload) (sym rest) in
+    rw (eqb-true one.blocks other.blocks blocks, eqb-true one.max_payload other.max_payload payload) refl

@@ -1,15 +1,22 @@
 -- What a call of a world is, is what its answer says: lemmas.
-use Rattle.std.proofs.Common.{◌≡◌, ℕ, List, sym, subst}
-use Rattle.std.specs.Prelude.{None, Option, Some, Result, Ok, Err}
+use Rattle.std.proofs.Common.{◌≡◌, ℕ, Bool, true, false, cond, List, [], length, refl, ap, inl, sym, subst, ◌∙◌}
+use Rattle.std.specs.Prelude.{None, Option, Some, Result, Ok, Err, get_or, ◌==◌}
+use Rattle.std.proofs.Math.Nat.{le_refl}
+use Rattle.std.proofs.lemmas.List.{append-nil}
 use Rattle.chain_core.specs.declared.refusal.Refusal.{Refusal}
-use Rattle.clients.specs.Clients.{no_one}
+use Rattle.clients.specs.Clients.{no_one, of_session}
 use Rattle.flush_barrier.specs.declared.session_id.SessionId.{SessionId}
 use Rattle.local_store.specs.About.{About}
-use Rattle.world.specs.Telling.{handed_if, handed_in, handed_some}
+use Rattle.clients.specs.declared.output.Output.{Output}
+use Rattle.world.specs.Reception.{fed_in, given_to}
+use Rattle.world.specs.Telling.{handed_by, handed_if, handed_in, handed_some, outputs_of}
 use Rattle.world.specs.World.{IsOfOneVolume, Seen}
 use Rattle.world.specs.declared.told.Told.{Told}
-use Rattle.life.specs.Played.{handed_of, told_in, tried_in, went_in}
+use Rattle.world.proofs.Going.{goes_nowhere}
+use Rattle.world.proofs.GoingOn.{go_on_as, go_on_still}
+use Rattle.life.specs.Played.{fed_to, handed_of, told_in, tried_in, went_in}
 use Rattle.life.specs.declared.answer.Answer.{Answer}
+use Rattle.life.specs.declared.answer.Answer.TheVariants.{Taken}
 
 module _ {S : Type 0} (about : S → About) (keeps : S → List ℕ → Type 0) (may_leave_now : S → List ℕ → Type 0) (old new : Seen S) (fed : SessionId → List ℕ) (answer : Answer) where
   abbrev IsSo : (SessionId → List ℕ) → Type 0
@@ -30,3 +37,61 @@ module _ {S : Type 0} (about : S → About) (keeps : S → List ℕ → Type 0) 
 
   pub done_so : handed_of answer ≡ no_one → IsSo no_one → IsSo (handed_of answer)
   done_so is one = subst IsSo (sym is) one
+
+  -- a piece was taken, or refused, or there is no such session
+  module _ {V E : Type 0} (session : SessionId) (piece : List ℕ) (given : Option (Result V E)) where
+    abbrev IsFedSo : (SessionId → List ℕ) → (SessionId → List ℕ) → Type 0
+    IsFedSo fed handed = IsOfOneVolume about keeps may_leave_now fed handed old new
+
+    pub fed_ok : (v : V) → given ≡ Some (Ok v) → ((told : Told) × (answer ≡ Taken told) × (outputs_of told ≡ [])) → IsFedSo (fed_in session piece given) no_one → IsFedSo (fed_to session piece answer) (handed_of answer)
+    fed_ok v is (told, taken, none) one =
+        subst (λ a. IsFedSo (fed_to session piece a) (handed_of a)) (sym taken)
+        (subst (λ os. IsFedSo (of_session session piece) (handed_by os)) (sym none) (subst (λ x. IsFedSo (fed_in session piece x) no_one) is one))
+
+pub fed_err : {S : Type 0} (about : S → About) (keeps : S → List ℕ → Type 0) (may_leave_now : S → List ℕ → Type 0) (old new : Seen S) {V E : Type 0} (session : SessionId) (piece : List ℕ) (given : Option (Result V E)) (e : E) → given ≡ Some (Err e)
+    → IsOfOneVolume about keeps may_leave_now (fed_in session piece given) no_one old new → IsOfOneVolume about keeps may_leave_now no_one no_one old new
+fed_err about keeps may_leave_now old new session piece given e is one = subst (λ x. IsOfOneVolume about keeps may_leave_now (fed_in session piece x) no_one old new) is one
+
+pub fed_none : {S : Type 0} (about : S → About) (keeps : S → List ℕ → Type 0) (may_leave_now : S → List ℕ → Type 0) (old new : Seen S) {V E : Type 0} (session : SessionId) (piece : List ℕ) (given : Option (Result V E)) → given ≡ None
+    → IsOfOneVolume about keeps may_leave_now (fed_in session piece given) no_one old new → IsOfOneVolume about keeps may_leave_now no_one no_one old new
+fed_none about keeps may_leave_now old new session piece given is one = subst (λ x. IsOfOneVolume about keeps may_leave_now (fed_in session piece x) no_one old new) is one
+
+-- what tells nobody anything
+pub silent_none : (answer : Answer) → ((told : Told) × (answer ≡ Taken told) × (outputs_of told ≡ [])) → handed_of answer ≡ no_one
+silent_none answer (told, taken, none) = ap handed_of taken ∙ ap handed_by none
+
+-- nothing happens
+pub still : {S : Type 0} (about : S → About) (keeps : S → List ℕ → Type 0) (may_leave_now : S → List ℕ → Type 0) (w : Seen S) → IsOfOneVolume about keeps may_leave_now no_one no_one w w
+still about keeps may_leave_now w v s shows stands = record {
+  w = v;
+  events = [];
+  asked = no_one;
+  shows = shows;
+  goes = goes_nowhere v;
+  go_on = go_on_still w.sessions.clients;
+  sent = λ id place there. inl (append-nil (get_or v.kept place []));
+  remain = record { places = λ id place there. there; came = λ id place there. inl there; many = le_refl (length w.sessions.clients); export = refl };
+}
+
+abbrev no_bytes : SessionId → List ℕ
+no_bytes id = []
+
+-- nothing waited
+pub handed_nothing : {S : Type 0} (about : S → About) (keeps : S → List ℕ → Type 0) (may_leave_now : S → List ℕ → Type 0) (old new : Seen S) (session : SessionId) (given : Option Output) → given ≡ None
+    → IsOfOneVolume about keeps may_leave_now no_one (given_to session given) old new → IsOfOneVolume about keeps may_leave_now no_one no_one old new
+handed_nothing about keeps may_leave_now old new session given is one v s shows stands =
+    let did = one v s shows stands in
+    record {
+      w = did.w;
+      events = did.events;
+      asked = did.asked;
+      shows = did.shows;
+      goes = did.goes;
+      go_on = go_on_as old.sessions.clients new.sessions.clients no_one no_one (given_to session given) no_one did.asked did.asked did.events (λ id. refl) (λ id. ap (λ o. given_to session o id) is ∙ none_of (session.0 == id.0)) (λ id. refl) did.go_on;
+      sent = did.sent;
+      remain = did.remain;
+    }
+  where
+    none_of : (b : Bool) → cond b (no_bytes session) [] ≡ []
+    none_of true = refl
+    none_of false = refl

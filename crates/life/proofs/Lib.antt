@@ -2,3 +2,4 @@ mod Among
 mod Answering
 mod Lives
 pub mod Passing
+mod Starting

@@ -1,8 +1,10 @@
 -- One era after another: lemmas.
 use Rattle.std.proofs.Common.{◌≡◌, ℕ, List, [], ◌∷◌, ◌++◌, length, refl, ap, sym, subst, ◌∙◌, inl, inr, arith}
-use Rattle.std.specs.Prelude.{◌⊎◌, ◌==◌, ◌*◌, ◌≤◌, All, IfSome, IsSome, None, Option, Some, fold, get_or, map, slice_get, zip}
-use Rattle.std.specs.List.{AllZip, flat_map}
+use Rattle.std.specs.Prelude.{◌==◌, ◌*◌, All, None, Option, Some, fold, get_or, map, slice_get, zip}
+use Rattle.std.specs.List.{AllZip}
 use Rattle.std.proofs.lemmas.Bool.{eqb-true}
+use Rattle.std.proofs.lemmas.Grind.{flat_map-append}
+use Rattle.std.proofs.lemmas.List.{append-nil}
 use Rattle.std.proofs.lemmas.List.Quantifiers.{position-Some}
 use Rattle.flush_barrier.specs.declared.session_id.SessionId.{SessionId}
 use Rattle.local_store.specs.About.{About, meaning_with}
@@ -13,49 +15,45 @@ use Rattle.version_table.specs.Held.{writes_upto}
 use Rattle.volume.specs.Writes.{patched, volume_of}
 use Rattle.volume.specs.declared.geometry.Geometry.{Geometry}
 use Rattle.chain_steps.specs.Steps.{volume_at}
-use Rattle.world_model.specs.Chain.{Member, StandsFor, View}
+use Rattle.world_model.specs.Chain.{StandsFor, View}
 use Rattle.world_model.specs.ChainLaws.{FirstChain, IsBeginning, RestartsChain, with_members}
 use Rattle.world_model.specs.Event.{ClientEvent}
 use Rattle.world_model.specs.Life.{HappeningsAreOfOneVolume}
 use Rattle.world_model.specs.Machine.{May, Restart, State, after, shown, start}
 use Rattle.world_model.specs.Requests.{Held}
-use Rattle.chain.specs.Chain.{Chained, bytes_of}
+use Rattle.chain.specs.Chain.{bytes_of}
 use Rattle.chain.specs.Member.{IsShown, Linked}
 use Rattle.chain.proofs.Cells.{place_of as cell_of, twin_of}
 use Rattle.clients.specs.Clients.{AllGo, AreKept, AreSessions, Client, Extends, IsOf, Sessions, held_under, place_of, replies_in}
 use Rattle.clients.specs.Laws.{FirstHasNone, IsLawfulFor, OutputsAreLawful}
 use Rattle.clients.proofs.Places.{same_id}
-use Rattle.world.specs.World.{IsJoined, Seen, Shows, sent_in}
+use Rattle.world.specs.World.{IsJoined, IsOfOneVolume, Seen, Shows, sent_in}
 use Rattle.life.specs.Begun.{BeginsWith, export_of}
 use Rattle.life.specs.Headline.{IsLawfulEra, IsLawfulSession, IsOneLife, RestartsBetween, Told, fed_in, handed_in, told_in}
-use Rattle.life.specs.Lived.{Continued, Continues, IsFresh, Lives}
+use Rattle.life.specs.Lived.{Continues, IsFresh, Lives}
 use Rattle.life.specs.Passing.{AreAmong, PassAsOne, Passes}
+use Rattle.life.specs.declared.era.Answers.{Answers}
+use Rattle.life.specs.declared.era.Era.{Era}
+use Rattle.life.proofs.Among.{all_more, among_cut}
+use Rattle.life.proofs.Passing.{goes_plays, one_passes, pass_as, passes_then}
+use Rattle.life.specs.Played.{fed_by, handed_by}
 use Rattle.life.specs.declared.answer.Answer.{Answer}
 use Rattle.life.specs.declared.era.Deed.{Deed}
-use Rattle.life.specs.declared.era.Era.{Era}
-use Rattle.life.proofs.Among.{among_cut}
-use Rattle.life.proofs.Passing.{goes_plays}
 
 -- ---- lists
 
-pub told_more : (eras : List Era) (answers : List (List Answer)) (era : Era) (these : List Answer) → length answers ≡ length eras
-    → told_in (eras ++ era ∷ []) (answers ++ these ∷ []) ≡ told_in eras answers ++ zip era.deeds.items these ∷ []
+pub told_more : (eras : List Era) (answers : List Answers) (era : Era) (these : Answers) → length answers ≡ length eras
+    → told_in (eras ++ era ∷ []) (answers ++ these ∷ []) ≡ told_in eras answers ++ zip era.deeds.items these.items.items ∷ []
 told_more [] [] era these same = refl
 told_more [] (a ∷ answers) era these same = absurd (omega (arith, same))
 told_more (e ∷ eras) [] era these same = absurd (omega (arith, same))
-told_more (e ∷ eras) (a ∷ answers) era these same = ap (λ l. zip e.deeds.items a ∷ l) (told_more eras answers era these (omega (arith, same)))
+told_more (e ∷ eras) (a ∷ answers) era these same = ap (λ l. zip e.deeds.items a.items.items ∷ l) (told_more eras answers era these (omega (arith, same)))
 
 pub zip_more : {A B : Type 0} (xs : List A) (ys : List B) (x : A) (y : B) → length ys ≡ length xs → zip (xs ++ x ∷ []) (ys ++ y ∷ []) ≡ zip xs ys ++ (x, y) ∷ []
 zip_more [] [] x y same = refl
 zip_more [] (b ∷ ys) x y same = absurd (omega (arith, same))
 zip_more (a ∷ xs) [] x y same = absurd (omega (arith, same))
 zip_more (a ∷ xs) (b ∷ ys) x y same = ap (λ l. (a, b) ∷ l) (zip_more xs ys x y (omega (arith, same)))
-
-pub all_more : {A B : Type 0} (R : A → B → Type 0) (xs : List A) (ys : List B) (x : A) (y : B) → AllZip R xs ys → R x y → AllZip R (xs ++ x ∷ []) (ys ++ y ∷ [])
-all_more R [] [] x y all fits = (fits, tt)
-all_more R [] (b ∷ ys) x y all fits = absurd all
-all_more R (a ∷ xs) [] x y all fits = absurd all
-all_more R (a ∷ xs) (b ∷ ys) x y all fits = (all.0, all_more R xs ys x y all.1 fits)
 
 -- ---- the machine
 
@@ -79,7 +77,7 @@ lawful_in sessions later lawful all are id = by_place (place_of id sessions.clie
         → IsLawfulSession sessions.export (later id).fed (later id).handed (later id).asked (later id).replies
     at_place [] place there out own = let none : None ≡ Some place = there in absurd (cc)
     at_place (c ∷ cs) place there out own =
-        let (within, passes) = position-Some (λ (client : Client). client.session.id.0 == id.0) (c ∷ cs) place c there in
+        let (within, passes, others) = position-Some (λ (client : Client). client.session.id.0 == id.0) (c ∷ cs) place c there in
         let client = get_or (c ∷ cs) place c in
         let same : client.session.id ≡ id = same_id client.session.id id (eqb-true client.session.id.0 id.0 passes) in
         let is = subst (λ i. IsLawfulFor client (later i)) same (out place c within) in
@@ -137,7 +135,7 @@ module _ {S : Type 0} (about : S → About) (keeps : S → List ℕ → Type 0) 
       by_place id (Some place) there =
           let none_kept : get_or v.kept place [] ≡ [] = ap (λ l. get_or l place []) kept in
           among_cut (map (held_under id) (one.asked id)) (get_or one.w.kept place []) (sent_in id one.events)
-              (subst (λ l. AreAmong (map (held_under id) (one.asked id) ++ get_or one.w.kept place []) (l ++ sent_in id one.events)) none_kept (one.sent (λ id. nothing) going id place there))
+          (subst (λ l. AreAmong (map (held_under id) (one.asked id) ++ get_or one.w.kept place []) (l ++ sent_in id one.events)) none_kept (one.sent (λ id. nothing) going id place there))
 
   -- ---- a cut
 
@@ -145,7 +143,7 @@ module _ {S : Type 0} (about : S → About) (keeps : S → List ℕ → Type 0) 
   pub recovers : RestartsChain → (old : Seen S) (v : View) (s : State) (at : ℕ) (m : Linked S) (c : List ℕ) (meaning : Meaning) (new : Seen S)
       → ((one other : Meaning) (bytes : List ℕ) → Means one bytes → Means other bytes → one ≡ other)
       → Shows about keeps may_leave_now old v → StandsFor (bytes_of old.chain) v s → slice_get old.chain.members at ≡ Some m → may_leave_now m.node.store c → Means meaning c
-      → (about m.node.store).geometry ≡ old.chain.geometry
+      → export_of meaning.geometry ≡ export_of old.chain.geometry
       → BeginsWith about keeps may_leave_now meaning.geometry meaning.front meaning.volume new
       → (front : ℕ) × May s (Restart front) × IsFresh about keeps may_leave_now (bytes_of old.chain) (export_of old.chain.geometry) new (after s (Restart front))
   recovers law old v s at m c meaning new one_meaning shows stands here left means sizes begun =
@@ -157,9 +155,9 @@ module _ {S : Type 0} (about : S → About) (keeps : S → List ℕ → Type 0) 
       let same = one_meaning meaning (meaning_with (record (about m.node.store) { front = front }) (volume_at own.volume m.node.state front)) c means is in
       let node : own.node ≡ m.node.state = ap (λ x. x.node) so.is in
       let begins : IsBeginning front (fold patched own.volume (writes_upto own.node.table front)) begun.view =
-          rw node (subst (λ f. IsBeginning f (volume_at own.volume m.node.state front) begun.view) (ap (λ x. x.front) same) (subst (λ l. IsBeginning meaning.front l begun.view) (ap (λ x. x.volume) same) begun.begins)) in
+      rw node (subst (λ f. IsBeginning f (volume_at own.volume m.node.state front) begun.view) (ap (λ x. x.front) same) (subst (λ l. IsBeginning meaning.front l begun.view) (ap (λ x. x.volume) same) begun.begins)) in
       let did = law (bytes_of old.chain) v twin.over own twin.under s front begun.view
-          (subst (λ ms. StandsFor (bytes_of old.chain) (with_members v ms) s) twin.are (same_members v (bytes_of old.chain) s stands)) (rw node durable) (rw node known) begins in (
+      (subst (λ ms. StandsFor (bytes_of old.chain) (with_members v ms) s) twin.are (same_members v (bytes_of old.chain) s stands)) (rw node durable) (rw node known) begins in (
         front,
         did.0,
         record {
@@ -167,7 +165,7 @@ module _ {S : Type 0} (about : S → About) (keeps : S → List ℕ → Type 0) 
           shows = begun.shows;
           stands = did.1;
           no_clients = begun.no_clients;
-          has = begun.export ∙ ap export_of (ap (λ x. x.geometry) same ∙ sizes);
+          has = begun.export ∙ sizes;
         },
       )
     where
@@ -185,7 +183,7 @@ module _ {S : Type 0} (about : S → About) (keeps : S → List ℕ → Type 0) 
       → (old mid new : Seen S) (told : Told) (at : ℕ) (m : Linked S) (c : List ℕ) (meaning : Meaning) → IsJoined old → IsJoined mid → AreSessions mid.sessions
       → PassAsOne about keeps may_leave_now (fed_in told) (handed_in told) old mid
       → slice_get mid.chain.members at ≡ Some m → may_leave_now m.node.store c → Means meaning c
-      → (about m.node.store).geometry ≡ mid.chain.geometry
+      → export_of meaning.geometry ≡ export_of mid.chain.geometry
       → BeginsWith about keeps may_leave_now meaning.geometry meaning.front meaning.volume new
       → Continues about keeps may_leave_now told old new
   era_continues happenings restarts first lawful one_meaning old mid new told at m c meaning joined joined_then are pass here left means sizes begun export s fresh =
@@ -210,6 +208,23 @@ module _ {S : Type 0} (about : S → About) (keeps : S → List ℕ → Type 0) 
         fresh = subst (λ n. IsFresh about keeps may_leave_now n export new (after plays.1 (Restart rec_.0))) (stays ∙ sym size)
             (subst (λ e. IsFresh about keeps may_leave_now (bytes_of mid.chain) e new (after plays.1 (Restart rec_.0))) again rec_.2);
       }
+
+  -- one deed more
+  pub pass_more : HappeningsAreOfOneVolume → (old mid new : Seen S) → IsJoined old → IsJoined mid → (told : Told) (deed : Deed) (answer : Answer)
+      → PassAsOne about keeps may_leave_now (fed_in told) (handed_in told) old mid → IsOfOneVolume about keeps may_leave_now (fed_by deed answer) (handed_by deed answer) mid new
+      → PassAsOne about keeps may_leave_now (fed_in (told ++ (deed, answer) ∷ [])) (handed_in (told ++ (deed, answer) ∷ [])) old new
+  pass_more law old mid new joined joined_then told deed answer first one =
+      pass_as about keeps may_leave_now old new (λ id. fed_in told id ++ fed_by deed answer id) (fed_in (told ++ (deed, answer) ∷ [])) (λ id. handed_in told id ++ handed_by deed answer id) (handed_in (told ++ (deed, answer) ∷ []))
+      (λ id. sym (flat_map-append (fed_one id) told ((deed, answer) ∷ []) ∙ ap (λ l. fed_in told id ++ l) (append-nil (fed_by deed answer id))))
+      (λ id. sym (flat_map-append (handed_one id) told ((deed, answer) ∷ []) ∙ ap (λ l. handed_in told id ++ l) (append-nil (handed_by deed answer id))))
+      (passes_then about keeps may_leave_now law old mid new joined joined_then (fed_in told) (fed_by deed answer) (handed_in told) (handed_by deed answer) first
+      (one_passes about keeps may_leave_now mid new (fed_by deed answer) (handed_by deed answer) one))
+    where
+      fed_one : SessionId → Deed × Answer → List ℕ
+      fed_one id one = fed_by one.0 one.1 id
+
+      handed_one : SessionId → Deed × Answer → List ℕ
+      handed_one id one = handed_by one.0 one.1 id
 
   pub begins_life : FirstChain → (geometry : Geometry) (w : Seen S) → BeginsWith about keeps may_leave_now geometry 0 (volume_of (4096 * geometry.blocks) []) w
       → Lives about keeps may_leave_now (4096 * geometry.blocks) (export_of geometry) [] w

@@ -1,24 +1,23 @@
 -- Calls of a world, one after another, come to what one call is: lemmas for the crate above.
-use Rattle.std.proofs.Common.{◌≡◌, ℕ, List, [], ◌∷◌, ◌++◌, length, refl, ap, sym, subst, ◌∙◌, inl, inr, arith}
-use Rattle.std.specs.Prelude.{◌⊎◌, ◌≤◌, None, Option, Some, get_or, map}
+use Rattle.std.proofs.Common.{◌≡◌, ℕ, zero, suc, List, [], ◌∷◌, ◌++◌, length, refl, ap, sym, subst, ◌∙◌, inl, inr, arith}
+use Rattle.std.specs.Prelude.{◌≤◌, None, Option, Some, get_or, map}
 use Rattle.std.proofs.lemmas.Grind.{flat_map-append}
 use Rattle.std.proofs.lemmas.List.{append_assoc, append-nil, map-append}
 use Rattle.std.proofs.lemmas.Slice.Zip.{AllZip-long}
 use Rattle.flush_barrier.specs.declared.session_id.SessionId.{SessionId}
 use Rattle.local_store.specs.About.{About}
-use Rattle.nbd_session.specs.Demand.{Asked}
-use Rattle.nbd_session.specs.Lawful.{History, nothing}
+use Rattle.nbd_session.specs.Lawful.{History}
 use Rattle.world_model.specs.Chain.{StandsFor, View}
 use Rattle.world_model.specs.Event.{ClientEvent}
 use Rattle.world_model.specs.Life.{Era, Happening, HappeningsAreOfOneVolume, all_events}
-use Rattle.world_model.specs.Machine.{Plays, State}
+use Rattle.world_model.specs.Machine.{Plays}
 use Rattle.world_model.specs.Requests.{Held}
 use Rattle.world_model.specs.Runs.{plays_nothing, plays_then}
 use Rattle.chain.specs.Chain.{bytes_of}
-use Rattle.clients.specs.Clients.{AllGo, Client, Extends, GoOn, Keeps, Sessions, held_under, no_one, place_of, replies_in}
-use Rattle.world.specs.World.{AskWhatWasSent, Goes, HappensSo, IsAccounted, IsJoined, IsOfOneVolume, Remain, Seen, Shows, sent_by, sent_in}
+use Rattle.clients.specs.Clients.{AllGo, Keeps, Sessions, held_under, no_one, place_of}
+use Rattle.world.specs.World.{Goes, IsAccounted, IsJoined, IsOfOneVolume, Remain, Seen, sent_by, sent_in}
 use Rattle.world.proofs.Going.{goes_nowhere, goes_on}
-use Rattle.world.proofs.GoingOn.{go_on_still, go_on_then}
+use Rattle.world.proofs.GoingOn.{go_on_as, go_on_still, go_on_then}
 use Rattle.life.specs.Passing.{AreAmong, AskInOrder, PassAsOne, Passes}
 use Rattle.life.proofs.Among.{among_before, among_behind, among_later, among_none, among_same, among_then}
 
@@ -30,7 +29,7 @@ era_plays law size [] v w each (same, none) = subst (λ x. Plays size (StandsFor
     (subst (λ l. Plays size (StandsFor size v) (StandsFor size v) (all_events l)) (sym none) (plays_nothing size (StandsFor size v)))
 era_plays law size (h ∷ hs) v w each (mid, now, later, are, happens, then) =
     subst (λ l. Plays size (StandsFor size v) (StandsFor size w) (all_events l)) (sym are)
-        (plays_then size (StandsFor size v) (StandsFor size mid) (StandsFor size w) now (all_events later) (law size v mid h now happens) (era_plays law size hs mid w later then))
+    (plays_then size (StandsFor size v) (StandsFor size mid) (StandsFor size w) now (all_events later) (law size v mid h now happens) (era_plays law size hs mid w later then))
 
 pub goes_plays : HappeningsAreOfOneVolume → (size : ℕ) (v w : View) (events : List ClientEvent) → Goes size v w events → Plays size (StandsFor size v) (StandsFor size w) events
 goes_plays law size v w events goes = subst (Plays size (StandsFor size v) (StandsFor size w)) goes.all (era_plays law size goes.happenings v w goes.each goes.era)
@@ -46,10 +45,10 @@ among_both : (asked asked2 kept sent sent2 rest rest2 : List Held) → AreAmong 
     → AreAmong ((asked ++ asked2) ++ rest2) (kept ++ (sent ++ sent2))
 among_both asked asked2 kept sent sent2 rest rest2 one two =
     subst (λ l. AreAmong l (kept ++ (sent ++ sent2))) (sym (append_assoc asked asked2 rest2))
-        (subst (AreAmong (asked ++ (asked2 ++ rest2))) (append_assoc kept sent sent2)
-            (among_then (asked ++ (asked2 ++ rest2)) ((asked ++ rest) ++ sent2) ((kept ++ sent) ++ sent2)
-                (subst (AreAmong (asked ++ (asked2 ++ rest2))) (sym (append_assoc asked rest sent2)) (among_before (asked2 ++ rest2) (rest ++ sent2) asked two))
-                (among_behind (asked ++ rest) (kept ++ sent) sent2 one)))
+    (subst (AreAmong (asked ++ (asked2 ++ rest2))) (append_assoc kept sent sent2)
+    (among_then (asked ++ (asked2 ++ rest2)) ((asked ++ rest) ++ sent2) ((kept ++ sent) ++ sent2)
+    (subst (AreAmong (asked ++ (asked2 ++ rest2))) (sym (append_assoc asked rest sent2)) (among_before (asked2 ++ rest2) (rest ++ sent2) asked two))
+    (among_behind (asked ++ rest) (kept ++ sent) sent2 one)))
 
 none_added : {A : Type 0} (xs ys : List A) → [] ≡ xs ++ ys → ys ≡ []
 none_added [] ys none = sym none
@@ -115,19 +114,19 @@ module _ {S : Type 0} (about : S → About) (keeps : S → List ℕ → Type 0) 
         let asks = two.sent later all id place there in
         let held = held_under id in
         subst (λ l. AreAmong (l ++ get_or two.w.kept place []) (get_or v.kept place [] ++ sent_in id (one.events ++ two.events))) (sym (map-append held (one.asked id) (two.asked id)))
-            (subst (λ l. AreAmong ((map held (one.asked id) ++ map held (two.asked id)) ++ get_or two.w.kept place []) (get_or v.kept place [] ++ l)) (sym (flat_map-append (sent_by id) one.events two.events))
-                (elim (two.remain.came id place there) [
-                  | inl was ↦ among_both (map held (one.asked id)) (map held (two.asked id)) (get_or v.kept place []) (sent_in id one.events) (sent_in id two.events) (get_or one.w.kept place []) (get_or two.w.kept place [])
-                      (one.sent histories going id place was) asks
-                  | inr (none, beyond) ↦
-                      let silent : one.asked id ≡ [] = none_added (histories id).asked (one.asked id) (sym (ap (λ h. h.asked) (all.none id none)) ∙ (extends id).asked) in
-                      let long = AllZip-long Keeps mid.sessions.clients one.w.kept one.shows.kept in
-                      let nothing_kept = none_kept one.w.kept place (omega (arith, long, beyond)) in
-                      subst (λ l. AreAmong ((map held l ++ map held (two.asked id)) ++ get_or two.w.kept place []) (get_or v.kept place [] ++ (sent_in id one.events ++ sent_in id two.events))) (sym silent)
-                          (among_later (map held (two.asked id) ++ get_or two.w.kept place []) (sent_in id one.events ++ sent_in id two.events) (get_or v.kept place [])
-                              (among_later (map held (two.asked id) ++ get_or two.w.kept place []) (sent_in id two.events) (sent_in id one.events)
-                                  (subst (λ l. AreAmong (map held (two.asked id) ++ get_or two.w.kept place []) (l ++ sent_in id two.events)) nothing_kept asks)))
-                ]))
+        (subst (λ l. AreAmong ((map held (one.asked id) ++ map held (two.asked id)) ++ get_or two.w.kept place []) (get_or v.kept place [] ++ l)) (sym (flat_map-append (sent_by id) one.events two.events))
+        (elim (two.remain.came id place there) [
+          | inl was ↦ among_both (map held (one.asked id)) (map held (two.asked id)) (get_or v.kept place []) (sent_in id one.events) (sent_in id two.events) (get_or one.w.kept place []) (get_or two.w.kept place [])
+              (one.sent histories going id place was) asks
+          | inr (none, beyond) ↦
+              let silent : one.asked id ≡ [] = none_added (histories id).asked (one.asked id) (sym (ap (λ h. h.asked) (all.none id none)) ∙ (extends id).asked) in
+              let long = AllZip-long Keeps mid.sessions.clients one.w.kept one.shows.kept in
+              let nothing_kept = none_kept one.w.kept place (omega (arith, long, beyond)) in
+              subst (λ l. AreAmong ((map held l ++ map held (two.asked id)) ++ get_or two.w.kept place []) (get_or v.kept place [] ++ (sent_in id one.events ++ sent_in id two.events))) (sym silent)
+              (among_later (map held (two.asked id) ++ get_or two.w.kept place []) (sent_in id one.events ++ sent_in id two.events) (get_or v.kept place [])
+              (among_later (map held (two.asked id) ++ get_or two.w.kept place []) (sent_in id two.events) (sent_in id one.events)
+              (subst (λ l. AreAmong (map held (two.asked id) ++ get_or two.w.kept place []) (l ++ sent_in id two.events)) nothing_kept asks)))
+        ]))
 
     pub passes_then : PassAsOne about keeps may_leave_now fed handed old mid → PassAsOne about keeps may_leave_now fed2 handed2 mid new
         → PassAsOne about keeps may_leave_now (λ id. fed id ++ fed2 id) (λ id. handed id ++ handed2 id) old new
@@ -146,3 +145,19 @@ module _ {S : Type 0} (about : S → About) (keeps : S → List ℕ → Type 0) 
           sent = sent_then v one two;
           remain = remain_then old.sessions mid.sessions new.sessions one.remain two.remain;
         }
+
+  -- the same, told otherwise
+  pub pass_as : (old new : Seen S) (fed fed2 handed handed2 : SessionId → List ℕ) → ((id : SessionId) → fed id ≡ fed2 id) → ((id : SessionId) → handed id ≡ handed2 id)
+      → PassAsOne about keeps may_leave_now fed handed old new → PassAsOne about keeps may_leave_now fed2 handed2 old new
+  pass_as old new fed fed2 handed handed2 feds handeds pass v s shows stands =
+      let one = pass v s shows stands in
+      record {
+        w = one.w;
+        events = one.events;
+        asked = one.asked;
+        shows = one.shows;
+        goes = one.goes;
+        go_on = go_on_as old.sessions.clients new.sessions.clients fed fed2 handed handed2 one.asked one.asked one.events feds handeds (λ id. refl) one.go_on;
+        sent = one.sent;
+        remain = one.remain;
+      }

@@ -23,7 +23,7 @@ pub record BeginsWith {S : Type 0} (about : S → About) (keeps : S → List ℕ
   pub view : View
   pub shows : Shows about keeps may_leave_now w view
   pub begins : IsBeginning front volume view
-  pub geometry : w.chain.geometry ≡ geometry
+  pub sizes : w.chain.geometry ≡ geometry
   pub export : w.sessions.export ≡ export_of geometry
   pub no_clients : w.sessions.clients ≡ []
 

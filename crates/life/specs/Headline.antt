@@ -15,6 +15,7 @@ use Rattle.world.specs.World.{sent_in}
 use Rattle.life.specs.Passing.{AreAmong}
 use Rattle.life.specs.Played.{fed_by, handed_by}
 use Rattle.life.specs.declared.answer.Answer.{Answer}
+use Rattle.life.specs.declared.era.Answers.{Answers}
 use Rattle.life.specs.declared.era.Deed.{Deed}
 use Rattle.life.specs.declared.era.Era.{Era}
 
@@ -25,10 +26,10 @@ abbrev pub Told : Type 0
 Told = List (Deed × Answer)
 
 -- each era with its answers
-abbrev pub told_in : List Era → List (List Answer) → List Told
+abbrev pub told_in : List Era → List Answers → List Told
 told_in [] answers = []
 told_in (era ∷ eras) [] = []
-told_in (era ∷ eras) (these ∷ answers) = zip era.deeds.items these ∷ told_in eras answers
+told_in (era ∷ eras) (these ∷ answers) = zip era.deeds.items these.items.items ∷ told_in eras answers
 
 -- what a session was fed in them, and what went out to it
 abbrev pub fed_in : Told → SessionId → List ℕ

@@ -6,7 +6,6 @@ use Rattle.nbd_session.specs.declared.answer.Export.{Export}
 use Rattle.world_model.specs.Chain.{StandsFor, View}
 use Rattle.world_model.specs.Event.{ClientEvent}
 use Rattle.world_model.specs.Machine.{May, Move, Restart, RunsOn, State, after, shown, start}
-use Rattle.chain.specs.Chain.{bytes_of}
 use Rattle.world.specs.World.{Seen, Shows}
 use Rattle.life.specs.Headline.{IsLawfulEra, RestartsBetween, Told}
 

@@ -1,3 +1,4 @@
+use crate::answer::Answer;
 use crate::step::Step;
 use disk_model::{Cut, Event};
 
@@ -19,4 +20,11 @@ pub struct Era {
     pub cut: Cut,
     /// The place of the member whose disk returns.
     pub returned: usize,
+}
+
+/// What became of the deeds of an era, in their order.
+#[derive(Debug, Drop)]
+pub struct Answers {
+    /// The answer to each.
+    pub items: Vec<Answer>,
 }

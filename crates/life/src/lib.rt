@@ -7,21 +7,21 @@
 #![tactic(auto)]
 
 mod answer;
-mod begin;
-mod cut;
+mod beginning;
+mod cutting;
 mod era;
-mod live;
-mod play;
-mod recover;
+mod living;
+mod playing;
+mod recovering;
 mod refusal;
 mod step;
 
 pub use answer::Answer;
-pub use begin::begin;
-pub use cut::cut;
-pub use era::{Deed, Era};
-pub use live::live;
-pub use play::play;
-pub use recover::recover;
+pub use beginning::begin;
+pub use cutting::cut;
+pub use era::{Answers, Deed, Era};
+pub use living::{Lived, live};
+pub use playing::play;
+pub use recovering::{Refused, recover};
 pub use refusal::Refusal;
 pub use step::{Act, Step};

@@ -1,7 +1,8 @@
 //! Whole lives.
-ghost use Rattle.std.specs.Prelude.{◌≡◌, ◌*◌, ◌<◌, ◌≤◌, IfOk, IfSome, IsSome, length, slice_get, zip};
+ghost use Rattle.std.specs.Prelude.{◌≡◌, ◌*◌, ◌<◌, ◌≤◌, IfOk, Some, length, slice_get, zip};
 ghost use Rattle.clients.specs.Clients.{no_one};
 ghost use Rattle.disk_model.specs.Memory.{given_of};
+ghost use Rattle.disk_model.specs.declared.memory.MemDisk.{MemDisk};
 ghost use Rattle.local_store.specs.Meaning.{Meaning, Means};
 ghost use Rattle.std.specs.List.{AllZip};
 ghost use Rattle.life.specs.Begun.{BeginsWith, export_of};
@@ -13,11 +14,11 @@ ghost use Rattle.life.specs.Played.{fed_by, handed_by};
 ghost use Rattle.world.specs.World.{IsOfOneVolume, Shows};
 
 use crate::answer::Answer;
-use crate::begin::begin;
-use crate::cut::cut;
-use crate::era::{Deed, Era};
-use crate::play::play;
-use crate::recover::recover;
+use crate::beginning::begin;
+use crate::cutting::cut;
+use crate::era::{Answers, Deed, Era};
+use crate::playing::play;
+use crate::recovering::recover;
 use crate::refusal::Refusal;
 use clients::sessions_are_lawful;
 use disk_model::{Event, MemDisk};
@@ -35,7 +36,7 @@ pub struct Lived {
     /// The world that goes on.
     pub world: World<Store<MemDisk>>,
     /// The answers, for each era in the order of its deeds.
-    pub answers: Vec<Vec<Answer>>,
+    pub answers: Vec<Answers>,
 }
 
 /// A chain of so many members, 1 to 8, lives through these eras. It begins over new disks, with a volume of zeros. In each era its
@@ -45,7 +46,7 @@ pub struct Lived {
 pub fn live(alloc: Global, geometry: Geometry, members: u8, eras: &[Era]) -> Result<Lived, Refusal>
     requires some { 0 < members }
     requires few { members ≤ 8 }
-    ensures all { IfOk result (λ lived. AllZip (λ era answers. length answers.items ≡ length era.deeds.items) eras.now lived.answers.items) }
+    ensures all { IfOk result (λ lived. AllZip (λ era answers. length answers.items.items ≡ length era.deeds.items) eras.now lived.answers.items) }
     ensures one_life { IfOk result (λ lived. IsOneLife (4096 * geometry.blocks) (export_of geometry) (told_in eras.now lived.answers.items)
         (λ end. (v : View) × Shows ⟦<Store<MemDisk> as StoreLike>⟧.about ⟦<Store<MemDisk> as StoreLike>⟧.keeps ⟦<Store<MemDisk> as StoreLike>⟧.may_leave_now lived.world v × StandsFor (4096 * geometry.blocks) v end)) }
 {
@@ -54,7 +55,7 @@ pub fn live(alloc: Global, geometry: Geometry, members: u8, eras: &[Era]) -> Res
     let mut world = begin(alloc, geometry, members)?;
     for era in eras {
         let (told, next) = live_era(alloc, world, era)?;
-        answers.push_reserved(told);
+        answers.push_reserved(Answers { items: told });
         world = next;
     }
     Ok(Lived { world, answers })
@@ -75,6 +76,7 @@ fn live_era(
     lives_are_of_one_volume();
     sessions_are_lawful();
     let mut world = world;
+    world.sound();
     let told = match play_all(alloc, &mut world, &era.deeds) {
         Ok(told) => told,
         Err(_) => {
@@ -82,8 +84,10 @@ fn live_era(
             return Err(Refusal::Memory);
         }
     };
+    world.sound();
+    let geometry = world.geometry();
     let disks = cut(alloc, world, era.cut)?;
-    let next = go_on(alloc, disks, era.returned)?;
+    let next = go_on(alloc, disks, era.returned, geometry)?;
     Ok((told, next))
 }
 
@@ -98,8 +102,10 @@ fn play_all(
         (fed_in (zip deeds.now answers.items)) (handed_in (zip deeds.now answers.items)) world.old world.new) }
 {
     lives_are_of_one_volume();
+    world.sound();
     let mut answers = Vec::with_capacity(alloc, deeds.len())?;
     for deed in deeds {
+        world.sound();
         answers.push_reserved(play_deed(alloc, world, deed));
     }
     Ok(answers)
@@ -130,22 +136,30 @@ fn arm(alloc: Global, world: &mut World<Store<MemDisk>>, at: usize, event: Event
     }
 }
 
-/// The chain goes on from the disk at a place.
+/// The chain goes on from the disk at a place, with a volume of these sizes.
 fn go_on(
     alloc: Global,
     disks: Vec<MemDisk>,
     at: usize,
+    geometry: Geometry,
 ) -> Result<World<Store<MemDisk>>, Refusal>
-    ensures { IfOk result (λ world. IfSome (slice_get disks.items at) (λ disk. (meaning : Meaning) × Means meaning (given_of disk)
+    ensures { IfOk result (λ world. (disk : MemDisk) × (slice_get disks.items at ≡ Some disk) × (meaning : Meaning) × Means meaning (given_of disk) × (export_of meaning.geometry ≡ export_of geometry)
         × BeginsWith ⟦<Store<MemDisk> as StoreLike>⟧.about ⟦<Store<MemDisk> as StoreLike>⟧.keeps ⟦<Store<MemDisk> as StoreLike>⟧.may_leave_now
-            meaning.geometry meaning.front meaning.volume world) × IsSome (slice_get disks.items at)) }
+        meaning.geometry meaning.front meaning.volume world) }
 {
     let mut disks = disks;
     if at >= disks.len() {
         return Err(Refusal::NotInChain);
     }
     match recover(alloc, disks.swap_remove(at)) {
-        Ok(world) => Ok(world),
+        Ok(world) => {
+            if world.geometry() == geometry {
+                Ok(world)
+            } else {
+                drop(world.abandon());
+                Err(Refusal::NotInChain)
+            }
+        }
         Err(refused) => Err(refused.refusal),
     }
 }

@@ -23,11 +23,7 @@ pub fn cut(
 }
 
 /// The disks of these stores, cut.
-fn cut_all(
-    alloc: Global,
-    stores: Vec<Store<MemDisk>>,
-    cut: Cut,
-) -> Result<Vec<MemDisk>, AllocError>
+fn cut_all(alloc: Global, stores: Vec<Store<MemDisk>>, cut: Cut) -> Result<Vec<MemDisk>, AllocError>
     ensures { IfOk result (λ disks. AllZip (IsCutFrom ⟦<Store<MemDisk> as StoreLike>⟧.may_leave_now) stores.items disks.items) }
 {
     let mut disks = Vec::with_capacity(alloc, stores.len())?;

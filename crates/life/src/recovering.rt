@@ -4,7 +4,7 @@ ghost use Rattle.disk_model.specs.Memory.{given_of};
 ghost use Rattle.life.specs.Begun.{BeginsWith};
 ghost use Rattle.local_store.specs.Meaning.{Meaning, Means};
 
-use crate::begin::world_of;
+use crate::beginning::world_of;
 use crate::refusal::Refusal;
 use disk_model::MemDisk;
 use local_store::{Store, StoreLike};
@@ -26,7 +26,7 @@ pub struct Refused {
 pub fn recover(alloc: Global, disk: MemDisk) -> Result<World<Store<MemDisk>>, Refused>
     ensures goes_on { IfOk result (λ world. (meaning : Meaning) × Means meaning (given_of disk)
         × BeginsWith ⟦<Store<MemDisk> as StoreLike>⟧.about ⟦<Store<MemDisk> as StoreLike>⟧.keeps ⟦<Store<MemDisk> as StoreLike>⟧.may_leave_now
-            meaning.geometry meaning.front meaning.volume world) }
+        meaning.geometry meaning.front meaning.volume world) }
 {
     match Store::open(alloc, disk) {
         Ok(store) => {

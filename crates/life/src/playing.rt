@@ -64,10 +64,12 @@ fn feed<S: StoreLike + Drop>(
 ) -> Answer
     ensures one_volume { IsOfOneVolume S.about S.keeps S.may_leave_now (fed_to session piece.now result) (handed_of result) world.old world.new }
 {
-    match world.feed(session, piece) {
-        Some(Ok(())) => silent(alloc),
-        Some(Err(refusal)) => Answer::Refused(refusal.number()),
-        None => Answer::Skipped,
+    let Some(fed) = world.feed(session, piece) else {
+        return Answer::Skipped;
+    };
+    match fed {
+        Ok(()) => silent(alloc),
+        Err(refusal) => Answer::Refused(refusal.number()),
     }
 }
 
@@ -89,12 +91,7 @@ fn hand_out<S: StoreLike + Drop>(world: &mut World<S>, session: SessionId) -> An
 }
 
 /// The member at a place acts.
-fn play_at<S: StoreLike + Drop>(
-    alloc: Global,
-    world: &mut World<S>,
-    at: usize,
-    act: Act,
-) -> Answer
+fn play_at<S: StoreLike + Drop>(alloc: Global, world: &mut World<S>, at: usize, act: Act) -> Answer
     requires { at < length world.old.chain.members }
     ensures one_volume { S.keeps_model → IsOfOneVolume S.about S.keeps S.may_leave_now no_one (handed_of result) world.old world.new }
 {

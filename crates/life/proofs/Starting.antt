@@ -1,0 +1,141 @@
+-- Stores that make a chain: lemmas.
+use Rattle.std.proofs.Common.{◌≡◌, ℕ, ◌*◌, replicate, ◌<◌, ◌≤◌, List, [], ◌∷◌, length, map, get_or, ap, sym, subst, ◌∙◌, arith}
+use Rattle.std.specs.Prelude.{◌≢◌, All, IfSome, slice_get}
+use Rattle.std.specs.List.{AllPairs, range_with_len}
+use Rattle.std.proofs.lemmas.List.{get_or-map, length-map}
+use Rattle.std.proofs.lemmas.List.Elements.{All-cons, All-head, All-nil, All-tail}
+use Rattle.std.proofs.lemmas.List.FromFn.{get_or-map-range_with_len, length-map-range_with_len}
+use Rattle.chain.specs.Chain.{Chained}
+use Rattle.chain.specs.Chain as chain
+use Rattle.chain.specs.LoneBoard.{Words}
+use Rattle.chain.specs.Opening.{AreEven, recorded_in, words_of}
+use Rattle.clients.specs.Clients.{Sessions}
+use Rattle.configurations.specs.Record.{AreMembers, Record}
+use Rattle.configurations.specs.declared.member.Member.{Member}
+use Rattle.disk_model.specs.Memory.{given_of, may_be_left}
+use Rattle.disk_model.specs.contracts.memory.MemDiskDisk.TheImpl.{ghosts}
+use Rattle.disk_model.specs.declared.memory.MemDisk.{MemDisk}
+use Rattle.local_store.specs.About.{About, about_of}
+use Rattle.local_store.specs.Store.{IsStored}
+use Rattle.local_store.specs.declared.store.Store.{Store}
+use Rattle.volume.specs.declared.geometry.Geometry.{Geometry}
+use Rattle.world.specs.World.{HasNoClients, Seen, Shows}
+use Rattle.world_model.specs.Chain.{View}
+use Rattle.world_model.specs.ChainLaws.{IsBeginning}
+use Rattle.life.specs.Begun.{BeginsWith, export_of, first_about}
+
+-- what is so of each is so of what they are mapped to
+pub all_mapped : {A B : Type 0} (Q : B → Type 0) (f : A → B) (xs : List A) → All (λ x. Q (f x)) xs → All Q (map f xs)
+all_mapped Q f [] all = All-nil Q
+all_mapped Q f (x ∷ xs) all = All-cons Q (f x) (map f xs) (All-head (λ y. Q (f y)) x xs all) (all_mapped Q f xs (All-tail (λ y. Q (f y)) x xs all))
+
+pub pairs_mapped : {A B : Type 0} (R : B → B → Type 0) (f : A → B) (xs : List A) → AllPairs (λ x y. R (f x) (f y)) xs → AllPairs R (map f xs)
+pairs_mapped R f [] pairs = λ i j d below within. absurd (omega (arith, within))
+pairs_mapped R f (x ∷ xs) pairs = λ i j d below within.
+    let long = length-map (x ∷ xs) f in
+    let one = get_or-map f (x ∷ xs) i x d (omega (arith, below, within, long)) in
+    let other = get_or-map f (x ∷ xs) j x d (omega (arith, within, long)) in
+    subst (λ b. R b (get_or (map f (x ∷ xs)) j d)) (sym one) (subst (R (f (get_or (x ∷ xs) i x))) (sym other) (pairs i j x below (omega (arith, within, long))))
+
+-- the members whose stores these are, as they are recorded
+pub are_members : {S : Type 0} (about : S → About) (stores : List S) → 0 < length stores → length stores ≤ 8 → AllPairs (λ one other. (about one).slot ≢ (about other).slot) stores
+    → AreMembers (map (recorded_in about) stores)
+are_members about stores some few slots =
+    let long = length-map stores (recorded_in about) in
+    record {
+      some = omega (arith, long, some);
+      few = omega (arith, long, few);
+      once = pairs_mapped (λ (a b : Member). a.slot ≢ b.slot) (recorded_in about) stores slots;
+    }
+
+module _ {S : Type 0} (about : S → About) (geometry : Geometry) (n : ℕ) where
+  abbrev AreFirst : List S → Type 0
+  AreFirst stores = map about stores ≡ map (first_about geometry) (range_with_len 0 n)
+
+  pub first_long : (stores : List S) → AreFirst stores → length stores ≡ n
+  first_long stores are = sym (length-map stores about) ∙ ap length are ∙ length-map-range_with_len (first_about geometry) 0 n
+
+  pub first_at : (stores : List S) → AreFirst stores → (k : ℕ) (d : S) → k < n → about (get_or stores k d) ≡ first_about geometry k
+  first_at stores are k d below =
+      let long = first_long stores are in
+      sym (get_or-map about stores k d (about d) (omega (arith, long, below))) ∙ ap (λ l. get_or l k (about d)) are
+      ∙ get_or-map-range_with_len (first_about geometry) 0 n k k (about d) (omega (arith, below)) (omega (arith, below))
+
+  pub first_slots : (stores : List S) → AreFirst stores → AllPairs (λ one other. (about one).slot ≢ (about other).slot) stores
+  first_slots stores are = λ i j d below within same.
+      let long = first_long stores are in
+      let one = ap (λ (a : About). a.slot) (first_at stores are i d (omega (arith, long, below, within))) in
+      let other = ap (λ (a : About). a.slot) (first_at stores are j d (omega (arith, long, within))) in
+      let e : i ≡ j = sym one ∙ same ∙ other in
+      omega (arith, e, below)
+
+  pub first_all : (Q : About → Type 0) (stores : List S) → AreFirst stores → ((k : ℕ) → Q (first_about geometry k)) → All (λ s. Q (about s)) stores
+  first_all Q stores are each = λ k d within. let long = first_long stores are in subst Q (sym (first_at stores are k d (omega (arith, long, within)))) (each k)
+
+  pub first_even : (stores : List S) → AreFirst stores → AreEven about stores
+  first_even [] are = tt
+  first_even (x ∷ xs) are =
+      let long = first_long (x ∷ xs) are in
+      let first = first_at (x ∷ xs) are 0 x (omega (arith, long)) in
+      λ k d within.
+      let is = first_at (x ∷ xs) are k d (omega (arith, long, within)) in
+      (ap (λ (a : About). a.front) is ∙ sym (ap (λ (a : About). a.front) first), ap (λ (a : About). a.geometry) is ∙ sym (ap (λ (a : About). a.geometry) first))
+
+  -- what is so of the first one's sizes and front
+  pub from_first : (stores : List S) → AreFirst stores → 0 < n → (P : Geometry → ℕ → Type 0) → IfSome (slice_get stores 0) (λ s. P (about s).geometry (about s).front) → P geometry 0
+  from_first [] are some P is = let long = first_long [] are in absurd (omega (arith, long, some))
+  from_first (x ∷ xs) are some P is =
+      let first = first_at (x ∷ xs) are 0 x some in
+      subst (λ g. P g 0) (ap (λ (a : About). a.geometry) first) (subst (P (about x).geometry) (ap (λ (a : About). a.front) first) is)
+
+-- a chain that begins has no clients
+no_clients : (front : ℕ) (volume : List ℕ) (v : View) → IsBeginning front volume v → HasNoClients v
+no_clients front volume v begun = record {
+  none_wait = λ k d within. (begun.idle k d within).demands;
+  none_kept = begun.no_sessions;
+}
+
+-- the world of a chain that begins
+pub world_begins : {S : Type 0} (about : S → About) (keeps : S → List ℕ → Type 0) (may_leave_now : S → List ℕ → Type 0) (stores : List S) (told : Record) (c : Chained S) (w : Seen S)
+    → IfSome (slice_get stores 0) (λ first. c.geometry ≡ (about first).geometry)
+    → IfSome (slice_get stores 0) (λ first. c.words ≡ words_of (about first).front told.members)
+    → ((volume : List ℕ) → All (λ s. keeps s volume) stores → (v : View) × chain.Shows about keeps may_leave_now c v × IsBeginning c.words.front volume v)
+    → w.chain ≡ c → w.sessions ≡ record { board = c.id; export = export_of c.geometry; clients = [] }
+    → ((v : View) → chain.Shows about keeps may_leave_now c v → HasNoClients v → Shows about keeps may_leave_now w v)
+    → IfSome (slice_get stores 0) (λ first. (volume : List ℕ) → All (λ s. keeps s volume) stores → BeginsWith about keeps may_leave_now (about first).geometry (about first).front volume w)
+world_begins about keeps may_leave_now [] told c w sizes words begins is sessions shows = tt
+world_begins about keeps may_leave_now (x ∷ xs) told c w sizes words begins is sessions shows = λ volume all.
+    let (v, shown, begun) = begins volume all in
+    record {
+      view = v;
+      shows = shows v shown (no_clients c.words.front volume v begun);
+      begins = subst (λ n. IsBeginning n volume v) (ap (λ (ws : Words). ws.front) words) begun;
+      sizes = ap (λ y. y.geometry) is ∙ sizes;
+      export = ap (λ (s : Sessions). s.export) sessions ∙ ap export_of sizes;
+      no_clients = ap (λ (s : Sessions). s.clients) sessions;
+    }
+
+-- ---- stores on disks in memory
+
+abbrev pub IsStore : Type 0
+IsStore = Store MemDisk ghosts
+
+abbrev pub about_of_store : IsStore → About
+about_of_store s = about_of s.contents
+
+-- it keeps a volume of zeros
+abbrev pub keeps_zeros : Geometry → IsStore → Type 0
+keeps_zeros geometry s = IsStored s.contents (replicate (4096 * geometry.blocks) 0) (given_of s.disk) (may_be_left s.disk)
+
+abbrev pub keeps_volume : IsStore → List ℕ → Type 0
+keeps_volume s volume = IsStored s.contents volume (given_of s.disk) (may_be_left s.disk)
+
+abbrev pub leaves_now : IsStore → List ℕ → Type 0
+leaves_now s = may_be_left s.disk
+
+pub first_begins : (geometry : Geometry) (n : ℕ) (stores : List IsStore) (w : Seen IsStore) → map about_of_store stores ≡ map (first_about geometry) (range_with_len 0 n) → 0 < n → All (keeps_zeros geometry) stores
+    → IfSome (slice_get stores 0) (λ first. (volume : List ℕ) → All (λ s. keeps_volume s volume) stores → BeginsWith about_of_store keeps_volume leaves_now (about_of_store first).geometry (about_of_store first).front volume w)
+    → BeginsWith about_of_store keeps_volume leaves_now geometry 0 (replicate (4096 * geometry.blocks) 0) w
+first_begins geometry n stores w are some kept begins =
+    from_first about_of_store geometry n stores are some (λ g front. (volume : List ℕ) → All (λ s. keeps_volume s volume) stores → BeginsWith about_of_store keeps_volume leaves_now g front volume w) begins
+    (replicate (4096 * geometry.blocks) 0) kept

@@ -1,0 +1,29 @@
+use Rattle.std.proofs.Common.{◌<◌, ◌*◌, replicate, ap, sym, ◌∙◌, arith}
+use Rattle.std.proofs.lemmas.List.{length-replicate}
+use Rattle.local_store.specs.About.{About}
+use Rattle.life.proofs.Starting.{about_of_store, first_all, first_at, first_even, first_long, first_slots, first_begins}
+use Rattle.life.proofs.beginning.begin.Goals as goal
+
+pub world_of-requires-clause-few : goal.world_of-requires-clause-few
+world_of-requires-clause-few c = let long = first_long about_of_store c.args.geometry c.args.members c.in_ok-stores.stores.items c.in_ok-stores.ensures.about in omega (arith, long, c.requires.few)
+
+pub world_of-requires-clause-slots : goal.world_of-requires-clause-slots
+world_of-requires-clause-slots c = first_slots about_of_store c.args.geometry c.args.members c.in_ok-stores.stores.items c.in_ok-stores.ensures.about
+
+pub world_of-requires-clause-given : goal.world_of-requires-clause-given
+world_of-requires-clause-given c = first_all about_of_store c.args.geometry c.args.members (λ (a : About). 0 < a.incarnation) c.in_ok-stores.stores.items c.in_ok-stores.ensures.about (λ k. omega arith)
+
+pub world_of-requires-clause-even : goal.world_of-requires-clause-even
+world_of-requires-clause-even c = first_even about_of_store c.args.geometry c.args.members c.in_ok-stores.stores.items c.in_ok-stores.ensures.about
+
+pub world_of-requires-clause-keeps : goal.world_of-requires-clause-keeps
+world_of-requires-clause-keeps c = λ premise k d within.
+    let long = first_long about_of_store c.args.geometry c.args.members c.in_ok-stores.stores.items c.in_ok-stores.ensures.about in
+    let is = first_at about_of_store c.args.geometry c.args.members c.in_ok-stores.stores.items c.in_ok-stores.ensures.about k d (omega (arith, long, within)) in
+    (replicate (4096 * c.args.geometry.blocks) 0, c.in_ok-stores.ensures.kept k d within, length-replicate (4096 * c.args.geometry.blocks) 0 ∙ ap (λ (a : About). 4096 * a.geometry.blocks) (sym is))
+
+pub returns-clause-many : goal.returns-clause-many
+returns-clause-many c = c.in_ok-world_of.ensures.many ∙ first_long about_of_store c.args.geometry c.args.members c.in_ok-stores.stores.items c.in_ok-stores.ensures.about
+
+pub returns-clause-begins : goal.returns-clause-begins
+returns-clause-begins c = first_begins c.args.geometry c.args.members c.in_ok-stores.stores.items c.in_ok-world_of.field-0 c.in_ok-stores.ensures.about c.requires.some c.in_ok-stores.ensures.kept (c.in_ok-world_of.ensures.begins tt)

@@ -1,0 +1,62 @@
+use Rattle.std.proofs.Common.{◌≡◌, ◌+◌, ◌*◌, ◌++◌, [], ◌∷◌, List, length, take, ap, subst, sym, ◌∙◌, arith}
+use Rattle.std.specs.Prelude.{zip}
+use Rattle.std.specs.List.{AllZip}
+use Rattle.std.proofs.lemmas.List.{length-append, length-take-le, take_all, take_more}
+use Rattle.life.specs.Begun.{export_of}
+use Rattle.life.specs.Headline.{Told, told_in}
+use Rattle.life.specs.Lived.{Lives}
+use Rattle.life.specs.declared.era.Answers.{Answers}
+use Rattle.life.specs.declared.era.Era.{Era}
+use Rattle.life.proofs.Among.{all_more}
+use Rattle.life.proofs.Lives.{begins_life, lives_on, one_life, told_more}
+use Rattle.life.proofs.Starting.{about_of_store, keeps_volume, leaves_now}
+use Rattle.life.proofs.living.live.Goals as goal
+
+-- an answer to each deed
+abbrev IsAll : Era → Answers → Type 0
+IsAll era answers = length answers.items.items ≡ length era.deeds.items
+
+pub loop-era-init : goal.loop-era-init
+loop-era-init c = record {
+  lives = begins_life about_of_store keeps_volume leaves_now c.chains_begin_again.ensures.first c.args.geometry c.in_ok-world.world c.in_ok-world.ensures.begins;
+  all = subst (AllZip IsAll []) (sym c.in_ok-answers.ensures.items) tt;
+  many = ap length c.in_ok-answers.ensures.items;
+  count = c.in_ok-answers.ensures.len;
+  room = omega (arith, c.in_ok-answers.ensures.capacity);
+}
+
+pub push_reserved-requires : goal.push_reserved-requires
+push_reserved-requires c = omega (arith, c.loop-era.invariant.count, c.loop-era.invariant.room, c.loop-era-test.true)
+
+pub loop-era-preserved : goal.loop-era-preserved
+loop-era-preserved c =
+    let inv = c.loop-era.invariant in
+    let i = c.loop-era.era-index in
+    let eras = c.args.eras.now in
+    let era = c.era-item.result in
+    let answers = c.loop-era.answers.items in
+    let these : Answers = record { items = c.in_ok-told.told } in
+    let new = c.push_reserved.new.self.items in
+    let items : new ≡ answers ++ these ∷ [] = c.push_reserved.ensures.items in
+    let here : take (i + 1) eras ≡ take i eras ++ era ∷ [] = take_more eras i era c.loop-era-test.true ∙ ap (λ (e : Era). take i eras ++ e ∷ []) (sym c.era-item.is) in
+    let long : length answers ≡ length (take i eras) = inv.many ∙ sym (length-take-le i eras (omega (arith, c.loop-era-test.true))) in
+    let told : told_in (take (i + 1) eras) new ≡ told_in (take i eras) answers ++ zip era.deeds.items c.in_ok-told.told.items ∷ [] =
+    ap (λ (l : List Era). told_in l new) here ∙ ap (told_in (take i eras ++ era ∷ [])) items ∙ told_more (take i eras) answers era these long in
+    record {
+      lives = subst (λ (l : List Told). Lives about_of_store keeps_volume leaves_now (4096 * c.args.geometry.blocks) (export_of c.args.geometry) l c.in_ok-told.next) (sym told)
+          (lives_on about_of_store keeps_volume leaves_now (export_of c.args.geometry) (told_in (take i eras) answers) (zip era.deeds.items c.in_ok-told.told.items) c.loop-era.world c.in_ok-told.next inv.lives c.in_ok-told.ensures.continues);
+      all = subst (λ (l : List Era). AllZip IsAll l new) (sym here)
+          (subst (AllZip IsAll (take i eras ++ era ∷ [])) (sym items) (all_more IsAll (take i eras) answers era these inv.all c.in_ok-told.ensures.all));
+      many = let sum = length-append answers (these ∷ []) in omega (arith, inv.many, ap length items, sum);
+      count = omega (arith, inv.count, c.push_reserved.ensures.len);
+      room = omega (arith, inv.room, c.push_reserved.ensures.capacity);
+    }
+
+pub returns-clause-all : goal.returns-clause-all
+returns-clause-all c = subst (λ (l : List Era). AllZip IsAll l c.loop-era.answers.items) (take_all c.loop-era.era-index c.args.eras.now c.loop-era-test.false) c.loop-era.invariant.all
+
+pub returns-clause-one_life : goal.returns-clause-one_life
+returns-clause-one_life c =
+    one_life about_of_store keeps_volume leaves_now (4096 * c.args.geometry.blocks) (export_of c.args.geometry) (told_in c.args.eras.now c.loop-era.answers.items) c.loop-era.world
+    (subst (λ (l : List Era). Lives about_of_store keeps_volume leaves_now (4096 * c.args.geometry.blocks) (export_of c.args.geometry) (told_in l c.loop-era.answers.items) c.loop-era.world)
+    (take_all c.loop-era.era-index c.args.eras.now c.loop-era-test.false) c.loop-era.invariant.lives)

@@ -1,0 +1,18 @@
+use Rattle.std.proofs.Common.{◌≡◌, ◌≤◌, ◌*◌, length, take, vec_len, vec_capacity}
+use Rattle.std.specs.List.{AllZip}
+use Rattle.life.specs.Begun.{export_of}
+use Rattle.life.specs.Headline.{told_in}
+use Rattle.life.specs.Lived.{Lives}
+use Rattle.life.specs.declared.era.Answers.{Answers}
+use Rattle.life.specs.declared.era.Era.{Era}
+use Rattle.life.proofs.Starting.{about_of_store, keeps_volume, leaves_now}
+use Rattle.life.proofs.living.live.Given as goal
+
+abbrev pub invariant-loop-era : goal.invariant-loop-era
+invariant-loop-era l = record {
+  lives : Lives about_of_store keeps_volume leaves_now (4096 * l.fn.geometry.blocks) (export_of l.fn.geometry) (told_in (take l.era-index l.fn.eras) l.answers.items) l.world;
+  all : AllZip (λ (era : Era) (answers : Answers). length answers.items.items ≡ length era.deeds.items) (take l.era-index l.fn.eras) l.answers.items;
+  many : length l.answers.items ≡ l.era-index;
+  count : vec_len l.answers ≡ l.era-index;
+  room : length l.fn.eras ≤ vec_capacity l.answers;
+}

@@ -1,0 +1,52 @@
+use Rattle.std.proofs.Common.{◌≡◌, ◌+◌, ◌++◌, [], ◌∷◌, List, length, take, ap, subst, sym, ◌∙◌, arith}
+use Rattle.std.specs.Prelude.{zip}
+use Rattle.std.proofs.lemmas.List.{length-append, length-take-le, take_all, take_more}
+use Rattle.life.specs.Headline.{Told, fed_in, handed_in}
+use Rattle.life.specs.Passing.{PassAsOne}
+use Rattle.life.specs.declared.answer.Answer.{Answer}
+use Rattle.life.specs.declared.era.Deed.{Deed}
+use Rattle.life.proofs.Lives.{pass_more, zip_more}
+use Rattle.life.proofs.Passing.{none_pass}
+use Rattle.life.proofs.Starting.{about_of_store, keeps_volume, leaves_now}
+use Rattle.life.proofs.living.play_all.Goals as goal
+
+pub loop-deed-init : goal.loop-deed-init
+loop-deed-init c = record {
+  pass = subst (λ (l : List Answer). PassAsOne about_of_store keeps_volume leaves_now (fed_in (zip [] l)) (handed_in (zip [] l)) c.args.world.now c.args.world.now) (sym c.in_ok-answers.ensures.items)
+      (none_pass about_of_store keeps_volume leaves_now c.args.world.now);
+  many = ap length c.in_ok-answers.ensures.items;
+  count = c.in_ok-answers.ensures.len;
+  room = omega (arith, c.in_ok-answers.ensures.capacity);
+}
+
+pub push_reserved-requires : goal.push_reserved-requires
+push_reserved-requires c = omega (arith, c.loop-deed.invariant.count, c.loop-deed.invariant.room, c.loop-deed-test.true)
+
+pub loop-deed-preserved : goal.loop-deed-preserved
+loop-deed-preserved c =
+    let inv = c.loop-deed.invariant in
+    let i = c.loop-deed.deed-index in
+    let deeds = c.args.deeds.now in
+    let deed = c.deed-item.result in
+    let answers = c.loop-deed.answers.items in
+    let answer = c.play_deed.result in
+    let items = c.push_reserved.ensures.items in
+    let here : take (i + 1) deeds ≡ take i deeds ++ deed ∷ [] = take_more deeds i deed c.loop-deed-test.true ∙ ap (λ (d : Deed). take i deeds ++ d ∷ []) (sym c.deed-item.is) in
+    let long : length answers ≡ length (take i deeds) = inv.many ∙ sym (length-take-le i deeds (omega (arith, c.loop-deed-test.true))) in
+    let told : zip (take (i + 1) deeds) c.push_reserved.new.self.items ≡ zip (take i deeds) answers ++ (deed, answer) ∷ [] =
+    ap (λ (l : List Deed). zip l c.push_reserved.new.self.items) here ∙ ap (zip (take i deeds ++ deed ∷ [])) items ∙ zip_more (take i deeds) answers deed answer long in
+    record {
+      pass = subst (λ (l : Told). PassAsOne about_of_store keeps_volume leaves_now (fed_in l) (handed_in l) c.args.world.now c.play_deed.new.world) (sym told)
+          (pass_more about_of_store keeps_volume leaves_now c.lives_are_of_one_volume.ensures.happenings c.args.world.now c.loop-deed.world c.play_deed.new.world c.sound.ensures.joined c.sound-in-loop-deed.ensures.joined
+          (zip (take i deeds) answers) deed answer inv.pass c.play_deed.ensures);
+      many = let sum = length-append answers (answer ∷ []) in omega (arith, inv.many, ap length items, sum);
+      count = omega (arith, inv.count, c.push_reserved.ensures.len);
+      room = omega (arith, inv.room, c.push_reserved.ensures.capacity);
+    }
+
+pub returns-clause-all : goal.returns-clause-all
+returns-clause-all c = let end = c.loop-deed-test.false in let most = c.loop-deed.auto.deed-index-end in omega (arith, c.loop-deed.invariant.many, end, most)
+
+pub returns-clause-pass : goal.returns-clause-pass
+returns-clause-pass c = subst (λ (l : List Deed). PassAsOne about_of_store keeps_volume leaves_now (fed_in (zip l c.loop-deed.answers.items)) (handed_in (zip l c.loop-deed.answers.items)) c.args.world.now c.loop-deed.world)
+    (take_all c.loop-deed.deed-index c.args.deeds.now c.loop-deed-test.false) c.loop-deed.invariant.pass
