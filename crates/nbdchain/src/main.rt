@@ -1,19 +1,24 @@
 //! `nbdchain`: a replicated virtual disk for clients of the Network Block Device protocol.
 //!
-//! It plays a script: each line is steps of a `World` over a disk in memory, or makes, stops, cuts and recovers one; what
-//! they put out is printed. What the steps do, and what holds of them, is `world`'s.
+//! It plays a script: each line is steps of a `World` over disks in memory, or makes, stops, cuts and recovers one; what
+//! they put out is printed. What the steps do, and what holds of them, is said by `life` and `world`.
 #![tactic(auto)]
 
 use std::env;
 use std::io::{self, BufReader, BufWriter, Write};
 use std::process::ExitCode;
 
+mod acts;
 mod client;
 mod command;
+mod eras;
 mod printed;
 mod refusal;
+mod rounds;
 mod script;
+mod sessions;
 mod sim;
+mod steps;
 
 pub use command::command;
 use command::refused;
@@ -21,13 +26,13 @@ pub use refusal::Refusal;
 pub use sim::sim_on;
 
 #[cfg(test)]
-mod beside;
-#[cfg(test)]
 mod crash_tests;
 #[cfg(test)]
-mod model_tests;
+mod long_tests;
 #[cfg(test)]
-mod stray_tests;
+mod rows;
+#[cfg(test)]
+mod session_tests;
 #[cfg(test)]
 mod tests;
 

@@ -7,7 +7,7 @@ use std::str;
 use thiserror::Error;
 
 /// A command of a script. A member is given by its slot's number, which may be above 7.
-#[derive(Debug, Drop)]
+#[derive(Drop)]
 pub enum ScriptCommand {
     /// `new M N P`: a chain of M members, N blocks, payloads of up to P bytes.
     New {
@@ -35,6 +35,11 @@ pub enum ScriptCommand {
         act: MemberAct,
         member: u64,
     },
+    /// `pass A B`: a member takes the first message on its way from another.
+    Pass {
+        from: u64,
+        to: u64,
+    },
     /// `bytes S H ..`: bytes from a session's client.
     Bytes {
         session: SessionId,
@@ -57,7 +62,7 @@ pub enum ScriptCommand {
     Cut {
         cut: Cut,
     },
-    /// `return`, `return M`: a member is recovered from its disk.
+    /// `return`, `return M`: a member goes on alone, from its disk.
     Return {
         member: Option<u64>,
     },
@@ -66,7 +71,7 @@ pub enum ScriptCommand {
 }
 
 /// What a member is told to do.
-#[derive(Clone, Copy, Debug, PartialEq, Eq)]
+#[derive(Clone, Copy)]
 pub enum MemberAct {
     /// It takes the oldest waiting demand of its sessions.
     Take,
@@ -74,14 +79,18 @@ pub enum MemberAct {
     Number,
     /// The tail raises the front, and takes it.
     Raise,
-    /// It builds the images of the next write to be journaled.
-    Begin,
+    /// It builds the images of the next writes to be journaled, at most so many.
+    Begin { most: u64 },
     /// It journals them.
     End,
-    /// Both.
+    /// Both, for one write, with a checkpoint first where it doesn't fit.
     Commit,
     /// It posts its last receipt.
     Post,
+    /// Its store writes the next pending block home.
+    Tick,
+    /// Its store writes all pending blocks home, and changes the journal area.
+    Checkpoint,
     /// It looks up the front and goes on with it; the front is kept for the mask.
     Front,
     /// The mask is looked up behind the kept front.
@@ -138,6 +147,16 @@ pub fn parse(alloc: Global, line: &[u8]) -> Result<Option<ScriptCommand>, LineEr
         ["bytes", session, first, others @ ..] => ScriptCommand::Bytes {
             session: SessionId(number(session)?),
             piece: joined(alloc, first, others)?,
+        },
+        ["bgroup", member, most] => ScriptCommand::Act {
+            act: MemberAct::Begin {
+                most: number(most)?,
+            },
+            member: number(member)?,
+        },
+        ["pass", from, to] => ScriptCommand::Pass {
+            from: number(from)?,
+            to: number(to)?,
         },
         ["run"] => ScriptCommand::Run,
         ["state"] => ScriptCommand::State,
@@ -227,10 +246,12 @@ fn member_act(word: &str) -> Result<MemberAct, LineError> {
         "take" => Ok(MemberAct::Take),
         "number" => Ok(MemberAct::Number),
         "raise" => Ok(MemberAct::Raise),
-        "begin" => Ok(MemberAct::Begin),
+        "begin" => Ok(MemberAct::Begin { most: 1 }),
         "end" => Ok(MemberAct::End),
         "commit" => Ok(MemberAct::Commit),
         "post" => Ok(MemberAct::Post),
+        "tick" => Ok(MemberAct::Tick),
+        "checkpoint" => Ok(MemberAct::Checkpoint),
         "front" => Ok(MemberAct::Front),
         "crew" => Ok(MemberAct::Crew),
         "settle" => Ok(MemberAct::Settle),

@@ -1,0 +1,170 @@
+//! How worlds begin, are armed, are cut and go on.
+ghost use Rattle.std.specs.Prelude.{◌≤◌, ◌<◌, vec_len};
+
+use crate::refusal::Refusal;
+use crate::sim::{Left, Sim};
+use disk_model::{Cut, Event, MemDisk};
+use life::{Refusal as LifeRefusal, Refused};
+use local_store::Store;
+use std::io::Write;
+use std::mem;
+use volume::{Geometry, MAX_MAX_PAYLOAD, least_area};
+use world::World;
+
+/// The number of the refusal of a recovery for which no disk is returned.
+const NONE_RETURNED: u16 = 191;
+
+/// The number of the refusal for want of memory.
+const MEMORY: u16 = 100;
+
+impl Sim {
+    /// Makes the world of a chain, or prints why its numbers are refused.
+    pub(crate) fn begin<W: Write>(
+        &mut self,
+        members: u8,
+        blocks: u32,
+        max_payload: u32,
+        writer: &mut W,
+    ) -> Result<(), Refusal>
+        requires some { 0 < members }
+        requires few { members ≤ 8 }
+    {
+        let area = if max_payload <= MAX_MAX_PAYLOAD {
+            least_area(max_payload)
+        } else {
+            0
+        };
+        let geometry = match Geometry::new(blocks, area, max_payload) {
+            Ok(geometry) => geometry,
+            Err(refusal) => {
+                let number = refusal.number();
+                return Ok(writeln!(writer, "refused {number}")?);
+            }
+        };
+        match life::begin(self.alloc, geometry, members) {
+            Ok(world) => {
+                self.goes_on_with(world);
+                Ok(())
+            }
+            Err(refusal) => self.not_begun(refusal, writer),
+        }
+    }
+
+    /// The script goes on with this world.
+    fn goes_on_with(&mut self, world: World<Store<MemDisk>>) {
+        if let Some(old) = mem::replace(&mut self.world, Some(world)) {
+            let _stores = old.abandon();
+        }
+    }
+
+    /// A device call to come fails, or the world stops in it. A member that is none, or no call, changes nothing.
+    pub(crate) fn arm(&mut self, member: u64, event: Event) -> Result<(), Refusal> {
+        let (Event::FailAt { call } | Event::StopAt { call, .. }) = event;
+        let Some(at) = self.place(member) else {
+            return Ok(());
+        };
+        match &mut self.world {
+            Some(world) if call > 0 && at < world.len() => Ok(world.arm(at, event)?),
+            _ => Ok(()),
+        }
+    }
+
+    /// Prints the epoch, the committed front and the chain, if there is a world. There is one epoch.
+    pub(crate) fn state<W: Write>(&mut self, writer: &mut W) -> Result<(), Refusal> {
+        let Some(world) = &mut self.world else {
+            return Ok(());
+        };
+        let front = world.front();
+        write!(writer, "epoch 1 front {front} chain")?;
+        for at in 0..world.len() {
+            let slot = world.slot(at).number();
+            write!(writer, " {slot}")?;
+        }
+        Ok(writeln!(writer)?)
+    }
+
+    /// Everything stops. Where there is no world, and no recovery that met a stop, nothing changes.
+    pub(crate) fn cut(&mut self, cut: Cut) -> Result<(), Refusal> {
+        if self.stopped {
+            for left in &mut self.left {
+                left.disk.cut(cut);
+            }
+        }
+        self.stopped = false;
+        let mut slots = Vec::new(self.alloc);
+        if let Some(world) = &self.world {
+            for at in 0..world.len() {
+                slots.push(world.slot(at))?;
+            }
+        }
+        let Some(world) = self.world.take() else {
+            return Ok(());
+        };
+        let disks = life::cut(self.alloc, world, cut)?;
+        for (slot, disk) in slots.into_iter().zip(disks) {
+            self.left.push(Left { slot, disk })?;
+        }
+        Ok(())
+    }
+
+    /// A member goes on alone from its disk, after a cut: prints `source M front F`. The other disks and the sessions are gone.
+    /// Without a member it is refused; a member without a disk changes nothing.
+    pub(crate) fn recover<W: Write>(
+        &mut self,
+        member: Option<u64>,
+        writer: &mut W,
+    ) -> Result<(), Refusal> {
+        if self.left.is_empty() {
+            return Ok(());
+        }
+        let Some(member) = member else {
+            return Ok(writeln!(writer, "refused {NONE_RETURNED}")?);
+        };
+        let place = self
+            .left
+            .iter()
+            .position(|left| u64::from(left.slot.number()) == member);
+        match place {
+            Some(at) if at < self.left.len() => self.go_on_from(at, writer),
+            _ => Ok(()),
+        }
+    }
+
+    /// The world goes on from the disk at this place among those that a cut left.
+    fn go_on_from<W: Write>(&mut self, at: usize, writer: &mut W) -> Result<(), Refusal>
+        requires within { at < vec_len self.old.left }
+    {
+        let Left { slot, disk } = self.left.remove(at);
+        match life::recover(self.alloc, disk) {
+            Ok(world) => {
+                let front = if world.len() > 0 { world.durable(0) } else { 0 };
+                self.left.clear();
+                self.speakers.clear();
+                self.faulty.clear();
+                self.goes_on_with(world);
+                let member = slot.number();
+                Ok(writeln!(writer, "source {member} front {front}")?)
+            }
+            Err(Refused { refusal, disk }) => {
+                let Some(disk) = disk else {
+                    return Err(Refusal::Memory);
+                };
+                self.stopped = disk.is_stopped();
+                self.left.push(Left { slot, disk })?;
+                self.not_begun(refusal, writer)
+            }
+        }
+    }
+
+    /// Prints why there is no world: a number, or that a device call met its stop.
+    fn not_begun<W: Write>(&self, refusal: LifeRefusal, writer: &mut W) -> Result<(), Refusal> {
+        let LifeRefusal::Store(refusal) = refusal else {
+            return Err(Refusal::Memory);
+        };
+        match refusal.number() {
+            Some(MEMORY) => Err(Refusal::Memory),
+            Some(number) => Ok(writeln!(writer, "refused {number}")?),
+            None => self.tell_stop(writer),
+        }
+    }
+}

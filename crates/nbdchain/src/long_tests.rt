@@ -1,0 +1,177 @@
+//! Scripts with many lines of a kind, and the bytes that scripts leave on disks.
+use crate::sim::Sim;
+use crate::tests::{played, shown};
+use std::alloc::Global;
+use std::io::Write;
+use std::test::Fail;
+
+/// A table of 1,024 writes is full, and the Submit stays on its link.
+fn full_table(alloc: Global) -> Result<(Vec<u8>, Vec<u8>), Fail> {
+    let mut script = Vec::from_slice(alloc, b"new 2 8 4096\n")?;
+    for session in 1..=1_025 {
+        writeln!(
+            script,
+            "session {session} 0\nwrite {session} 1 0 aa\ntake 0"
+        )?;
+    }
+    for _ in 0..1_026 {
+        writeln!(script, "number 0")?;
+    }
+    let wanted = Vec::from_slice(alloc, b"refused 153\nrefused 153\n")?;
+    Ok((script, wanted))
+}
+
+/// Of 65 requests of a session one waits until another is answered.
+fn many_in_flight(alloc: Global) -> Result<(Vec<u8>, Vec<u8>), Fail> {
+    let mut script = Vec::from_slice(alloc, b"new 1 8 4096\nsession 1 0\n")?;
+    let mut wanted = Vec::new(alloc);
+    for cookie in 1..=65 {
+        writeln!(script, "read 1 {cookie} 0 1")?;
+    }
+    for cookie in 1..=64 {
+        writeln!(script, "take 0")?;
+        writeln!(wanted, "reply 1 {cookie} 0 00")?;
+    }
+    writeln!(script, "take 0\nstate\nrun")?;
+    writeln!(wanted, "epoch 1 front 0 chain 0\nreply 1 65 0 00")?;
+    Ok((script, wanted))
+}
+
+/// LIST with 4,097 bytes of data is answered after the last of them.
+fn long_option(alloc: Global) -> Result<(Vec<u8>, Vec<u8>), Fail> {
+    let mut script = Vec::from_slice(alloc, b"new 1 8 4096\nconnect 1 0\nbytes 1 00000003 ")?;
+    script.extend_from_slice(b"49484156454f5054 00000003 00001001 ")?;
+    for _ in 0..4_096 {
+        script.extend_from_slice(b"00")?;
+    }
+    script.extend_from_slice(b"\nstate\nbytes 1 00\n")?;
+    let mut wanted = Vec::from_slice(alloc, b"out 1 4e42444d4147494349484156454f50540003\n")?;
+    writeln!(
+        wanted,
+        "epoch 1 front 0 chain 0\nout 1 0003e889045565a9000000038000000900000000"
+    )?;
+    Ok((script, wanted))
+}
+
+/// The write of the most bytes fills the least area, at which a second batch of any size is refused until a checkpoint.
+fn largest_write(alloc: Global, blocks: u32, payload: u32) -> Result<(Vec<u8>, Vec<u8>), Fail> {
+    let mut script = Vec::new(alloc);
+    write!(
+        script,
+        "new 1 {blocks} {payload}\nsession 1 0\nwrite 1 1 1 "
+    )?;
+    for _ in 0..payload {
+        script.extend_from_slice(b"aa")?;
+    }
+    writeln!(
+        script,
+        "\ntake 0\nnumber 0\nraise 0\nwrite 1 2 0 bb\ntake 0\nnumber 0\nraise 0"
+    )?;
+    writeln!(
+        script,
+        "begin 0\nend 0\nbegin 0\ncheckpoint 0\nbegin 0\nend 0\ncut none\nreturn 0"
+    )?;
+    let wanted = b"reply 1 1 0\nreply 1 2 0\nrefused 121\nsource 0 front 2\n";
+    Ok((script, Vec::from_slice(alloc, wanted)?))
+}
+
+#[test]
+fn long_scripts(rt: HostRuntime) -> Result<(), Fail> {
+    let alloc = rt.alloc();
+    for (script, wanted) in [
+        full_table(alloc)?,
+        many_in_flight(alloc)?,
+        long_option(alloc)?,
+        largest_write(alloc, 2, 4_096)?,
+        largest_write(alloc, 257, 1_048_576)?,
+    ] {
+        let printed = played(alloc, &script)?;
+        assert_eq!(rt; shown(&printed), shown(&wanted));
+    }
+    Ok(())
+}
+
+/// What a script leaves on the disk of member 0 from a place on, where all of it is left: these pieces, and zeros elsewhere.
+struct DiskRow {
+    script: &'static str,
+    at: usize,
+    len: usize,
+    pieces: &'static [(usize, &'static str)],
+}
+
+/// The bytes of the superblock pair and of 8 blocks, behind which area 0 lies.
+const AREA: usize = 8_192 + 8 * 4_096;
+
+const DISK_ROWS: [DiskRow; 3] = [
+    DiskRow {
+        script: "new 1 8 4096",
+        at: 0,
+        len: 56,
+        pieces: &[
+            (0, "0100000000000000010000002b"),
+            (
+                13,
+                "435241514449534b00000001010000000000000000010000000800002016000010000000000000000000",
+            ),
+        ],
+    },
+    DiskRow {
+        script: "new 1 8 4096\nsession 1 0\nfua 1 1 4095 414243\nrun",
+        at: AREA,
+        len: 8_214,
+        pieces: &[(0, "01000000000000000100000002"), (4_112, "41000000014243")],
+    },
+    DiskRow {
+        script: "new 1 8 4096\nsession 1 0\nwrite 1 1 0 01\nwrite 1 2 4096 02\nwrite 1 3 1 03\nwrite 1 4 8192 04\ntake 0\ntake 0\ntake 0\ntake 0\nnumber 0\nnumber 0\nnumber 0\nnumber 0\nraise 0\nbgroup 0 8\nend 0",
+        at: AREA,
+        len: 8_214,
+        pieces: &[
+            (0, "01000000000000000300000002000000000103"),
+            (4_113, "0000000102"),
+        ],
+    },
+];
+
+/// The bytes of a disk row.
+fn bytes_wanted(alloc: Global, row: &DiskRow) -> Result<Vec<u8>, Fail> {
+    let mut bytes = Vec::new(alloc);
+    for (at, piece) in row.pieces {
+        for _ in bytes.len()..*at {
+            bytes.push(0)?;
+        }
+        bytes.extend_from_slice(&hex::decode(alloc, *piece)?)?;
+    }
+    for _ in bytes.len()..row.len {
+        bytes.push(0)?;
+    }
+    Ok(bytes)
+}
+
+/// The bytes of the first disk that a script leaves, behind a place.
+fn bytes_left(sim: &mut Sim, row: &DiskRow) -> Result<Vec<u8>, Fail> {
+    let mut printed = Vec::new(sim.alloc);
+    for line in row.script.lines() {
+        sim.play_line(2, line.as_bytes(), &mut printed)?;
+    }
+    sim.play_line(2, b"cut all", &mut printed)?;
+    let mut bytes = Vec::new(sim.alloc);
+    for left in &sim.left {
+        for byte in left.disk.bytes().iter().skip(row.at).take(row.len) {
+            bytes.push(*byte)?;
+        }
+    }
+    Ok(bytes)
+}
+
+#[test]
+fn disks(rt: HostRuntime) -> Result<(), Fail> {
+    let alloc = rt.alloc();
+    for row in &DISK_ROWS {
+        let mut sim = Sim::new(alloc);
+        let left = bytes_left(&mut sim, row);
+        sim.end();
+        let (left, wanted) = (left?, bytes_wanted(alloc, row)?);
+        assert!(rt; left.as_slice() == wanted.as_slice(), "{}", row.script);
+    }
+    Ok(())
+}
