@@ -1,4 +1,0 @@
-mod Finding
-mod Firsts
-mod Recording
-mod Sources

@@ -1,2 +1,0 @@
-pub mod Flow
-pub mod Refusal
