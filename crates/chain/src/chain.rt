@@ -92,6 +92,14 @@ impl<S: StoreLike + Drop> Chain<S> {
         self.members[at].cause()
     }
 
+    /// The store of the member at a place.
+    pub fn store(&self, at: usize) -> &S
+        requires { at < length self.now.members }
+        ensures { IfSome (slice_get self.now.members at) (λ m. result.now ≡ m.node.store) }
+    {
+        self.members[at].store()
+    }
+
     /// The durable front of the member at a place.
     pub fn durable(&self, at: usize) -> u64
         requires { at < length self.now.members }

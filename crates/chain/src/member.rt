@@ -62,6 +62,13 @@ impl<S: StoreLike + Drop> Member<S> {
         self.node.stopped()
     }
 
+    /// Its store.
+    pub(crate) fn store(&self) -> &S
+        ensures { result.now ≡ self.now.node.store }
+    {
+        self.node.store()
+    }
+
     /// Its durable front.
     pub(crate) fn durable(&self) -> u64
         ensures { result ≡ durable_of self.now.node.state }

@@ -119,6 +119,13 @@ impl<S: StoreLike + Drop> Node<S> {
         let _ = &self.known;
     }
 
+    /// Its store.
+    pub fn store(&self) -> &S
+        ensures { result.now ≡ self.now.store }
+    {
+        &self.store
+    }
+
     /// Why it stopped, if it did.
     pub fn stopped(&self) -> Option<Cause>
         ensures { result ≡ self.now.state.stopped }

@@ -88,6 +88,13 @@ impl<D: Disk + Drop> Store<D> {
         }
     }
 
+    /// Its disk.
+    pub fn disk(&self) -> &D
+        ensures { result.now ≡ self.now.disk }
+    {
+        &self.disk
+    }
+
     /// The disk, as the store leaves it.
     pub fn into_disk(self) -> D
         ensures { result ≡ self.disk }

@@ -1,5 +1,5 @@
 -- What a member does with the first demand of its sessions.
-use Rattle.std.specs.Prelude.{◌≡◌, ◌⊎◌, ℕ, ◌<◌, Some, List, [], ◌∷◌, ◌++◌, slice_get, slice_set}
+use Rattle.std.specs.Prelude.{◌≡◌, ◌⊎◌, ℕ, ◌<◌, Bool, true, false, Some, List, [], ◌∷◌, ◌++◌, slice_get, slice_set}
 use Rattle.flush_barrier.specs.Owed.{Owed}
 use Rattle.flush_barrier.specs.Reply.{GivenReply}
 use Rattle.flush_barrier.specs.declared.error_code.ErrorCode.{ErrorCode}
@@ -31,6 +31,14 @@ code_of NotMember = Io
 code_of Early = Io
 code_of Busy = Io
 code_of Stopped = Io
+
+-- the first of the demands asks for a floor: a write with FUA, or a FLUSH
+abbrev pub asks_floor : List Demand → Bool
+asks_floor [] = false
+asks_floor (demands.Read token offset len ∷ rest) = false
+asks_floor (demands.Write token write ∷ rest) = false
+asks_floor (demands.Fua token write ∷ rest) = true
+asks_floor (demands.Flush token ∷ rest) = true
 
 -- the reply that a write's token owes
 abbrev pub owed_of : WriteToken → Owed

@@ -1,6 +1,7 @@
 //! The demands that wait for a member.
 ghost use Rattle.std.specs.Prelude.{◌≡◌, ◌≤◌, ◌∷◌, ◌++◌, [], ◌+◌, None, length, IfSome, OnOk};
 ghost use Rattle.std.specs.VecDeque.{deque_capacity, deque_len};
+ghost use Rattle.world.specs.Taking.{asks_floor};
 
 use nbd_session::Demand;
 use std::alloc::{AllocError, Global};
@@ -37,6 +38,16 @@ impl Queue {
         ensures none { result ≡ None → (self.old ≡ []) × (self.new ≡ []) }
     {
         self.demands.pop_front()
+    }
+
+    /// Whether its first demand asks for a floor: a write with FUA, or a FLUSH.
+    pub(crate) fn asks_floor(&self) -> bool
+        ensures { result ≡ asks_floor self.now }
+    {
+        match self.demands.front() {
+            Some(Demand::Fua { .. } | Demand::Flush { .. }) => true,
+            Some(Demand::Read { .. } | Demand::Write { .. }) | None => false,
+        }
     }
 
     /// Gives all demands up.

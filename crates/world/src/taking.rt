@@ -1,7 +1,7 @@
 //! A member takes the demands of its sessions.
 ghost use Rattle.std.specs.Prelude.{◌≡◌, ◌<◌, [], length, IfNone, IfSome, Some, slice_get};
 ghost use Rattle.clients.specs.Clients.{no_one};
-ghost use Rattle.world.specs.Taking.{Takes};
+ghost use Rattle.world.specs.Taking.{Takes, asks_floor};
 ghost use Rattle.world.specs.Telling.{handed_some};
 ghost use Rattle.world.specs.World.{IsOfOneVolume};
 
@@ -12,6 +12,14 @@ use crate::world::World;
 use local_store::StoreLike;
 
 impl<S: StoreLike + Drop> World<S> {
+    /// Whether the demand that the member at a place takes next asks for a floor: a write with FUA, or a FLUSH.
+    pub fn asks_floor(&self, at: usize) -> bool
+        requires { at < length self.now.chain.members }
+        ensures { IfSome (slice_get self.now.queues at) (λ queue. result ≡ asks_floor queue) }
+    {
+        self.queues[at].asks_floor()
+    }
+
     /// The member at a place takes the first demand of its sessions: a READ of a clean range is answered at once, another READ and a FLUSH
     /// wait, and a write goes to the head. A demand that it refuses is answered with 12 where memory ran out, else with 5. `None` where no
     /// demand waits.

@@ -111,6 +111,14 @@ impl<S: StoreLike + Drop> World<S> {
         self.chain.cause(at)
     }
 
+    /// The store of the member at a place.
+    pub fn store(&self, at: usize) -> &S
+        requires { at < length self.now.chain.members }
+        ensures { IfSome (slice_get self.now.chain.members at) (λ m. result.now ≡ m.node.store) }
+    {
+        self.chain.store(at)
+    }
+
     /// The durable front of the member at a place.
     pub fn durable(&self, at: usize) -> u64
         requires { at < length self.now.chain.members }
