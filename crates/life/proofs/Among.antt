@@ -1,11 +1,8 @@
 -- What is among what, in order, and what goes with what: lemmas.
-use Rattle.std.proofs.Common.{◌≡◌, ℕ, zero, suc, Bool, true, false, List, [], ◌∷◌, ◌++◌, length, map, refl, ap, sym, subst, ◌∙◌, arith}
-use Rattle.std.specs.Prelude.{◌==◌, ◌&&◌, Result, Ok, Err, IfOk, None, Some, slice_get}
+use Rattle.std.proofs.Common.{◌≡◌, ℕ, zero, suc, List, [], ◌∷◌, ◌++◌, length, map, refl, ap, sym, subst, ◌∙◌, arith}
+use Rattle.std.specs.Prelude.{Result, Ok, Err, IfOk, None, Some, slice_get}
 use Rattle.std.specs.List.{AllZip}
-use Rattle.std.proofs.lemmas.Bool.{eqb-true}
 use Rattle.std.proofs.lemmas.List.{append_assoc, append-nil}
-use Rattle.volume.specs.declared.geometry.Geometry.{Geometry}
-use Rattle.life.specs.Begun.{export_of}
 use Rattle.life.specs.Passing.{AreAmong}
 
 pub among_same : {A : Type 0} (xs : List A) → AreAmong xs xs
@@ -81,15 +78,3 @@ zip_there R [] (b ∷ ys) k y all there = absurd all
 zip_there R (a ∷ xs) [] k y all there = absurd all
 zip_there R (a ∷ xs) (b ∷ ys) zero y all there = let some : Some b ≡ Some y = there in let same : b ≡ y = cc some in (a, refl, subst (R a) same all.0)
 zip_there R (a ∷ xs) (b ∷ ys) (suc k) y all there = zip_there R xs ys k y all.1 there
-
--- ---- sizes that are compared
-
-both : (x y : Bool) → true ≡ (x && y) → (x ≡ true) × (y ≡ true)
-both true y is = (refl, sym is)
-both false y is = absurd (cc)
-
-pub same_export : (one other : Geometry) → true ≡ ((one.blocks == other.blocks) && ((one.area == other.area) && (one.max_payload == other.max_payload))) → export_of one ≡ export_of other
-same_export one other is =
-    let (blocks, rest) = both (one.blocks == other.blocks) ((one.area == other.area) && (one.max_payload == other.max_payload)) is in
-    let (area, payload) = both (one.area == other.area) (one.max_payload == other.max_payload) (sym rest) in
-    rw (eqb-true one.blocks other.blocks blocks, eqb-true one.max_payload other.max_payload payload) refl

@@ -1,5 +1,5 @@
 -- What a call of a world is, is what its answer says: lemmas.
-use Rattle.std.proofs.Common.{◌≡◌, ℕ, Bool, true, false, cond, List, [], length, refl, ap, inl, sym, subst, ◌∙◌}
+use Rattle.std.proofs.Common.{◌≡◌, ℕ, ◌<◌, ◌≤◌, arith, Bool, true, false, cond, List, [], length, refl, ap, inl, sym, subst, ◌∙◌}
 use Rattle.std.specs.Prelude.{None, Option, Some, Result, Ok, Err, get_or, ◌==◌}
 use Rattle.std.proofs.Math.Nat.{le_refl}
 use Rattle.std.proofs.lemmas.List.{append-nil}
@@ -16,7 +16,29 @@ use Rattle.world.proofs.Going.{goes_nowhere}
 use Rattle.world.proofs.GoingOn.{go_on_as, go_on_still}
 use Rattle.life.specs.Played.{fed_to, handed_of, told_in, tried_in, went_in}
 use Rattle.life.specs.declared.answer.Answer.{Answer}
-use Rattle.life.specs.declared.answer.Answer.TheVariants.{Taken}
+use Rattle.life.specs.declared.answer.Answer.TheVariants.{Taken, HandedOut, Refused, Skipped}
+use Rattle.life.specs.Does.{IsAtMember, IsSilent, TellsDone}
+
+-- a step at a member's place, and at another
+pub at_member : {S : Type 0} (at : ℕ) (answer : Answer) (old new : Seen S) (Did : Type 0) → at < length old.chain.members → Did → IsAtMember at answer old new Did
+at_member at answer old new Did there did = record { nobody = λ beyond. absurd (omega (arith, there, beyond)); member = λ _. did }
+
+pub nobody_there : {S : Type 0} (at : ℕ) (w : Seen S) (Did : Type 0) → length w.chain.members ≤ at → IsAtMember at Skipped w w Did
+nobody_there at w Did beyond = record { nobody = λ _. (refl, refl); member = λ there. absurd (omega (arith, there, beyond)) }
+
+-- what tells nobody anything was taken, and nothing goes out with it
+silent_told : (answer : Answer) → IsSilent answer → (told : Told) × (answer ≡ Taken told) × (outputs_of told ≡ [])
+silent_told (Taken told) is = (told, refl, is.1)
+silent_told (HandedOut output) is = absurd is
+silent_told (Refused number) is = absurd is
+silent_told Skipped is = absurd is
+
+pub silent_none : (answer : Answer) → IsSilent answer → handed_of answer ≡ no_one
+silent_none answer silent = let (told, taken, none) = silent_told answer silent in ap handed_of taken ∙ ap handed_by none
+
+pub done_none : (taken : Bool) (answer : Answer) → TellsDone taken answer → handed_of answer ≡ no_one
+done_none true answer is = silent_none answer is
+done_none false answer is = ap handed_of is
 
 module _ {S : Type 0} (about : S → About) (keeps : S → List ℕ → Type 0) (may_leave_now : S → List ℕ → Type 0) (old new : Seen S) (fed : SessionId → List ℕ) (answer : Answer) where
   abbrev IsSo : (SessionId → List ℕ) → Type 0
@@ -43,8 +65,9 @@ module _ {S : Type 0} (about : S → About) (keeps : S → List ℕ → Type 0) 
     abbrev IsFedSo : (SessionId → List ℕ) → (SessionId → List ℕ) → Type 0
     IsFedSo fed handed = IsOfOneVolume about keeps may_leave_now fed handed old new
 
-    pub fed_ok : (v : V) → given ≡ Some (Ok v) → ((told : Told) × (answer ≡ Taken told) × (outputs_of told ≡ [])) → IsFedSo (fed_in session piece given) no_one → IsFedSo (fed_to session piece answer) (handed_of answer)
-    fed_ok v is (told, taken, none) one =
+    pub fed_ok : (v : V) → given ≡ Some (Ok v) → IsSilent answer → IsFedSo (fed_in session piece given) no_one → IsFedSo (fed_to session piece answer) (handed_of answer)
+    fed_ok v is silent one =
+        let (told, taken, none) = silent_told answer silent in
         subst (λ a. IsFedSo (fed_to session piece a) (handed_of a)) (sym taken)
         (subst (λ os. IsFedSo (of_session session piece) (handed_by os)) (sym none) (subst (λ x. IsFedSo (fed_in session piece x) no_one) is one))
 
@@ -55,10 +78,6 @@ fed_err about keeps may_leave_now old new session piece given e is one = subst (
 pub fed_none : {S : Type 0} (about : S → About) (keeps : S → List ℕ → Type 0) (may_leave_now : S → List ℕ → Type 0) (old new : Seen S) {V E : Type 0} (session : SessionId) (piece : List ℕ) (given : Option (Result V E)) → given ≡ None
     → IsOfOneVolume about keeps may_leave_now (fed_in session piece given) no_one old new → IsOfOneVolume about keeps may_leave_now no_one no_one old new
 fed_none about keeps may_leave_now old new session piece given is one = subst (λ x. IsOfOneVolume about keeps may_leave_now (fed_in session piece x) no_one old new) is one
-
--- what tells nobody anything
-pub silent_none : (answer : Answer) → ((told : Told) × (answer ≡ Taken told) × (outputs_of told ≡ [])) → handed_of answer ≡ no_one
-silent_none answer (told, taken, none) = ap handed_of taken ∙ ap handed_by none
 
 -- nothing happens
 pub still : {S : Type 0} (about : S → About) (keeps : S → List ℕ → Type 0) (may_leave_now : S → List ℕ → Type 0) (w : Seen S) → IsOfOneVolume about keeps may_leave_now no_one no_one w w

@@ -1,5 +1,8 @@
 mod Among
 mod Answering
+mod Leading
 mod Lives
+mod Owners
 pub mod Passing
-mod Starting
+mod Returning
+pub mod Starting

@@ -1,6 +1,6 @@
 -- Stores that make a chain: lemmas.
 use Rattle.std.proofs.Common.{◌≡◌, ℕ, ◌*◌, replicate, ◌<◌, ◌≤◌, List, [], ◌∷◌, length, map, get_or, ap, sym, subst, ◌∙◌, arith}
-use Rattle.std.specs.Prelude.{◌≢◌, All, IfSome, slice_get}
+use Rattle.std.specs.Prelude.{◌≢◌, All, IfSome, IsSome, None, slice_get, slice_index_or}
 use Rattle.std.specs.List.{AllPairs, range_with_len}
 use Rattle.std.proofs.lemmas.List.{get_or-map, length-map}
 use Rattle.std.proofs.lemmas.List.Elements.{All-cons, All-head, All-nil, All-tail}
@@ -8,11 +8,11 @@ use Rattle.std.proofs.lemmas.List.FromFn.{get_or-map-range_with_len, length-map-
 use Rattle.chain.specs.Chain.{Chained}
 use Rattle.chain.specs.Chain as chain
 use Rattle.chain.specs.LoneBoard.{Words}
-use Rattle.chain.specs.Opening.{AreEven, recorded_in, words_of}
+use Rattle.chain.specs.Opening.{AreEven, beginning_of, recorded_in, words_of}
 use Rattle.clients.specs.Clients.{Sessions}
 use Rattle.configurations.specs.Record.{AreMembers, Record}
 use Rattle.configurations.specs.declared.member.Member.{Member}
-use Rattle.disk_model.specs.Memory.{given_of, may_be_left}
+use Rattle.disk_model.specs.Memory.{failures_of, given_of, left_since, may_be_left, moment_of}
 use Rattle.disk_model.specs.contracts.memory.MemDiskDisk.TheImpl.{ghosts}
 use Rattle.disk_model.specs.declared.memory.MemDisk.{MemDisk}
 use Rattle.local_store.specs.About.{About, about_of}
@@ -22,7 +22,12 @@ use Rattle.volume.specs.declared.geometry.Geometry.{Geometry}
 use Rattle.world.specs.World.{HasNoClients, Seen, Shows}
 use Rattle.world_model.specs.Chain.{View}
 use Rattle.world_model.specs.ChainLaws.{IsBeginning}
-use Rattle.life.specs.Begun.{BeginsWith, export_of, first_about}
+use Rattle.life.specs.Begun.{AreOnDisks, BeginsWith, export_of, first_about}
+use Rattle.life.specs.Plays.{DeedsLead, IsPlayed}
+use Rattle.life.specs.declared.answer.Answer.{Answer}
+use Rattle.life.specs.declared.era.Answers.{Answers}
+use Rattle.life.specs.declared.era.Deed.{Deed}
+use Rattle.life.specs.declared.era.Era.{Era}
 
 -- what is so of each is so of what they are mapped to
 pub all_mapped : {A B : Type 0} (Q : B → Type 0) (f : A → B) (xs : List A) → All (λ x. Q (f x)) xs → All Q (map f xs)
@@ -115,6 +120,19 @@ world_begins about keeps may_leave_now (x ∷ xs) told c w sizes words begins is
       no_clients = ap (λ (s : Sessions). s.clients) sessions;
     }
 
+-- its members' disks are those of the stores
+pub disks_begin : {S : Type 0} (about : S → About) (told : Record) (stores : List S) (c : Chained S) (w : Seen S) → c.members ≡ map (beginning_of about c.id told) stores → AreEven about stores
+    → All (λ s. 0 < (about s).incarnation) stores → IfSome (slice_get stores 0) (λ first. c.geometry ≡ (about first).geometry) → w.chain ≡ c → AreOnDisks about w
+disks_begin {S = S} about told stores c w members even given sizes is =
+    subst (λ (h : Chained S). All (λ m. (0 < (about m.node.store).incarnation) × ((about m.node.store).geometry ≡ h.geometry)) h.members) (sym is)
+    (subst (All (λ m. (0 < (about m.node.store).incarnation) × ((about m.node.store).geometry ≡ c.geometry))) (sym members)
+    (all_mapped (λ m. (0 < (about m.node.store).incarnation) × ((about m.node.store).geometry ≡ c.geometry)) (beginning_of about c.id told) stores (each stores even given sizes)))
+  where
+    each : (ss : List S) → AreEven about ss → All (λ s. 0 < (about s).incarnation) ss → IfSome (slice_get ss 0) (λ first. c.geometry ≡ (about first).geometry)
+        → All (λ s. (0 < (about s).incarnation) × ((about s).geometry ≡ c.geometry)) ss
+    each [] even given sizes = All-nil (λ s. (0 < (about s).incarnation) × ((about s).geometry ≡ c.geometry))
+    each (x ∷ xs) even given sizes = λ k d within. (given k d within, (even k d within).1 ∙ sym sizes)
+
 -- ---- stores on disks in memory
 
 abbrev pub IsStore : Type 0
@@ -132,6 +150,28 @@ keeps_volume s volume = IsStored s.contents volume (given_of s.disk) (may_be_lef
 
 abbrev pub leaves_now : IsStore → List ℕ → Type 0
 leaves_now s = may_be_left s.disk
+
+abbrev pub pends_in : IsStore → ℕ → Type 0
+pends_in s block = IsSome (slice_index_or s.contents.pending block None)
+
+abbrev pub moment_in : IsStore → ℕ
+moment_in s = moment_of s.disk
+
+abbrev pub left_in : IsStore → ℕ → List ℕ → Type 0
+left_in s = left_since s.disk
+
+abbrev pub failures_in : IsStore → ℕ
+failures_in s = failures_of s.disk
+
+abbrev pub disk_in : IsStore → MemDisk
+disk_in s = s.disk
+
+-- what is played over them
+abbrev pub LeadOnDisks : List Deed → List Answer → Seen IsStore → Seen IsStore → Type 0
+LeadOnDisks = DeedsLead (Unit {0}) about_of_store keeps_volume pends_in leaves_now moment_in left_in failures_in disk_in
+
+abbrev pub PlayedOnDisks : Geometry → ℕ → List Era → List Answers → Seen IsStore → Type 0
+PlayedOnDisks = IsPlayed (Unit {0}) about_of_store keeps_volume pends_in leaves_now moment_in left_in failures_in disk_in
 
 pub first_begins : (geometry : Geometry) (n : ℕ) (stores : List IsStore) (w : Seen IsStore) → map about_of_store stores ≡ map (first_about geometry) (range_with_len 0 n) → 0 < n → All (keeps_zeros geometry) stores
     → IfSome (slice_get stores 0) (λ first. (volume : List ℕ) → All (λ s. keeps_volume s volume) stores → BeginsWith about_of_store keeps_volume leaves_now (about_of_store first).geometry (about_of_store first).front volume w)

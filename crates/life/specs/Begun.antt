@@ -1,9 +1,11 @@
 -- A world that begins, and what its disks are after a cut.
-use Rattle.std.specs.Prelude.{◌≡◌, ℕ, ◌*◌, false, List, []}
+use Rattle.std.specs.Prelude.{◌≡◌, ℕ, ◌*◌, ◌<◌, ◌≤◌, false, All, List, [], length}
 use Rattle.disk_model.specs.Disk.{Only}
 use Rattle.disk_model.specs.Memory.{given_of, may_be_left}
 use Rattle.disk_model.specs.declared.memory.MemDisk.{MemDisk}
+use Rattle.home_blocks.specs.Places.{disk_size_of}
 use Rattle.local_store.specs.About.{About}
+use Rattle.local_store.specs.Meaning.{Meaning, Means}
 use Rattle.volume.specs.declared.geometry.Geometry.{Geometry}
 use Rattle.world_model.specs.Chain.{View}
 use Rattle.world_model.specs.ChainLaws.{IsBeginning}
@@ -31,3 +33,14 @@ pub record BeginsWith {S : Type 0} (about : S → About) (keeps : S → List ℕ
 pub record IsCutFrom {S : Type 0} (may_leave_now : S → List ℕ → Type 0) (store : S) (disk : MemDisk) : Type 0 where
   pub left : may_leave_now store (given_of disk)
   pub only : Only (given_of disk) (may_be_left disk)
+
+-- each member's disk is that of an incarnation, counted from 1, and has the sizes of the chain's volume
+abbrev pub AreOnDisks : {S : Type 0} → (S → About) → Seen S → Type 0
+AreOnDisks about w = All (λ m. (0 < (about m.node.store).incarnation) × ((about m.node.store).geometry ≡ w.chain.geometry)) w.chain.members
+
+-- The disk is some member's: it means something, of an incarnation counted from 1, and is as long as it has to be.
+pub record IsOfMember (disk : MemDisk) : Type 0 where
+  pub meaning : Meaning
+  pub means : Means meaning (given_of disk)
+  pub given : 0 < meaning.incarnation
+  pub long : disk_size_of meaning.geometry ≤ length (given_of disk)

@@ -1,5 +1,9 @@
 pub mod Begun
+pub mod Calls
+pub mod Does
 pub mod Headline
 pub mod Lived
 pub mod Passing
 pub mod Played
+pub mod Plays
+pub mod Refusal

@@ -1,9 +1,10 @@
 //! How a world begins.
-ghost use Rattle.std.specs.Prelude.{◌≡◌, ◌≢◌, ◌*◌, ◌<◌, ◌≤◌, ℕ, List, [], All, IfOk, IfSome, false, length, map, replicate, slice_get};
+ghost use Rattle.std.specs.Prelude.{◌≡◌, ◌≢◌, ◌*◌, ◌<◌, ◌≤◌, ℕ, List, [], All, IfErr, IfOk, IfSome, false, length, map, replicate, slice_get};
 ghost use Rattle.std.specs.List.{AllPairs, range_with_len};
 ghost use Rattle.chain.specs.Opening.{AreEven, recorded_in};
 ghost use Rattle.chain_core.specs.Node.{size_of};
-ghost use Rattle.life.specs.Begun.{BeginsWith, first_about};
+ghost use Rattle.life.specs.Begun.{AreOnDisks, BeginsWith, first_about};
+ghost use Rattle.life.specs.Refusal.{IsOfBeginning};
 ghost use Rattle.volume.specs.Writes.{volume_of};
 
 use crate::refusal::Refusal;
@@ -34,8 +35,10 @@ pub fn begin(
     requires some { 0 < members }
     requires few { members ≤ 8 }
     ensures many { IfOk result (λ world. length world.chain.members ≡ members) }
+    ensures disks { IfOk result (λ world. AreOnDisks ⟦<Store<MemDisk> as StoreLike>⟧.about world) }
     ensures begins { IfOk result (BeginsWith ⟦<Store<MemDisk> as StoreLike>⟧.about ⟦<Store<MemDisk> as StoreLike>⟧.keeps ⟦<Store<MemDisk> as StoreLike>⟧.may_leave_now
         geometry 0 (volume_of (4096 * geometry.blocks) [])) }
+    ensures refused { IfErr result IsOfBeginning }
 {
     let stores = first_stores(alloc, geometry, members)?;
     Ok(world_of(alloc, stores)?)
@@ -50,6 +53,7 @@ fn first_stores(
     requires few { members ≤ 8 }
     ensures about { IfOk result (λ stores. map ⟦<Store<MemDisk> as StoreLike>⟧.about stores.items ≡ map (first_about geometry) (range_with_len 0 members)) }
     ensures kept { IfOk result (λ stores. All (λ s. ⟦<Store<MemDisk> as StoreLike>⟧.keeps s (replicate (4096 * geometry.blocks) 0)) stores.items) }
+    ensures refused { IfErr result IsOfBeginning }
 {
     let mut stores = Vec::with_capacity(alloc, usize::from(members))?;
     for number in 0..members {
@@ -63,6 +67,7 @@ fn first_store(alloc: Global, geometry: Geometry, number: u8) -> Result<Store<Me
     requires { number < 8 }
     ensures about { IfOk result (λ s. ⟦<Store<MemDisk> as StoreLike>⟧.about s ≡ first_about geometry number) }
     ensures kept { IfOk result (λ s. ⟦<Store<MemDisk> as StoreLike>⟧.keeps s (replicate (4096 * geometry.blocks) 0)) }
+    ensures refused { IfErr result IsOfBeginning }
 {
     let slot = Slot::new(number).unwrap();
     let disk = MemDisk::new(alloc, disk_size(geometry), Script::new(alloc))?;
@@ -86,6 +91,7 @@ pub(crate) fn world_of<S: StoreLike + Drop>(
     requires runs { All (λ s. (S.about s).broken ≡ false) stores.items }
     requires keeps { S.keeps_model → All (λ s. (volume : List ℕ) × S.keeps s volume × (length volume ≡ size_of (S.about s))) stores.items }
     ensures many { IfOk result (λ world. length world.chain.members ≡ length stores.items) }
+    ensures disks { IfOk result (AreOnDisks S.about) }
     ensures begins { S.keeps_model → IfOk result (λ world. IfSome (slice_get stores.items 0) (λ first. (volume : List ℕ) → All (λ s. S.keeps s volume) stores.items
         → BeginsWith S.about S.keeps S.may_leave_now (S.about first).geometry (S.about first).front volume world)) }
 {

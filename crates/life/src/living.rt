@@ -1,16 +1,21 @@
 //! Whole lives.
-ghost use Rattle.std.specs.Prelude.{◌≡◌, ◌*◌, ◌<◌, ◌≤◌, IfOk, Some, length, slice_get, zip};
+ghost use Rattle.std.specs.Prelude.{◌≡◌, ◌*◌, ◌<◌, ◌≤◌, IfErr, IfOk, IfSome, Some, length, slice_get, zip};
 ghost use Rattle.clients.specs.Clients.{no_one};
 ghost use Rattle.disk_model.specs.Memory.{given_of};
 ghost use Rattle.disk_model.specs.declared.memory.MemDisk.{MemDisk};
 ghost use Rattle.local_store.specs.Meaning.{Meaning, Means};
 ghost use Rattle.std.specs.List.{AllZip};
-ghost use Rattle.life.specs.Begun.{BeginsWith, export_of};
+ghost use Rattle.life.specs.Begun.{AreOnDisks, BeginsWith, IsOfMember, export_of};
 ghost use Rattle.life.specs.Headline.{IsOneLife, fed_in, handed_in, told_in};
-ghost use Rattle.life.specs.Lived.{Continues};
+ghost use Rattle.life.specs.Lived.{Continues, IsFresh};
 ghost use Rattle.life.specs.Passing.{PassAsOne};
+ghost use Rattle.life.specs.Refusal.{BreaksOff, EndsAtReturn};
+ghost use Rattle.nbd_session.specs.declared.answer.Export.{Export};
 ghost use Rattle.world_model.specs.Chain.{StandsFor, View};
+ghost use Rattle.world_model.specs.Machine.{State};
+ghost use Rattle.life.specs.Does.{DoesDeed, IsArmed};
 ghost use Rattle.life.specs.Played.{fed_by, handed_by};
+ghost use Rattle.life.specs.Plays.{DeedsLead, EraLeads, IsPlayed};
 ghost use Rattle.world.specs.World.{IsOfOneVolume, Shows};
 
 use crate::answer::Answer;
@@ -42,13 +47,17 @@ pub struct Lived {
 /// A chain of so many members, 1 to 8, lives through these eras. It begins over new disks, with a volume of zeros. In each era its
 /// deeds are played, one after another; then everything stops, and the chain goes on from one member's disk.
 ///
-/// 192 `NotInChain` where an era returns a place that is none; 100 `Memory`; and what `recover` refuses.
+/// 192 `NotInChain` where an era returns a place that is none; 100 `Memory`; and what the disks refuse.
 pub fn live(alloc: Global, geometry: Geometry, members: u8, eras: &[Era]) -> Result<Lived, Refusal>
     requires some { 0 < members }
     requires few { members ≤ 8 }
     ensures all { IfOk result (λ lived. AllZip (λ era answers. length answers.items.items ≡ length era.deeds.items) eras.now lived.answers.items) }
+    ensures plays { IfOk result (λ lived. IsPlayed ⟦<Store<MemDisk> as StoreLike>⟧.keeps_model ⟦<Store<MemDisk> as StoreLike>⟧.about ⟦<Store<MemDisk> as StoreLike>⟧.keeps ⟦<Store<MemDisk> as StoreLike>⟧.is_pending ⟦<Store<MemDisk> as StoreLike>⟧.may_leave_now
+        ⟦<Store<MemDisk> as StoreLike>⟧.moment ⟦<Store<MemDisk> as StoreLike>⟧.may_have_left_since ⟦<Store<MemDisk> as StoreLike>⟧.failures (λ s. s.disk)
+        geometry members eras.now lived.answers.items lived.world) }
     ensures one_life { IfOk result (λ lived. IsOneLife (4096 * geometry.blocks) (export_of geometry) (told_in eras.now lived.answers.items)
         (λ end. (v : View) × Shows ⟦<Store<MemDisk> as StoreLike>⟧.about ⟦<Store<MemDisk> as StoreLike>⟧.keeps ⟦<Store<MemDisk> as StoreLike>⟧.may_leave_now lived.world v × StandsFor (4096 * geometry.blocks) v end)) }
+    ensures refused { IfErr result (BreaksOff members eras.now) }
 {
     chains_begin_again();
     let mut answers = Vec::with_capacity(alloc, eras.len())?;
@@ -67,9 +76,16 @@ fn live_era(
     world: World<Store<MemDisk>>,
     era: &Era,
 ) -> Result<(Vec<Answer>, World<Store<MemDisk>>), Refusal>
+    requires fresh { (export : Export) × (s : State) × IsFresh ⟦<Store<MemDisk> as StoreLike>⟧.about ⟦<Store<MemDisk> as StoreLike>⟧.keeps ⟦<Store<MemDisk> as StoreLike>⟧.may_leave_now export.size export world s }
+    requires disks { AreOnDisks ⟦<Store<MemDisk> as StoreLike>⟧.about world }
+    ensures disks { IfOk result (λ lived. AreOnDisks ⟦<Store<MemDisk> as StoreLike>⟧.about lived.1) }
     ensures all { IfOk result (λ lived. length lived.0.items ≡ length era.now.deeds.items) }
+    ensures plays { IfOk result (λ lived. EraLeads ⟦<Store<MemDisk> as StoreLike>⟧.keeps_model ⟦<Store<MemDisk> as StoreLike>⟧.about ⟦<Store<MemDisk> as StoreLike>⟧.keeps ⟦<Store<MemDisk> as StoreLike>⟧.is_pending ⟦<Store<MemDisk> as StoreLike>⟧.may_leave_now
+        ⟦<Store<MemDisk> as StoreLike>⟧.moment ⟦<Store<MemDisk> as StoreLike>⟧.may_have_left_since ⟦<Store<MemDisk> as StoreLike>⟧.failures (λ s. s.disk)
+        era.now lived.0.items world lived.1) }
     ensures continues { IfOk result (λ lived. Continues ⟦<Store<MemDisk> as StoreLike>⟧.about ⟦<Store<MemDisk> as StoreLike>⟧.keeps ⟦<Store<MemDisk> as StoreLike>⟧.may_leave_now
         (zip era.now.deeds.items lived.0.items) world lived.1) }
+    ensures refused { IfErr result (EndsAtReturn (length world.chain.members) era.now.returned) }
 {
     disks_mean_one();
     chains_begin_again();
@@ -85,9 +101,8 @@ fn live_era(
         }
     };
     world.sound();
-    let geometry = world.geometry();
     let disks = cut(alloc, world, era.cut)?;
-    let next = go_on(alloc, disks, era.returned, geometry)?;
+    let next = go_on(alloc, disks, era.returned)?;
     Ok((told, next))
 }
 
@@ -98,6 +113,9 @@ fn play_all(
     deeds: &[Deed],
 ) -> Result<Vec<Answer>, AllocError>
     ensures all { IfOk result (λ answers. length answers.items ≡ length deeds.now) }
+    ensures plays { IfOk result (λ answers. DeedsLead ⟦<Store<MemDisk> as StoreLike>⟧.keeps_model ⟦<Store<MemDisk> as StoreLike>⟧.about ⟦<Store<MemDisk> as StoreLike>⟧.keeps ⟦<Store<MemDisk> as StoreLike>⟧.is_pending ⟦<Store<MemDisk> as StoreLike>⟧.may_leave_now
+        ⟦<Store<MemDisk> as StoreLike>⟧.moment ⟦<Store<MemDisk> as StoreLike>⟧.may_have_left_since ⟦<Store<MemDisk> as StoreLike>⟧.failures (λ s. s.disk)
+        deeds.now answers.items world.old world.new) }
     ensures pass { IfOk result (λ answers. PassAsOne ⟦<Store<MemDisk> as StoreLike>⟧.about ⟦<Store<MemDisk> as StoreLike>⟧.keeps ⟦<Store<MemDisk> as StoreLike>⟧.may_leave_now
         (fed_in (zip deeds.now answers.items)) (handed_in (zip deeds.now answers.items)) world.old world.new) }
 {
@@ -113,7 +131,10 @@ fn play_all(
 
 /// Does one deed.
 fn play_deed(alloc: Global, world: &mut World<Store<MemDisk>>, deed: &Deed) -> Answer
-    ensures { IsOfOneVolume ⟦<Store<MemDisk> as StoreLike>⟧.about ⟦<Store<MemDisk> as StoreLike>⟧.keeps ⟦<Store<MemDisk> as StoreLike>⟧.may_leave_now
+    ensures does { DoesDeed ⟦<Store<MemDisk> as StoreLike>⟧.keeps_model ⟦<Store<MemDisk> as StoreLike>⟧.about ⟦<Store<MemDisk> as StoreLike>⟧.keeps ⟦<Store<MemDisk> as StoreLike>⟧.is_pending ⟦<Store<MemDisk> as StoreLike>⟧.may_leave_now
+        ⟦<Store<MemDisk> as StoreLike>⟧.moment ⟦<Store<MemDisk> as StoreLike>⟧.may_have_left_since ⟦<Store<MemDisk> as StoreLike>⟧.failures (λ s. s.disk)
+        deed.now result world.old world.new }
+    ensures one_volume { IsOfOneVolume ⟦<Store<MemDisk> as StoreLike>⟧.about ⟦<Store<MemDisk> as StoreLike>⟧.keeps ⟦<Store<MemDisk> as StoreLike>⟧.may_leave_now
         (fed_by deed.now result) (handed_by deed.now result) world.old world.new }
 {
     match deed {
@@ -124,7 +145,9 @@ fn play_deed(alloc: Global, world: &mut World<Store<MemDisk>>, deed: &Deed) -> A
 
 /// Something is to happen at a device call to come, of the member at a place.
 fn arm(alloc: Global, world: &mut World<Store<MemDisk>>, at: usize, event: Event) -> Answer
-    ensures { IsOfOneVolume ⟦<Store<MemDisk> as StoreLike>⟧.about ⟦<Store<MemDisk> as StoreLike>⟧.keeps ⟦<Store<MemDisk> as StoreLike>⟧.may_leave_now
+    ensures does { IsArmed ⟦<Store<MemDisk> as StoreLike>⟧.about ⟦<Store<MemDisk> as StoreLike>⟧.keeps ⟦<Store<MemDisk> as StoreLike>⟧.is_pending ⟦<Store<MemDisk> as StoreLike>⟧.may_leave_now ⟦<Store<MemDisk> as StoreLike>⟧.failures (λ s. s.disk)
+        at event result world.old world.new }
+    ensures one_volume { IsOfOneVolume ⟦<Store<MemDisk> as StoreLike>⟧.about ⟦<Store<MemDisk> as StoreLike>⟧.keeps ⟦<Store<MemDisk> as StoreLike>⟧.may_leave_now
         no_one no_one world.old world.new }
 {
     if at >= world.len() {
@@ -136,30 +159,22 @@ fn arm(alloc: Global, world: &mut World<Store<MemDisk>>, at: usize, event: Event
     }
 }
 
-/// The chain goes on from the disk at a place, with a volume of these sizes.
-fn go_on(
-    alloc: Global,
-    disks: Vec<MemDisk>,
-    at: usize,
-    geometry: Geometry,
-) -> Result<World<Store<MemDisk>>, Refusal>
-    ensures { IfOk result (λ world. (disk : MemDisk) × (slice_get disks.items at ≡ Some disk) × (meaning : Meaning) × Means meaning (given_of disk) × (export_of meaning.geometry ≡ export_of geometry)
+/// The chain goes on from the disk at a place, if there is one.
+fn go_on(alloc: Global, disks: Vec<MemDisk>, at: usize) -> Result<World<Store<MemDisk>>, Refusal>
+    requires { IfSome (slice_get disks.items at) IsOfMember }
+    ensures alone { IfOk result (λ world. length world.chain.members ≡ 1) }
+    ensures disks { IfOk result (λ world. AreOnDisks ⟦<Store<MemDisk> as StoreLike>⟧.about world) }
+    ensures goes_on { IfOk result (λ world. (disk : MemDisk) × (slice_get disks.items at ≡ Some disk) × (meaning : Meaning) × Means meaning (given_of disk)
         × BeginsWith ⟦<Store<MemDisk> as StoreLike>⟧.about ⟦<Store<MemDisk> as StoreLike>⟧.keeps ⟦<Store<MemDisk> as StoreLike>⟧.may_leave_now
         meaning.geometry meaning.front meaning.volume world) }
+    ensures refused { IfErr result (EndsAtReturn (length disks.items) at) }
 {
     let mut disks = disks;
     if at >= disks.len() {
         return Err(Refusal::NotInChain);
     }
     match recover(alloc, disks.swap_remove(at)) {
-        Ok(world) => {
-            if world.geometry() == geometry {
-                Ok(world)
-            } else {
-                drop(world.abandon());
-                Err(Refusal::NotInChain)
-            }
-        }
+        Ok(world) => Ok(world),
         Err(refused) => Err(refused.refusal),
     }
 }

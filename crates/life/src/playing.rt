@@ -1,8 +1,8 @@
 //! The steps of a world, as a list holds them.
-ghost use Rattle.std.specs.Prelude.{◌≡◌, ◌<◌, [], length};
+ghost use Rattle.std.specs.Prelude.{◌≡◌, ◌<◌, length};
 ghost use Rattle.clients.specs.Clients.{no_one};
+ghost use Rattle.life.specs.Does.{Acts, BeginsSome, Does, IsConnected, IsEnded, IsFed, IsHandedOut, IsSilent, IsTicked, TellsDone};
 ghost use Rattle.life.specs.Played.{fed_by_step, fed_to, handed_by_step, handed_from, handed_of, told_in, tried_in, went_in};
-ghost use Rattle.world.specs.Telling.{outputs_of};
 ghost use Rattle.world.specs.World.{IsOfOneVolume};
 
 use crate::answer::Answer;
@@ -19,6 +19,7 @@ const MEMORY: u16 = 100;
 /// Plays one step: the call of the world that it names. Where there is no member at its place, no such session, or no such step now,
 /// it is skipped, and nothing changed.
 pub fn play<S: StoreLike + Drop>(alloc: Global, world: &mut World<S>, step: &Step) -> Answer
+    ensures does { Does S.keeps_model S.about S.keeps S.is_pending S.may_leave_now S.moment S.may_have_left_since S.failures step.now result world.old world.new }
     ensures one_volume { S.keeps_model → IsOfOneVolume S.about S.keeps S.may_leave_now (fed_by_step step.now result) (handed_by_step step.now result) world.old world.new }
 {
     match step {
@@ -43,6 +44,7 @@ fn connect<S: StoreLike + Drop>(
     session: SessionId,
     at: usize,
 ) -> Answer
+    ensures does { IsConnected session at result world.old world.new }
     ensures one_volume { IsOfOneVolume S.about S.keeps S.may_leave_now no_one (handed_of result) world.old world.new }
 {
     if at >= world.len() {
@@ -62,6 +64,7 @@ fn feed<S: StoreLike + Drop>(
     session: SessionId,
     piece: &[u8],
 ) -> Answer
+    ensures does { IsFed session piece.now result world.old world.new }
     ensures one_volume { IsOfOneVolume S.about S.keeps S.may_leave_now (fed_to session piece.now result) (handed_of result) world.old world.new }
 {
     let Some(fed) = world.feed(session, piece) else {
@@ -75,6 +78,7 @@ fn feed<S: StoreLike + Drop>(
 
 /// The client's input ends.
 fn end<S: StoreLike + Drop>(alloc: Global, world: &mut World<S>, session: SessionId) -> Answer
+    ensures does { IsEnded session result world.old world.new }
     ensures one_volume { IsOfOneVolume S.about S.keeps S.may_leave_now no_one (handed_of result) world.old world.new }
 {
     done(alloc, world.end(session))
@@ -82,6 +86,7 @@ fn end<S: StoreLike + Drop>(alloc: Global, world: &mut World<S>, session: Sessio
 
 /// What waits for the client goes out.
 fn hand_out<S: StoreLike + Drop>(world: &mut World<S>, session: SessionId) -> Answer
+    ensures does { IsHandedOut session result world.old world.new }
     ensures one_volume { IsOfOneVolume S.about S.keeps S.may_leave_now no_one (handed_from session result) world.old world.new }
 {
     match world.hand_out(session) {
@@ -93,6 +98,7 @@ fn hand_out<S: StoreLike + Drop>(world: &mut World<S>, session: SessionId) -> An
 /// The member at a place acts.
 fn play_at<S: StoreLike + Drop>(alloc: Global, world: &mut World<S>, at: usize, act: Act) -> Answer
     requires { at < length world.old.chain.members }
+    ensures does { Acts S.keeps_model S.about S.keeps S.is_pending S.may_leave_now S.moment S.may_have_left_since S.failures act at result world.old world.new }
     ensures one_volume { S.keeps_model → IsOfOneVolume S.about S.keeps S.may_leave_now no_one (handed_of result) world.old world.new }
 {
     match act {
@@ -120,6 +126,7 @@ fn play_at<S: StoreLike + Drop>(alloc: Global, world: &mut World<S>, at: usize, 
 /// It begins a commit of at most so many writes.
 fn begin_commits<S: StoreLike + Drop>(world: &mut World<S>, at: usize, most: u64) -> Answer
     requires { at < length world.old.chain.members }
+    ensures does { BeginsSome S.keeps_model S.about S.keeps S.is_pending S.may_leave_now S.moment S.may_have_left_since S.failures at most result world.old world.new }
     ensures one_volume { S.keeps_model → IsOfOneVolume S.about S.keeps S.may_leave_now no_one (handed_of result) world.old world.new }
 {
     if most == 0 {
@@ -131,6 +138,7 @@ fn begin_commits<S: StoreLike + Drop>(world: &mut World<S>, at: usize, most: u64
 /// Its store writes a block home.
 fn tick<S: StoreLike + Drop>(world: &mut World<S>, at: usize) -> Answer
     requires { at < length world.old.chain.members }
+    ensures does { IsTicked S.keeps_model S.about S.keeps S.is_pending S.may_leave_now S.moment S.may_have_left_since S.failures at result world.old world.new }
     ensures one_volume { S.keeps_model → IsOfOneVolume S.about S.keeps S.may_leave_now no_one (handed_of result) world.old world.new }
 {
     match world.tick(at) {
@@ -171,7 +179,7 @@ fn went(went: Result<Told, Refusal>) -> Answer
 
 /// One that tells nobody anything.
 fn done(alloc: Global, taken: bool) -> Answer
-    ensures { handed_of result ≡ no_one }
+    ensures { TellsDone taken result }
 {
     if taken {
         silent(alloc)
@@ -182,7 +190,7 @@ fn done(alloc: Global, taken: bool) -> Answer
 
 /// It was taken, and told nobody anything.
 fn silent(alloc: Global) -> Answer
-    ensures { (told : Told) × (result ≡ Answer.Taken told) × (outputs_of told ≡ []) }
+    ensures { IsSilent result }
 {
     Answer::Taken(Told::Out(Vec::new(alloc)))
 }

@@ -1,13 +1,14 @@
 //! A chain of one goes on.
-ghost use Rattle.std.specs.Prelude.{◌≡◌, ◌<◌, ℕ, List, IfOk, false};
-ghost use Rattle.disk_model.specs.Memory.{given_of};
-ghost use Rattle.life.specs.Begun.{BeginsWith};
+ghost use Rattle.std.specs.Prelude.{◌≡◌, ◌<◌, ℕ, List, IfErr, IfOk, IfSome, false, length};
+ghost use Rattle.disk_model.specs.Memory.{failures_of, given_of};
+ghost use Rattle.life.specs.Begun.{AreOnDisks, BeginsWith, IsOfMember};
+ghost use Rattle.life.specs.Refusal.{IsCausedBy, IsOfRecovering, IsOfReturning};
 ghost use Rattle.local_store.specs.Meaning.{Meaning, Means};
 
 use crate::beginning::world_of;
 use crate::refusal::Refusal;
 use disk_model::MemDisk;
-use local_store::{Store, StoreLike};
+use local_store::{Store, StoreLike, disks_mean_one, meanings_are_opened};
 use std::alloc::{AllocError, Global};
 use world::World;
 
@@ -24,10 +25,17 @@ pub struct Refused {
 ///
 /// What `Store::open` refuses; 131 `NotAVolume` also for an incarnation of 0, which no member's disk is given; and 100 `Memory`.
 pub fn recover(alloc: Global, disk: MemDisk) -> Result<World<Store<MemDisk>>, Refused>
+    ensures alone { IfOk result (λ world. length world.chain.members ≡ 1) }
+    ensures disks { IfOk result (λ world. AreOnDisks ⟦<Store<MemDisk> as StoreLike>⟧.about world) }
     ensures goes_on { IfOk result (λ world. (meaning : Meaning) × Means meaning (given_of disk)
         × BeginsWith ⟦<Store<MemDisk> as StoreLike>⟧.about ⟦<Store<MemDisk> as StoreLike>⟧.keeps ⟦<Store<MemDisk> as StoreLike>⟧.may_leave_now
         meaning.geometry meaning.front meaning.volume world) }
+    ensures refused { IfErr result (λ e. IsOfRecovering e.refusal) }
+    ensures returning { IfErr result (λ e. IsOfMember disk → IsOfReturning e.refusal) }
+    ensures cause { IfErr result (λ e. IfSome e.disk (λ back. IsCausedBy (failures_of disk) (failures_of back) e.refusal)) }
 {
+    disks_mean_one();
+    meanings_are_opened();
     match Store::open(alloc, disk) {
         Ok(store) => {
             if store.incarnation() == 0 {
@@ -57,6 +65,8 @@ fn alone<S: StoreLike + Drop>(alloc: Global, store: S) -> Result<World<S>, Alloc
     requires given { 0 < (S.about store).incarnation }
     requires runs { (S.about store).broken ≡ false }
     requires keeps { S.keeps_model → (volume : List ℕ) × S.keeps store volume }
+    ensures alone { IfOk result (λ world. length world.chain.members ≡ 1) }
+    ensures disks { IfOk result (AreOnDisks S.about) }
     ensures begins { S.keeps_model → IfOk result (λ world. (volume : List ℕ) → S.keeps store volume
         → BeginsWith S.about S.keeps S.may_leave_now (S.about store).geometry (S.about store).front volume world) }
 {

@@ -1,3 +1,6 @@
+ghost use Rattle.std.specs.Prelude.{◌≡◌};
+ghost use Rattle.life.specs.declared.refusal.Refusal.TheVariants.{Memory};
+
 use thiserror::Error;
 
 /// Why a world doesn't begin, or doesn't go on.
@@ -15,6 +18,8 @@ pub enum Refusal {
 }
 
 impl From<std::alloc::AllocError> for Refusal {
+    ghost from_gives = { λ _ e. e ≡ Memory };
+
     fn from(_: std::alloc::AllocError) -> Refusal {
         Refusal::Memory
     }

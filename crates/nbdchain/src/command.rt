@@ -1,14 +1,20 @@
 //! The program's words.
 ghost use Rattle.std.specs.Prelude.{◌≤◌};
 
-use crate::refusal::Refusal;
-use crate::sim::sim_on;
+use crate::fault::Fault;
+use crate::formatting::{self, format_folder};
+use crate::playing::{self, play_file, print_commands};
+use crate::serving::{self, serve_folder};
 use clap::error::ErrorKind;
 use clap::{Arg, ArgAction, ArgMatches, Command, Error};
+use log::Log;
+use simulator::{Refusal, sim_on};
 use std::alloc::{AllocError, Global};
-use std::fs::File;
-use std::io::{BufRead, BufReader, Write};
-use std::rt::Files;
+use std::fs::{File, Files};
+use std::io::{BufRead, Write};
+use std::net::{Net, TcpListener, TcpStream};
+use std::sync::Wait;
+use std::thread::Threads;
 
 /// The version of the program.
 const VERSION: &str = "0.1.0";
@@ -22,44 +28,50 @@ const REFUSED: u8 = 1;
 /// The status after a fault of the words.
 const WORD_FAULT: u8 = 2;
 
-/// The program: its words, its streams and its status. `sim FILE` plays a script, and no words play the script on the
-/// input. A refusal goes to `errors`, status 1, and so does a fault of the words, status 2.
-pub fn command<R: Files + AllocGlobal, I: BufRead, O: Write, E: Write>(
+/// The program: its words, its streams and its status. `format DIR` makes a folder of disks, and `serve DIR` serves it.
+/// `sim FILE` plays a script, and no words play the script on the input. A refusal goes to `errors`, status 1, and so does a
+/// fault of the words, status 2.
+pub fn command<R, I: BufRead, O: Write, E: Write>(
     rt: &R,
     words: &[&str],
     input: &mut I,
     output: &mut O,
     errors: &mut E,
 ) -> u8
+where
+    R: Files<File = File>
+        + Net<Listener = TcpListener, Stream = TcpStream>
+        + AllocGlobal
+        + Threads
+        + Wait
+        + Log
+        + Copy
+        + Send
+        + 'static,
     ensures { result ≤ 2 }
 {
     let alloc = rt.alloc();
     let Ok(program) = program(alloc) else {
-        return refused(Refusal::Memory, errors);
+        return refused(&Fault::Own(Refusal::Memory), errors);
     };
     let played = match program.try_get_matches_from(words) {
-        Ok(matches) => play_words(rt, &matches, input, output),
-        Err(fault) if fault.kind() == ErrorKind::OutOfMemory => Err(Refusal::Memory),
+        Ok(matches) => play_words(rt, &matches, input, output, errors),
+        Err(fault) if fault.kind() == ErrorKind::OutOfMemory => Err(Fault::Own(Refusal::Memory)),
         Err(fault) if fault.use_stderr() => return word_fault(&fault, errors),
         Err(help) => print(&help, output),
     };
-    let flushed = output.flush();
-    match played {
-        Err(refusal) => refused(refusal, errors),
-        Ok(()) if flushed.is_err() => refused(Refusal::FileFault, errors),
+    let done = match (played, output.flush()) {
+        (Ok(()), Err(reason)) => Err(Fault::from(reason)),
+        (played, _) => played,
+    };
+    match done {
         Ok(()) => SUCCESS,
+        Err(fault) => refused(&fault, errors),
     }
 }
 
 /// What the program takes.
 fn program<'a>(alloc: Global) -> Result<Command<'a>, AllocError> {
-    let file = Arg::new(alloc, "FILE")
-        .required(true)
-        .action(ArgAction::Set)
-        .help("The script");
-    let sim = Command::new(alloc, "sim")
-        .about("Plays a script over disks in memory")
-        .arg(file)?;
     let version = Arg::new(alloc, "version")
         .short('V')
         .long("version")
@@ -68,48 +80,57 @@ fn program<'a>(alloc: Global) -> Result<Command<'a>, AllocError> {
     Command::new(alloc, "nbdchain")
         .about("A replicated virtual disk. Without words, plays the script on the input.")
         .arg(version)?
-        .subcommand(sim)
+        .subcommand(formatting::words(alloc)?)?
+        .subcommand(serving::words(alloc)?)?
+        .subcommand(playing::words(alloc)?)?
+        .subcommand(playing::script_words(alloc)?)
 }
 
 /// Does what the words ask for.
-fn play_words<R: Files + AllocGlobal, I: BufRead, O: Write>(
+fn play_words<'a, R, I: BufRead, O: Write, E: Write>(
     rt: &R,
-    matches: &ArgMatches,
+    matches: &ArgMatches<'a>,
     input: &mut I,
     output: &mut O,
-) -> Result<(), Refusal> {
+    errors: &mut E,
+) -> Result<(), Fault<'a>>
+where
+    R: Files<File = File>
+        + Net<Listener = TcpListener, Stream = TcpStream>
+        + AllocGlobal
+        + Threads
+        + Wait
+        + Log
+        + Copy
+        + Send
+        + 'static,
+{
     if matches.get_flag("version") {
         return Ok(writeln!(output, "nbdchain {VERSION}")?);
     }
     match matches.subcommand() {
-        Some((_, sim)) => play_file(rt, sim, output),
-        None => sim_on(rt.alloc(), input, output),
+        Some(("format", format)) => format_folder(rt, format, output),
+        Some(("serve", serve)) => serve_folder(rt, serve, output),
+        Some(("script", _)) => Ok(print_commands(output)?),
+        Some((_, sim)) => Ok(play_file(rt, sim, output, errors)?),
+        None => Ok(sim_on(rt.alloc(), input, output)?),
     }
 }
 
-/// Plays the script in a file.
-fn play_file<R: Files + AllocGlobal, O: Write>(
-    rt: &R,
-    sim: &ArgMatches,
-    output: &mut O,
-) -> Result<(), Refusal> {
-    let path = sim.get_str("FILE").ok_or(Refusal::FileFault)?;
-    let file = File::open(rt, path)?;
-    let mut reader = BufReader::new(rt.alloc(), file)?;
-    sim_on(rt.alloc(), &mut reader, output)
-}
-
-/// Prints a refusal; the status.
-pub(crate) fn refused<E: Write>(refusal: Refusal, errors: &mut E) -> u8
+/// Prints a refusal, in a line; the status. Where nobody reads any more what the program prints, it ends quietly.
+pub(crate) fn refused<E: Write>(fault: &Fault<'_>, errors: &mut E) -> u8
     ensures { result ≤ 2 }
 {
+    if matches!(fault, Fault::Own(Refusal::ClosedPipe)) {
+        return REFUSED;
+    }
     // There is nowhere left to tell that it can't be told.
-    let _ = writeln!(errors, "nbdchain: {refusal}");
+    let _ = writeln!(errors, "nbdchain: {fault}");
     REFUSED
 }
 
 /// Prints the help that the words ask for.
-fn print<O: Write>(help: &Error, output: &mut O) -> Result<(), Refusal> {
+fn print<'a, O: Write>(help: &Error, output: &mut O) -> Result<(), Fault<'a>> {
     Ok(write!(output, "{help}")?)
 }
 

@@ -1,6 +1,6 @@
 //! Scripts with many lines of a kind, and the bytes that scripts leave on disks.
-use crate::sim::Sim;
 use crate::tests::{played, shown};
+use simulator::Sim;
 use std::alloc::Global;
 use std::io::Write;
 use std::test::Fail;
@@ -148,17 +148,16 @@ fn bytes_wanted(alloc: Global, row: &DiskRow) -> Result<Vec<u8>, Fail> {
 }
 
 /// The bytes of the first disk that a script leaves, behind a place.
-fn bytes_left(sim: &mut Sim, row: &DiskRow) -> Result<Vec<u8>, Fail> {
-    let mut printed = Vec::new(sim.alloc);
+fn bytes_left(alloc: Global, sim: &mut Sim, row: &DiskRow) -> Result<Vec<u8>, Fail> {
+    let mut printed = Vec::new(alloc);
     for line in row.script.lines() {
         sim.play_line(2, line.as_bytes(), &mut printed)?;
     }
     sim.play_line(2, b"cut all", &mut printed)?;
-    let mut bytes = Vec::new(sim.alloc);
-    for left in &sim.left {
-        for byte in left.disk.bytes().iter().skip(row.at).take(row.len) {
-            bytes.push(*byte)?;
-        }
+    let disk = sim.disk_left(0).ok_or("no disk is left")?;
+    let mut bytes = Vec::new(alloc);
+    for byte in disk.bytes().iter().skip(row.at).take(row.len) {
+        bytes.push(*byte)?;
     }
     Ok(bytes)
 }
@@ -168,7 +167,7 @@ fn disks(rt: HostRuntime) -> Result<(), Fail> {
     let alloc = rt.alloc();
     for row in &DISK_ROWS {
         let mut sim = Sim::new(alloc);
-        let left = bytes_left(&mut sim, row);
+        let left = bytes_left(alloc, &mut sim, row);
         sim.end();
         let (left, wanted) = (left?, bytes_wanted(alloc, row)?);
         assert!(rt; left.as_slice() == wanted.as_slice(), "{}", row.script);

@@ -1,38 +1,43 @@
 //! `nbdchain`: a replicated virtual disk for clients of the Network Block Device protocol.
 //!
-//! It plays a script: each line is steps of a `World` over disks in memory, or makes, stops, cuts and recovers one; what
-//! they put out is printed. What the steps do, and what holds of them, is said by `life` and `world`.
+//! `format` makes a folder of disks, and `serve` serves it: what a folder's disks mean is `folder`'s, what a call of the served chain
+//! does is `service`'s, and the threads round it are `server`'s. `sim` plays a script over disks in memory, by `simulator`.
 #![tactic(auto)]
 
-use std::env;
+use crate::fault::Fault;
+use log::Log;
+use std::env::{self, Env};
+use std::fs::{File, Files};
 use std::io::{self, BufReader, BufWriter, Write};
+use std::net::{Net, TcpListener, TcpStream};
 use std::process::ExitCode;
+use std::sync::Wait;
+use std::thread::Threads;
 
-mod acts;
-mod client;
 mod command;
-mod eras;
-mod printed;
-mod refusal;
-mod rounds;
-mod script;
-mod sessions;
-mod sim;
-mod steps;
+mod fault;
+mod formatting;
+mod playing;
+mod serving;
 
 pub use command::command;
 use command::refused;
-pub use refusal::Refusal;
-pub use sim::sim_on;
+pub use simulator::{Refusal, sim_on};
 
+#[cfg(test)]
+mod chain_rows;
+#[cfg(test)]
+mod crash_rows;
 #[cfg(test)]
 mod crash_tests;
 #[cfg(test)]
 mod long_tests;
 #[cfg(test)]
-mod rows;
+mod serving_tests;
 #[cfg(test)]
 mod session_tests;
+#[cfg(test)]
+mod stray_rows;
 #[cfg(test)]
 mod tests;
 
@@ -40,13 +45,27 @@ fn main(rt: HostRuntime) -> ExitCode {
     let mut errors = rt.stderr();
     let status = match command_on(&rt, &mut errors) {
         Ok(status) => status,
-        Err(refusal) => refused(refusal, &mut errors),
+        Err(refusal) => refused(&Fault::Own(refusal), &mut errors),
     };
     ExitCode::from(status)
 }
 
 /// The program on its own words and streams: its status.
-fn command_on<E: Write>(rt: &HostRuntime, errors: &mut E) -> Result<u8, Refusal> {
+fn command_on<R, E: Write>(rt: &R, errors: &mut E) -> Result<u8, Refusal>
+where
+    R: Env
+        + Input
+        + Print
+        + Files<File = File>
+        + Net<Listener = TcpListener, Stream = TcpStream>
+        + AllocGlobal
+        + Threads
+        + Wait
+        + Log
+        + Copy
+        + Send
+        + 'static,
+{
     let alloc = rt.alloc();
     let words: Vec<String> = env::args(rt)?.collect(alloc)?;
     let mut input = BufReader::new(alloc, rt.reader())?;

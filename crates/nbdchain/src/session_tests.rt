@@ -1,8 +1,8 @@
 //! What sessions are sent, in whatever pieces their clients' bytes come.
-use crate::client::NEGOTIATION;
 use crate::tests::{played, shown};
 use flush_barrier::SessionId;
 use life::{Act, Answer, Step};
+use simulator::NEGOTIATION;
 use std::alloc::Global;
 use std::test::Fail;
 use volume::{Geometry, least_area};

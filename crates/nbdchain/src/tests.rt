@@ -1,6 +1,8 @@
 use super::*;
-use crate::rows::{CHAINS, CRASHES, STRAYS};
-use crate::sim::Sim;
+use crate::chain_rows::CHAINS;
+use crate::crash_rows::CRASHES;
+use crate::stray_rows::STRAYS;
+use simulator::Sim;
 use std::alloc::Global;
 use std::process::Abort;
 use std::str;
@@ -22,8 +24,8 @@ pub(crate) fn played(alloc: Global, script: &[u8]) -> Result<Vec<u8>, Fail> {
 }
 
 /// Plays a script, and sees that each command prints the lines behind it.
-fn replay(rt: &impl Abort, sim: &mut Sim, row: &str) -> Result<(), Fail> {
-    let (mut printed, mut wanted) = (Vec::new(sim.alloc), Vec::new(sim.alloc));
+fn replay(rt: &impl Abort, alloc: Global, sim: &mut Sim, row: &str) -> Result<(), Fail> {
+    let (mut printed, mut wanted) = (Vec::new(alloc), Vec::new(alloc));
     let mut number = 0;
     for line in row.lines() {
         if let Some(text) = line.strip_prefix("> ") {
@@ -47,7 +49,7 @@ fn rows(rt: HostRuntime) -> Result<(), Fail> {
     for rows in [CHAINS, CRASHES, STRAYS] {
         for row in rows.split("\n\n") {
             let mut sim = Sim::new(rt.alloc());
-            let replayed = replay(&rt, &mut sim, row);
+            let replayed = replay(&rt, rt.alloc(), &mut sim, row);
             sim.end();
             replayed?;
         }
@@ -112,6 +114,37 @@ fn bad_lines(rt: HostRuntime) -> Result<(), Fail> {
     Ok(())
 }
 
+/// What became of the program with some words and an empty input.
+#[derive(Drop)]
+pub(crate) struct Ran {
+    pub(crate) status: u8,
+    pub(crate) output: Vec<u8>,
+    pub(crate) errors: Vec<u8>,
+}
+
+/// The program with these words and an empty input.
+pub(crate) fn run_words<R>(rt: &R, words: &[&str]) -> Ran
+where
+    R: Files<File = File>
+        + Net<Listener = TcpListener, Stream = TcpStream>
+        + AllocGlobal
+        + Threads
+        + Wait
+        + Log
+        + Copy
+        + Send
+        + 'static,
+{
+    let alloc = rt.alloc();
+    let (mut output, mut errors) = (Vec::new(alloc), Vec::new(alloc));
+    let status = command(rt, words, &mut b"".as_slice(), &mut output, &mut errors);
+    Ran {
+        status,
+        output,
+        errors,
+    }
+}
+
 /// Words, and what the program prints and answers with an empty input.
 struct WordsRow {
     words: &'static [&'static str],
@@ -120,7 +153,7 @@ struct WordsRow {
     status: u8,
 }
 
-const WORDS_ROWS: [WordsRow; 3] = [
+const WORDS_ROWS: [WordsRow; 6] = [
     WordsRow {
         words: &["nbdchain", "--version"],
         output: "nbdchain 0.1.0\n",
@@ -139,35 +172,78 @@ const WORDS_ROWS: [WordsRow; 3] = [
         errors: "nbdchain: 104 FileFault\n",
         status: 1,
     },
+    WordsRow {
+        words: &[
+            "nbdchain",
+            "format",
+            "none",
+            "--blocks",
+            "0",
+            "--max-payload",
+            "4096",
+            "--area",
+            "8214",
+            "--members",
+            "3",
+        ],
+        output: "",
+        errors: "nbdchain: 111 BadBlocks\n",
+        status: 1,
+    },
+    WordsRow {
+        words: &[
+            "nbdchain",
+            "format",
+            "none",
+            "--blocks",
+            "8",
+            "--max-payload",
+            "4096",
+            "--area",
+            "8214",
+            "--members",
+            "9",
+        ],
+        output: "",
+        errors: "nbdchain: 163 BadMembers\n",
+        status: 1,
+    },
+    WordsRow {
+        words: &["nbdchain", "serve", "none", "--port", "10809"],
+        output: "",
+        errors: "nbdchain: 104 FileFault none/config.disk: No such file or directory (os error 2)\n",
+        status: 1,
+    },
 ];
 
 /// Words that the program doesn't take.
-const BAD_WORDS: [&[&str]; 4] = [
+const BAD_WORDS: [&[&str]; 6] = [
     &["nbdchain", "sim"],
     &["nbdchain", "format", "d"],
     &["nbdchain", "sim", "a", "b"],
     &["nbdchain", "--quick"],
+    &["nbdchain", "serve", "d"],
+    &["nbdchain", "serve", "d", "--port", "0"],
 ];
 
 #[test]
 fn words(rt: HostRuntime) -> Result<(), Fail> {
-    let alloc = rt.alloc();
     for row in &WORDS_ROWS {
-        let (mut output, mut errors) = (Vec::new(alloc), Vec::new(alloc));
-        let status = command(
-            &rt,
-            row.words,
-            &mut b"".as_slice(),
-            &mut output,
-            &mut errors,
-        );
+        let Ran {
+            status,
+            output,
+            errors,
+        } = run_words(&rt, row.words);
         assert_eq!(rt; status, row.status, "{:?}", row.words);
         assert_eq!(rt; shown(&errors), row.errors, "{:?}", row.words);
         assert_eq!(rt; shown(&output), row.output, "{:?}", row.words);
     }
     for words in BAD_WORDS {
-        let (mut output, mut errors) = (Vec::new(alloc), Vec::new(alloc));
-        let status = command(&rt, words, &mut b"".as_slice(), &mut output, &mut errors);
+        let Ran {
+            status,
+            output,
+            errors,
+        } = run_words(&rt, words);
         assert_eq!(rt; status, 2, "{words:?}");
         assert!(rt; output.is_empty() && !errors.is_empty(), "{words:?}");
     }

@@ -1,7 +1,7 @@
-use Rattle.std.proofs.Common.{◌≡◌, ◌+◌, ◌*◌, ◌++◌, [], ◌∷◌, List, length, take, ap, subst, sym, ◌∙◌, arith}
+use Rattle.std.proofs.Common.{◌≡◌, ◌+◌, ◌*◌, ◌++◌, [], ◌∷◌, List, length, drop, take, refl, ap, subst, sym, ◌∙◌, arith}
 use Rattle.std.specs.Prelude.{zip}
 use Rattle.std.specs.List.{AllZip}
-use Rattle.std.proofs.lemmas.List.{length-append, length-take-le, take_all, take_more}
+use Rattle.std.proofs.lemmas.List.{append_assoc, length-append, length-take-le, take-append-drop, take_all, take_more}
 use Rattle.life.specs.Begun.{export_of}
 use Rattle.life.specs.Headline.{Told, told_in}
 use Rattle.life.specs.Lived.{Lives}
@@ -9,7 +9,10 @@ use Rattle.life.specs.declared.era.Answers.{Answers}
 use Rattle.life.specs.declared.era.Era.{Era}
 use Rattle.life.proofs.Among.{all_more}
 use Rattle.life.proofs.Lives.{begins_life, lives_on, one_life, told_more}
-use Rattle.life.proofs.Starting.{about_of_store, keeps_volume, leaves_now}
+use Rattle.life.proofs.Leading.{plays_on}
+use Rattle.life.specs.Refusal.{BreaksOff}
+use Rattle.life.proofs.Returning.{begins_not, breaks_off, passed_on}
+use Rattle.life.proofs.Starting.{PlayedOnDisks, about_of_store, disk_in, failures_in, keeps_volume, leaves_now, left_in, moment_in, pends_in}
 use Rattle.life.proofs.living.live.Goals as goal
 
 -- an answer to each deed
@@ -18,6 +21,9 @@ IsAll era answers = length answers.items.items ≡ length era.deeds.items
 
 pub loop-era-init : goal.loop-era-init
 loop-era-init c = record {
+  plays = subst (λ (l : List Answers). PlayedOnDisks c.args.geometry c.args.members [] l c.in_ok-world.world) (sym c.in_ok-answers.ensures.items)
+      (record { first = c.in_ok-world.world; many = c.in_ok-world.ensures.many; begins = c.in_ok-world.ensures.begins; plays = refl });
+  disks = c.in_ok-world.ensures.disks;
   lives = begins_life about_of_store keeps_volume leaves_now c.chains_begin_again.ensures.first c.args.geometry c.in_ok-world.world c.in_ok-world.ensures.begins;
   all = subst (AllZip IsAll []) (sym c.in_ok-answers.ensures.items) tt;
   many = ap length c.in_ok-answers.ensures.items;
@@ -43,6 +49,10 @@ loop-era-preserved c =
     let told : told_in (take (i + 1) eras) new ≡ told_in (take i eras) answers ++ zip era.deeds.items c.in_ok-told.told.items ∷ [] =
     ap (λ (l : List Era). told_in l new) here ∙ ap (told_in (take i eras ++ era ∷ [])) items ∙ told_more (take i eras) answers era these long in
     record {
+      plays = subst (λ (l : List Era). PlayedOnDisks c.args.geometry c.args.members l new c.in_ok-told.next) (sym here)
+          (subst (λ (l : List Answers). PlayedOnDisks c.args.geometry c.args.members (take i eras ++ era ∷ []) l c.in_ok-told.next) (sym items)
+          (plays_on (Unit {0}) about_of_store keeps_volume pends_in leaves_now moment_in left_in failures_in disk_in c.args.geometry c.args.members (take i eras) answers c.loop-era.world c.in_ok-told.next era these inv.plays c.in_ok-told.ensures.plays));
+      disks = c.in_ok-told.ensures.disks;
       lives = subst (λ (l : List Told). Lives about_of_store keeps_volume leaves_now (4096 * c.args.geometry.blocks) (export_of c.args.geometry) l c.in_ok-told.next) (sym told)
           (lives_on about_of_store keeps_volume leaves_now (export_of c.args.geometry) (told_in (take i eras) answers) (zip era.deeds.items c.in_ok-told.told.items) c.loop-era.world c.in_ok-told.next inv.lives c.in_ok-told.ensures.continues);
       all = subst (λ (l : List Era). AllZip IsAll l new) (sym here)
@@ -55,8 +65,32 @@ loop-era-preserved c =
 pub returns-clause-all : goal.returns-clause-all
 returns-clause-all c = subst (λ (l : List Era). AllZip IsAll l c.loop-era.answers.items) (take_all c.loop-era.era-index c.args.eras.now c.loop-era-test.false) c.loop-era.invariant.all
 
+pub returns-clause-plays : goal.returns-clause-plays
+returns-clause-plays c = subst (λ (l : List Era). PlayedOnDisks c.args.geometry c.args.members l c.loop-era.answers.items c.loop-era.world) (take_all c.loop-era.era-index c.args.eras.now c.loop-era-test.false) c.loop-era.invariant.plays
+
 pub returns-clause-one_life : goal.returns-clause-one_life
 returns-clause-one_life c =
     one_life about_of_store keeps_volume leaves_now (4096 * c.args.geometry.blocks) (export_of c.args.geometry) (told_in c.args.eras.now c.loop-era.answers.items) c.loop-era.world
     (subst (λ (l : List Era). Lives about_of_store keeps_volume leaves_now (4096 * c.args.geometry.blocks) (export_of c.args.geometry) (told_in l c.loop-era.answers.items) c.loop-era.world)
     (take_all c.loop-era.era-index c.args.eras.now c.loop-era-test.false) c.loop-era.invariant.lives)
+
+pub live_era-requires-clause-fresh : goal.live_era-requires-clause-fresh
+live_era-requires-clause-fresh c = (export_of c.args.geometry, c.loop-era.invariant.lives.end, c.loop-era.invariant.lives.fresh)
+
+pub returns-in_err-told-clause-refused : goal.returns-in_err-told-clause-refused
+returns-in_err-told-clause-refused c =
+    let inv = c.loop-era.invariant in
+    let i = c.loop-era.era-index in
+    let eras = c.args.eras.now in
+    let era = c.era-item.result in
+    let here : take (i + 1) eras ≡ take i eras ++ era ∷ [] = take_more eras i era c.loop-era-test.true ∙ ap (λ (e : Era). take i eras ++ e ∷ []) (sym c.era-item.is) in
+    let whole : take i eras ++ era ∷ drop (i + 1) eras ≡ eras = sym (append_assoc (take i eras) (era ∷ []) (drop (i + 1) eras)) ∙ ap (λ (l : List Era). l ++ drop (i + 1) eras) (sym here) ∙ take-append-drop (i + 1) eras in
+    passed_on c.from_residual-in_err-told.result c.in_err-told.field-0.0 (BreaksOff c.args.members c.args.eras.now) c.from_residual-in_err-told.ensures.1
+    (subst (λ (l : List Era). BreaksOff c.args.members l c.in_err-told.field-0.0) whole
+    (breaks_off (Unit {0}) about_of_store keeps_volume pends_in leaves_now moment_in left_in failures_in disk_in c.in_err-told.field-0.0 (take i eras) c.loop-era.answers.items inv.plays.first c.loop-era.world c.args.members era (drop (i + 1) eras)
+    inv.plays.plays inv.plays.many c.in_err-told.ensures.refused))
+
+pub returns-in_err-world-clause-refused : goal.returns-in_err-world-clause-refused
+returns-in_err-world-clause-refused c =
+    passed_on c.from_residual-in_err-world.result c.in_err-world.field-0.0 (BreaksOff c.args.members c.args.eras.now) c.from_residual-in_err-world.ensures.1
+    (begins_not c.in_err-world.field-0.0 c.args.members c.args.eras.now c.in_err-world.ensures.refused)

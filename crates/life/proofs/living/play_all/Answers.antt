@@ -1,4 +1,4 @@
-use Rattle.std.proofs.Common.{◌≡◌, ◌+◌, ◌++◌, [], ◌∷◌, List, length, take, ap, subst, sym, ◌∙◌, arith}
+use Rattle.std.proofs.Common.{◌≡◌, ◌+◌, ◌++◌, [], ◌∷◌, List, length, take, refl, ap, subst, sym, ◌∙◌, arith}
 use Rattle.std.specs.Prelude.{zip}
 use Rattle.std.proofs.lemmas.List.{length-append, length-take-le, take_all, take_more}
 use Rattle.life.specs.Headline.{Told, fed_in, handed_in}
@@ -7,11 +7,13 @@ use Rattle.life.specs.declared.answer.Answer.{Answer}
 use Rattle.life.specs.declared.era.Deed.{Deed}
 use Rattle.life.proofs.Lives.{pass_more, zip_more}
 use Rattle.life.proofs.Passing.{none_pass}
-use Rattle.life.proofs.Starting.{about_of_store, keeps_volume, leaves_now}
+use Rattle.life.proofs.Leading.{leads_more}
+use Rattle.life.proofs.Starting.{LeadOnDisks, about_of_store, disk_in, failures_in, keeps_volume, leaves_now, left_in, moment_in, pends_in}
 use Rattle.life.proofs.living.play_all.Goals as goal
 
 pub loop-deed-init : goal.loop-deed-init
 loop-deed-init c = record {
+  plays = subst (λ (l : List Answer). LeadOnDisks [] l c.args.world.now c.args.world.now) (sym c.in_ok-answers.ensures.items) refl;
   pass = subst (λ (l : List Answer). PassAsOne about_of_store keeps_volume leaves_now (fed_in (zip [] l)) (handed_in (zip [] l)) c.args.world.now c.args.world.now) (sym c.in_ok-answers.ensures.items)
       (none_pass about_of_store keeps_volume leaves_now c.args.world.now);
   many = ap length c.in_ok-answers.ensures.items;
@@ -36,9 +38,12 @@ loop-deed-preserved c =
     let told : zip (take (i + 1) deeds) c.push_reserved.new.self.items ≡ zip (take i deeds) answers ++ (deed, answer) ∷ [] =
     ap (λ (l : List Deed). zip l c.push_reserved.new.self.items) here ∙ ap (zip (take i deeds ++ deed ∷ [])) items ∙ zip_more (take i deeds) answers deed answer long in
     record {
+      plays = subst (λ (l : List Deed). LeadOnDisks l c.push_reserved.new.self.items c.args.world.now c.play_deed.new.world) (sym here)
+          (subst (λ (l : List Answer). LeadOnDisks (take i deeds ++ deed ∷ []) l c.args.world.now c.play_deed.new.world) (sym items)
+          (leads_more (Unit {0}) about_of_store keeps_volume pends_in leaves_now moment_in left_in failures_in disk_in (take i deeds) answers c.args.world.now c.loop-deed.world c.play_deed.new.world deed answer inv.plays c.play_deed.ensures.does));
       pass = subst (λ (l : Told). PassAsOne about_of_store keeps_volume leaves_now (fed_in l) (handed_in l) c.args.world.now c.play_deed.new.world) (sym told)
           (pass_more about_of_store keeps_volume leaves_now c.lives_are_of_one_volume.ensures.happenings c.args.world.now c.loop-deed.world c.play_deed.new.world c.sound.ensures.joined c.sound-in-loop-deed.ensures.joined
-          (zip (take i deeds) answers) deed answer inv.pass c.play_deed.ensures);
+          (zip (take i deeds) answers) deed answer inv.pass c.play_deed.ensures.one_volume);
       many = let sum = length-append answers (answer ∷ []) in omega (arith, inv.many, ap length items, sum);
       count = omega (arith, inv.count, c.push_reserved.ensures.len);
       room = omega (arith, inv.room, c.push_reserved.ensures.capacity);
@@ -46,6 +51,10 @@ loop-deed-preserved c =
 
 pub returns-clause-all : goal.returns-clause-all
 returns-clause-all c = let end = c.loop-deed-test.false in let most = c.loop-deed.auto.deed-index-end in omega (arith, c.loop-deed.invariant.many, end, most)
+
+pub returns-clause-plays : goal.returns-clause-plays
+returns-clause-plays c = subst (λ (l : List Deed). LeadOnDisks l c.loop-deed.answers.items c.args.world.now c.loop-deed.world)
+    (take_all c.loop-deed.deed-index c.args.deeds.now c.loop-deed-test.false) c.loop-deed.invariant.plays
 
 pub returns-clause-pass : goal.returns-clause-pass
 returns-clause-pass c = subst (λ (l : List Deed). PassAsOne about_of_store keeps_volume leaves_now (fed_in (zip l c.loop-deed.answers.items)) (handed_in (zip l c.loop-deed.answers.items)) c.args.world.now c.loop-deed.world)

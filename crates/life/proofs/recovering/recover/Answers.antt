@@ -1,5 +1,20 @@
+use Rattle.std.proofs.Common.{ap, arith}
+use Rattle.disk_model.specs.Memory.{given_of}
+use Rattle.local_store.specs.Meaning.{Meaning}
 use Rattle.local_store.specs.Store.{meaning_in}
+use Rattle.life.proofs.Returning.{reopened}
 use Rattle.life.proofs.recovering.recover.Goals as goal
 
-pub returns-in-Ok-alone : goal.returns-in-Ok-alone
-returns-in-Ok-alone c = let was = c.in-Ok.ensures.stored tt in record { goes_on = (meaning_in c.in-Ok.store.contents was.0, was.2, c.in-Ok-alone.ensures.begins tt was.0 was.1) }
+pub returns-in-Ok-alone-clause-goes_on : goal.returns-in-Ok-alone-clause-goes_on
+returns-in-Ok-alone-clause-goes_on c = let was = c.in-Ok.ensures.stored tt in (meaning_in c.in-Ok.store.contents was.0, was.2, c.in-Ok-alone.ensures.begins tt was.0 was.1)
+
+pub returns-then-incarnation-eq0-clause-returning : goal.returns-then-incarnation-eq0-clause-returning
+returns-then-incarnation-eq0-clause-returning c = λ member.
+    let was = c.in-Ok.ensures.stored tt in
+    let same = ap (λ (x : Meaning). x.incarnation) (c.disks_mean_one.ensures member.meaning (meaning_in c.in-Ok.store.contents was.0) (given_of c.args.disk) member.means was.2) in
+    absurd (omega (arith, member.given, same, c.incarnation.ensures.incarnation, c.if-incarnation-eq0.true))
+
+pub returns-in-Err-clause-returning : goal.returns-in-Err-clause-returning
+returns-in-Err-clause-returning c = λ member.
+    reopened (given_of c.args.disk) c.in-Err.refusal c.in-Err.ensures.told (c.in-Err.ensures.not_a_volume tt) (c.in-Err.ensures.other_version tt) (c.in-Err.ensures.unfinished tt)
+    (c.meanings_are_opened.ensures member.meaning (given_of c.args.disk) member.means member.long)

@@ -1,0 +1,485 @@
+#!/usr/bin/python3
+"""A client of the Network Block Device protocol over a plain socket, and tests of a served disk.
+
+    plain.py PORT            tries the server at this port of 127.0.0.1: the protocol's corners, many requests in
+                             flight, many sessions. It overwrites the volume.
+    plain.py --kill PORT TIMES SEED SERVE ..
+                             a load of writes, FUA writes, FLUSHes and READs against the server that the words SERVE
+                             start at this port; it is killed in the middle, TIMES times, and served again. All that is
+                             owed must be there, and the volume is what a prefix of the committed writes left.
+
+It needs Python 3.9 or later, and history.py beside it. It ends with status 1 and one line where something is wrong.
+"""
+import errno
+import os
+import random
+import re
+import select
+import signal
+import socket
+import struct
+import subprocess
+import sys
+import tempfile
+import time
+
+from history import WORD, Era, Wrong, filled, numbers_in
+
+BLOCK = 4096
+READ, WRITE, DISC, FLUSH = 0, 1, 2, 3
+FUA = 1
+EXPORT_NAME, ABORT, LIST, STARTTLS, INFO, GO, STRUCTURED = 1, 2, 3, 5, 6, 7, 8
+ACK, SERVER, UNSUP, INVALID, UNKNOWN, TOO_BIG = 1, 2, 0x80000001, 0x80000003, 0x80000006, 0x80000009
+# What one READ of a whole volume asks for at a time, where the server takes as much.
+PIECE = 65536
+
+
+def want(holds, what):
+    """Ends the script with what was wanted, unless it holds."""
+    if not holds:
+        raise Wrong(what)
+
+
+class Options:
+    """A session while its options are negotiated."""
+
+    def __init__(self, port):
+        """Connects, and answers the greeting."""
+        self.socket = socket.create_connection(("127.0.0.1", port), timeout=60)
+        self.socket.setsockopt(socket.IPPROTO_TCP, socket.TCP_NODELAY, 1)
+        magic, option, flags = struct.unpack(">8s8sH", self.take(18))
+        want((magic, option) == (b"NBDMAGIC", b"IHAVEOPT"), f"the greeting is {magic} {option}")
+        want(flags & 3 == 3, f"the handshake flags are {flags:#x}")
+        self.socket.sendall(struct.pack(">I", 3))
+
+    def take(self, length):
+        """That many bytes that the server sends."""
+        parts = []
+        while length > 0:
+            part = self.socket.recv(length)
+            if not part:
+                raise EOFError("the server hung up")
+            parts.append(part)
+            length -= len(part)
+        return b"".join(parts)
+
+    def ask_option(self, option, data=b""):
+        """Sends an option, and gives its replies up to the one that ends them: kinds and data."""
+        self.socket.sendall(b"IHAVEOPT" + struct.pack(">II", option, len(data)) + data)
+        replies = []
+        while True:
+            magic, of, kind, length = struct.unpack(">QIII", self.take(20))
+            want(magic == 0x3E889045565A9 and of == option, f"the reply to option {option} is of {of}, magic {magic:#x}")
+            replies.append((kind, self.take(length)))
+            if kind == ACK or kind & 0x80000000:
+                return replies
+
+    def is_over(self):
+        """Whether the server has hung up, within ten seconds, with nothing more said."""
+        self.socket.settimeout(10)
+        try:
+            return self.socket.recv(1) == b""
+        except ConnectionResetError:
+            return True
+
+    def close(self):
+        """Ends the session without a word."""
+        self.socket.close()
+
+
+class Client(Options):
+    """A session at the default export."""
+
+    def __init__(self, port):
+        """Negotiates by GO, and asks for the block sizes."""
+        super().__init__(port)
+        self.most = PIECE
+        for kind, body in self.ask_option(GO, struct.pack(">IHH", 0, 1, 3)):
+            if kind == ACK:
+                break
+            want(kind == 3, f"GO is answered by {kind:#x}")
+            if body[:2] == b"\0\0":
+                _, self.size, self.flags = struct.unpack(">HQH", body)
+            elif body[:2] == b"\0\3":
+                self.most = struct.unpack(">HIII", body)[3]
+
+    def ask(self, kind, cookie, offset=0, length=0, data=b"", flags=0):
+        """Sends a request."""
+        head = struct.pack(">IHHQQI", 0x25609513, flags, kind, cookie, offset, length or len(data))
+        self.socket.sendall(head + data)
+
+    def reply(self, lengths=None):
+        """The next reply: its cookie, its error, and its data where it answers a READ of that length."""
+        magic, error, cookie = struct.unpack(">IIQ", self.take(16))
+        want(magic == 0x67446698, f"a reply's magic is {magic:#x}")
+        length = (lengths or {}).get(cookie, 0)
+        return cookie, error, self.take(length) if length and not error else b""
+
+    def error_of(self, kind, offset=0, length=0, data=b"", flags=0):
+        """The error that a request is answered with."""
+        self.ask(kind, 77, offset, length, data, flags)
+        cookie, error, _ = self.reply({77: length} if kind == READ else None)
+        want(cookie == 77, f"a reply of {cookie} to request 77")
+        return error
+
+    def read(self, offset, length):
+        """Bytes of the volume."""
+        self.ask(READ, 1, offset, length)
+        _, error, data = self.reply({1: length})
+        want(error == 0, f"a READ of {length} bytes at {offset} is refused with {error}")
+        return data
+
+    def write(self, offset, data, flags=0):
+        """Writes bytes, and waits for the reply."""
+        error = self.error_of(WRITE, offset, data=data, flags=flags)
+        want(error == 0, f"a WRITE of {len(data)} bytes at {offset} is refused with {error}")
+
+    def flush(self):
+        """Asks for all that was answered to be durable, and waits for the reply."""
+        error = self.error_of(FLUSH)
+        want(error == 0, f"a FLUSH is refused with {error}")
+
+    def read_all(self, length):
+        """The first bytes of the volume, piece by piece."""
+        piece = min(PIECE, self.most)
+        return b"".join(self.read(at, min(piece, length - at)) for at in range(0, length, piece))
+
+    def close(self):
+        """Ends the session as the protocol wants it."""
+        self.ask(DISC, 4)
+        self.socket.close()
+
+
+def try_options(port):
+    """What is negotiated, and what is refused there."""
+    session = Options(port)
+    kinds = [kind for kind, _ in session.ask_option(LIST)]
+    want(kinds == [SERVER, ACK], f"LIST is answered by {kinds}")
+    for option in (STARTTLS, STRUCTURED, 99):
+        kinds = [kind for kind, _ in session.ask_option(option)]
+        want(kinds == [UNSUP], f"option {option} is answered by {kinds}")
+    kinds = [kind for kind, _ in session.ask_option(INFO, struct.pack(">I", 5) + b"other" + struct.pack(">H", 0))]
+    want(kinds == [UNKNOWN], f"INFO of another name is answered by {kinds}")
+    kinds = [kind for kind, _ in session.ask_option(INFO, b"\0")]
+    want(kinds == [INVALID], f"INFO of one byte is answered by {kinds}")
+    kinds = [kind for kind, _ in session.ask_option(INFO, bytes(5000))]
+    want(kinds == [TOO_BIG], f"INFO of 5,000 bytes is answered by {kinds}")
+    kinds = [kind for kind, _ in session.ask_option(INFO, struct.pack(">IH", 0, 0))]
+    want(kinds == [3, ACK], f"INFO is answered by {kinds}")
+    want(session.ask_option(ABORT) == [(ACK, b"")], "ABORT isn't answered by ACK")
+    want(session.is_over(), "the session goes on after ABORT")
+    session.close()
+    named = Options(port)
+    named.socket.sendall(b"IHAVEOPT" + struct.pack(">II", EXPORT_NAME, 0))
+    size, flags = struct.unpack(">QH", named.take(10))
+    named.close()
+    client = Client(port)
+    want((size, flags) == (client.size, client.flags), "EXPORT_NAME and GO tell of two exports")
+    client.close()
+    print("options: what is there is negotiated, all else is refused")
+
+
+def try_refusals(port):
+    """Requests that are refused, and that the session and its volume go on."""
+    client = Client(port)
+    client.write(0, b"before.." * 512)
+    want(client.error_of(READ, client.size - 3, 4) == errno.EINVAL, "a READ past the end isn't refused with EINVAL")
+    want(client.error_of(WRITE, client.size - 3, data=b"1234") == errno.ENOSPC, "a WRITE past the end isn't ENOSPC")
+    want(client.error_of(READ, (1 << 64) - 4096, 4096) == errno.EINVAL, "a READ at the last offset isn't EINVAL")
+    want(client.error_of(READ, 0, client.most + 1) == errno.EINVAL, "a READ above the largest payload isn't EINVAL")
+    want(client.error_of(READ, 0, 4096, flags=1 << 9) == errno.EINVAL, "a READ with an unknown flag isn't EINVAL")
+    want(client.error_of(WRITE, 0, data=b"after..." * 512, flags=1 << 9) == errno.EINVAL, "an unknown flag isn't EINVAL")
+    want(client.error_of(42) == errno.EINVAL, "an unknown request isn't refused with EINVAL")
+    want(client.read(0, BLOCK) == b"before.." * 512, "a refused WRITE was done")
+    client.ask(DISC, 4)
+    want(client.is_over(), "the session goes on after DISC")
+    client.socket.close()
+    too_much = Client(port)
+    too_much.ask(WRITE, 1, 0, length=too_much.most + 1)
+    want(too_much.is_over(), "a WRITE above the largest payload doesn't end its session")
+    too_much.socket.close()
+    wrong = Client(port)
+    wrong.socket.sendall(b"\x25\x60\x95\x14" + bytes(24))
+    want(wrong.is_over(), "a wrong magic doesn't end its session")
+    wrong.socket.close()
+    half = Client(port)
+    half.ask(WRITE, 1, 0, length=BLOCK, data=b"after..." * 511)
+    half.socket.close()
+    client = Client(port)
+    want(client.read(0, BLOCK) == b"before.." * 512, "a WRITE that broke off was done")
+    client.close()
+    print("refusals: each with its error, and nothing of it was done")
+
+
+def try_many_requests(port):
+    """64 requests in flight, and more than a session keeps."""
+    client = Client(port)
+    data = os.urandom(3 * BLOCK + 17)
+    client.write(5, data)
+    want(client.read(5, len(data)) == data, "a WRITE over block borders isn't read back")
+    client.flush()
+    for count in (64, 300):
+        for n in range(count):
+            client.ask(WRITE, n, (n % 64) * BLOCK, data=filled(n + 1, 0, BLOCK // WORD), flags=FUA if n % 2 else 0)
+        done = [client.reply() for _ in range(count)]
+        want({cookie for cookie, _, _ in done} == set(range(count)), f"{count} WRITEs: some have no reply")
+        want(all(error == 0 for _, error, _ in done), f"{count} WRITEs: some are refused")
+        for n in range(count):
+            client.ask(READ, n, (n % 64) * BLOCK, BLOCK)
+        lengths = {n: BLOCK for n in range(count)}
+        there = {}
+        for _ in range(count):
+            cookie, error, data = client.reply(lengths)
+            want(error == 0, f"READ {cookie} of {count} is refused with {error}")
+            there.setdefault(cookie % 64, set()).add(data)
+        for block, values in there.items():
+            # Writes of one session that were in flight together may be done in any order.
+            lawful = [filled(n + 1, 0, BLOCK // WORD) for n in range(block, count, 64)]
+            want(len(values) == 1 and values.pop() in lawful, f"{count} in flight: block {block} shows no write of it")
+    client.close()
+    print("64 and 300 requests sent at once: answered and read back")
+
+
+def try_many_sessions(port):
+    """Two clients at once, sixteen, and one that doesn't read its replies."""
+    one, other = Client(port), Client(port)
+    other.write(0, b"of other" * 512)
+    want(one.read(0, BLOCK) == b"of other" * 512, "a client doesn't read what another wrote")
+    one.write(0, b"of one.." * 512)
+    want(other.read(0, BLOCK) == b"of one.." * 512, "a client doesn't read what another wrote")
+    one.write(BLOCK, b"flushed." * 512)
+    other.flush()
+    many = [Client(port) for _ in range(16)]
+    for turn in range(20):
+        for n, client in enumerate(many):
+            client.ask(WRITE, turn, n * BLOCK, data=struct.pack(">HH", n, turn) * (BLOCK // 4))
+        for client in many:
+            want(client.reply()[1] == 0, "one of sixteen clients is refused")
+    for n, client in enumerate(many):
+        want(many[n - 1].read(n * BLOCK, BLOCK) == struct.pack(">HH", n, 19) * (BLOCK // 4), "sixteen clients mix data up")
+    # A full socket stops this one; the others go on.
+    length = min(one.most, one.size)
+    for n in range(48):
+        one.ask(READ, n, 0, length)
+    other.socket.settimeout(20)
+    for n in range(50):
+        other.write(n % 16 * BLOCK, bytes(BLOCK))
+    for _ in range(48):
+        want(one.reply({n: length for n in range(48)})[1] == 0, "a READ of a slow client is refused")
+    for client in many + [one, other]:
+        client.close()
+    print("two and sixteen sessions at once, and a slow one beside a quick one")
+
+
+class Lane:
+    """A session of a load: what it asked, what it has yet to send, and what came."""
+
+    def __init__(self, port):
+        """Opens the session; from here on nothing of it waits."""
+        self.client = Client(port)
+        self.client.socket.setblocking(False)
+        self.asked = {}
+        self.out = bytearray()
+        self.came = bytearray()
+
+    def send(self):
+        """Sends what the socket takes."""
+        try:
+            done = self.client.socket.send(self.out[: 1 << 18])
+        except BlockingIOError:
+            return
+        del self.out[:done]
+
+    def receive(self):
+        """Takes what came; False where the session is over."""
+        try:
+            part = self.client.socket.recv(1 << 18)
+        except BlockingIOError:
+            return True
+        except ConnectionResetError:
+            return False
+        self.came += part
+        return part != b""
+
+
+class Load:
+    """A random load in several sessions, and what is known of it. One thread, so that its events have one order."""
+
+    def __init__(self, port, words, most, era, draw, number, note):
+        """`words`: how much of the volume; `most`: words of a request; `number`: of the first write. `note` is told each
+        event before a write or FLUSH is sent, and after it was answered."""
+        self.words, self.most, self.era, self.draw, self.number, self.note = words, most, era, draw, number, note
+        self.now = 0
+        self.lanes = [Lane(port) for _ in range(draw.choice((1, 2, 4)))]
+        self.depth = draw.choice((1, 4, 16, 64))
+        self.hot = draw.choice((words, min(words, 8 * BLOCK // WORD)))
+        # Shares of writes, FUA writes, FLUSHes and READs.
+        self.shares = draw.choice(((8, 1, 1, 2), (4, 4, 1, 2), (1, 6, 0, 1), (12, 0, 1, 1), (30, 0, 0, 1)))
+        self.answers = {"write": 0, "fua": 0, "flush": 0, "read": 0}
+
+    def place(self):
+        """A random place, mostly small, often of whole blocks, sometimes as long as a request may be."""
+        block = BLOCK // WORD
+        kind = self.draw.random()
+        if kind < 0.4:
+            length, step = self.draw.randint(1, block), 1
+        elif kind < 0.7:
+            length, step = block * self.draw.randint(1, 2), block
+        elif kind < 0.9:
+            length, step = self.draw.randint(1, 4 * block), 1
+        else:
+            length, step = self.draw.randint(1, self.most), 1
+        length = min(length, self.most, self.hot)
+        start = self.draw.randrange(0, self.hot - length + 1, step)
+        return start, start + length
+
+    def ask(self, lane):
+        """One more request of a session. It counts as sent from before its bytes go out."""
+        kind = self.draw.choices(("write", "fua", "flush", "read"), self.shares)[0]
+        self.number += 1
+        self.now += 1
+        number = self.number
+        start, end = self.place()
+        code, flags, data, length = READ, 0, b"", (end - start) * WORD
+        if kind == "flush":
+            code, start, end, length = FLUSH, 0, 0, 0
+            self.note("flush", number, 0, 0)
+        elif kind != "read":
+            code, flags, data = WRITE, FUA if kind == "fua" else 0, filled(number, start, end)
+            self.era.sent(number, start, end, kind == "fua", self.now)
+            self.note(kind, number, start, end)
+        lane.asked[number] = (kind, start, end, self.now)
+        lane.out += struct.pack(">IHHQQI", 0x25609513, flags, code, number, start * WORD, length) + data
+
+    def take_replies(self, lane):
+        """Takes the replies that are whole."""
+        while len(lane.came) >= 16:
+            magic, error, cookie = struct.unpack(">IIQ", lane.came[:16])
+            want(magic == 0x67446698, f"a reply's magic is {magic:#x}")
+            want(cookie in lane.asked, f"a reply to {cookie}, which isn't in flight")
+            kind, start, end, sent = lane.asked[cookie]
+            want(error == 0, f"{kind} {cookie} is refused with {error}")
+            length = 16 + (end - start) * WORD * (kind == "read")
+            if len(lane.came) < length:
+                return
+            data = bytes(lane.came[16:length])
+            del lane.came[:length], lane.asked[cookie]
+            self.now += 1
+            self.answers[kind] += 1
+            if kind == "read":
+                self.era.judge_read(numbers_in(data, start), start, sent)
+                continue
+            self.note("answer", cookie, 0, 0)
+            if kind == "flush":
+                self.era.flushed(sent)
+            else:
+                self.era.answered(cookie, self.now)
+
+    def play(self, until):
+        """Keeps every session full until that moment."""
+        while time.monotonic() < until:
+            for lane in self.lanes:
+                while len(lane.asked) < self.depth:
+                    self.ask(lane)
+            sockets = {lane.client.socket: lane for lane in self.lanes}
+            writing = [one for one, lane in sockets.items() if lane.out]
+            readable, writable, _ = select.select(sockets, writing, [], max(0.0, until - time.monotonic()))
+            for one in writable:
+                sockets[one].send()
+            for one in readable:
+                want(sockets[one].receive(), "the server hung up under the load")
+                self.take_replies(sockets[one])
+
+    def end(self):
+        """The server is gone: takes what still comes of each session."""
+        for lane in self.lanes:
+            lane.client.socket.settimeout(10)
+            try:
+                while lane.receive():
+                    self.take_replies(lane)
+            except TimeoutError:
+                raise Wrong("a session goes on though the server was killed") from None
+            lane.client.socket.close()
+
+
+def start(words, environment=None):
+    """Starts the server: the process once it serves, and what it said."""
+    # What it logs goes to a file, since a pipe that nobody empties would stop it.
+    log = tempfile.TemporaryFile()
+    server = subprocess.Popen(words, stdout=subprocess.PIPE, stderr=log, bufsize=0, env=environment)
+    said = b""
+    end = time.monotonic() + 60
+    while time.monotonic() < end:
+        ready, _, _ = select.select([server.stdout], [], [], 1)
+        if not ready:
+            continue
+        part = os.read(server.stdout.fileno(), 4096)
+        if not part:
+            break
+        said += part
+        if re.search(rb"^serving .*\n", said, re.MULTILINE):
+            return server, said.decode().splitlines()
+    server.kill()
+    status = server.wait()
+    log.seek(0)
+    raise Wrong(f"not served: it said {said!r}, on standard error {log.read()!r}, status {status}")
+
+
+def try_kills(port, times, seed, words):
+    """The server is killed under a load, so many times."""
+    draw = random.Random(seed)
+    server, _ = start(words)
+    try:
+        client = Client(port)
+        length = min(client.size, 256 * BLOCK)
+        most = min(client.most, length) // WORD
+        for at in range(0, length, BLOCK):
+            client.write(at, bytes(BLOCK))
+        client.flush()
+        client.close()
+        base = [0] * (length // WORD)
+        number = 0
+        answers = {}
+        slowest = 0.0
+        for _ in range(times):
+            load = Load(port, length // WORD, most, Era(base), draw, number, lambda *event: None)
+            load.play(time.monotonic() + draw.uniform(0.02, 0.5))
+            server.send_signal(signal.SIGKILL)
+            server.wait()
+            load.end()
+            number = load.number
+            for kind, count in load.answers.items():
+                answers[kind] = answers.get(kind, 0) + count
+            begun = time.monotonic()
+            server, _ = start(words)
+            slowest = max(slowest, time.monotonic() - begun)
+            client = Client(port)
+            base = numbers_in(client.read_all(length), 0)
+            client.close()
+            load.era.judge(base)
+    finally:
+        server.kill()
+        server.wait()
+    counts = ", ".join(f"{count} {kind}" for kind, count in answers.items())
+    print(f"killed {times} times, seed {seed}; answered: {counts}; served again within {slowest:.2f} s")
+
+
+def main(words):
+    """Tries what the words of the command line say."""
+    if words[0] == "--kill":
+        try_kills(int(words[1]), int(words[2]), int(words[3]), words[4:])
+        return
+    port = int(words[0])
+    try_options(port)
+    try_refusals(port)
+    try_many_requests(port)
+    try_many_sessions(port)
+
+
+if __name__ == "__main__":
+    if len(sys.argv) < 2:
+        raise SystemExit(__doc__)
+    try:
+        main(sys.argv[1:])
+    except (Wrong, OSError, EOFError) as wrong:
+        raise SystemExit(f"plain.py: {type(wrong).__name__}: {wrong}") from None

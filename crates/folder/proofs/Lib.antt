@@ -1,0 +1,4 @@
+mod Finding
+mod Firsts
+mod Recording
+mod Sources

@@ -1,0 +1,5 @@
+pub mod Chain
+pub mod Disks
+pub mod Found
+pub mod Refusal
+pub mod Restart

@@ -1,0 +1,52 @@
+-- One deed, and one era, behind others: lemmas.
+use Rattle.std.proofs.Common.{ℕ, List, [], ◌∷◌, ◌++◌, refl, subst}
+use Rattle.disk_model.specs.declared.memory.MemDisk.{MemDisk}
+use Rattle.local_store.specs.About.{About}
+use Rattle.volume.specs.declared.geometry.Geometry.{Geometry}
+use Rattle.world.specs.World.{Seen}
+use Rattle.life.specs.Does.{DoesDeed}
+use Rattle.life.specs.Plays.{DeedsLead, EraLeads, ErasLead, IsPlayed}
+use Rattle.life.specs.declared.answer.Answer.{Answer}
+use Rattle.life.specs.declared.era.Answers.{Answers}
+use Rattle.life.specs.declared.era.Deed.{Deed}
+use Rattle.life.specs.declared.era.Era.{Era}
+
+module _ {S : Type 0} (premise : Type 0) (about : S → About) (keeps : S → List ℕ → Type 0) (is_pending : S → ℕ → Type 0) (may_leave_now : S → List ℕ → Type 0) (moment : S → ℕ)
+    (left_since : S → ℕ → List ℕ → Type 0) (failures : S → ℕ) (disk : S → MemDisk) where
+  abbrev Lead : List Deed → List Answer → Seen S → Seen S → Type 0
+  Lead = DeedsLead premise about keeps is_pending may_leave_now moment left_since failures disk
+
+  abbrev Does : Deed → Answer → Seen S → Seen S → Type 0
+  Does = DoesDeed premise about keeps is_pending may_leave_now moment left_since failures disk
+
+  abbrev Eras : List Era → List Answers → Seen S → Seen S → Type 0
+  Eras = ErasLead premise about keeps is_pending may_leave_now moment left_since failures disk
+
+  abbrev OneEra : Era → List Answer → Seen S → Seen S → Type 0
+  OneEra = EraLeads premise about keeps is_pending may_leave_now moment left_since failures disk
+
+  -- one deed more
+  pub leads_more : (deeds : List Deed) (answers : List Answer) (old mid new : Seen S) (deed : Deed) (answer : Answer) → Lead deeds answers old mid → Does deed answer mid new
+      → Lead (deeds ++ deed ∷ []) (answers ++ answer ∷ []) old new
+  leads_more [] [] old mid new deed answer leads did = (new, subst (λ w. Does deed answer w new) leads did, refl)
+  leads_more [] (a ∷ answers) old mid new deed answer leads did = absurd leads
+  leads_more (d ∷ deeds) [] old mid new deed answer leads did = absurd leads
+  leads_more (d ∷ deeds) (a ∷ answers) old mid new deed answer (next, first, later) did = (next, first, leads_more deeds answers next mid new deed answer later did)
+
+  -- one era more
+  pub eras_more : (eras : List Era) (answers : List Answers) (old mid new : Seen S) (era : Era) (these : Answers) → Eras eras answers old mid → OneEra era these.items.items mid new
+      → Eras (eras ++ era ∷ []) (answers ++ these ∷ []) old new
+  eras_more [] [] old mid new era these leads did = (new, subst (λ w. OneEra era these.items.items w new) leads did, refl)
+  eras_more [] (a ∷ answers) old mid new era these leads did = absurd leads
+  eras_more (e ∷ eras) [] old mid new era these leads did = absurd leads
+  eras_more (e ∷ eras) (a ∷ answers) old mid new era these (next, first, later) did = (next, first, eras_more eras answers next mid new era these later did)
+
+  pub plays_on : (geometry : Geometry) (members : ℕ) (eras : List Era) (answers : List Answers) (mid new : Seen S) (era : Era) (these : Answers)
+      → IsPlayed premise about keeps is_pending may_leave_now moment left_since failures disk geometry members eras answers mid → OneEra era these.items.items mid new
+      → IsPlayed premise about keeps is_pending may_leave_now moment left_since failures disk geometry members (eras ++ era ∷ []) (answers ++ these ∷ []) new
+  plays_on geometry members eras answers mid new era these played leads = record {
+    first = played.first;
+    many = played.many;
+    begins = played.begins;
+    plays = eras_more eras answers played.first mid new era these played.plays leads;
+  }

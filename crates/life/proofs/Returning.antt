@@ -1,0 +1,120 @@
+-- A member's disk after a cut, and why it may not return: lemmas.
+use Rattle.std.proofs.Common.{◌≡◌, ℕ, zero, suc, ◌<◌, ◌≤◌, List, [], ◌∷◌, ◌++◌, length, map, refl, ap, sym, subst, ◌∙◌, inl, inr, arith}
+use Rattle.std.specs.Prelude.{◌⊎◌, All, Err, IfErr, IfSome, IsErrAnd, None, Ok, Option, Result, Some, slice_get}
+use Rattle.std.specs.List.{AllZip}
+use Rattle.std.proofs.lemmas.List.{get_or-map, length-map}
+use Rattle.std.proofs.lemmas.List.Elements.{All-head, All-tail}
+use Rattle.chain.specs.Chain.{Chained, bytes_of}
+use Rattle.chain.specs.Member.{IsShown, Linked}
+use Rattle.chain.proofs.Cells.{place_of as cell_of, twin_of}
+use Rattle.disk_model.specs.Memory.{given_of}
+use Rattle.disk_model.specs.declared.memory.MemDisk.{MemDisk}
+use Rattle.home_blocks.specs.Home.{IsNoVolume, IsOtherVersion}
+use Rattle.local_store.specs.About.{About}
+use Rattle.local_store.specs.Meaning.{HasDamagedArea, IsOpenable, IsUnfinished}
+use Rattle.local_store.specs.Refusal.{IsOfOpening}
+use Rattle.local_store.specs.declared.refusal.Refusal as store
+use Rattle.local_store.specs.declared.refusal.Refusal.TheVariants as stores
+use Rattle.volume.specs.declared.geometry.Geometry.{Geometry}
+use Rattle.world.specs.World.{Seen, Shows}
+use Rattle.world_model.specs.Chain.{View}
+use Rattle.life.specs.Begun.{AreOnDisks, IsCutFrom, IsOfMember}
+use Rattle.life.specs.Plays.{ErasLead}
+use Rattle.life.specs.Refusal.{BreaksOff, EndsAtReturn, IsOfBeginning, IsOfReopening, IsOfReturning, ReturnsNobody}
+use Rattle.life.specs.declared.era.Answers.{Answers}
+use Rattle.life.specs.declared.era.Era.{Era}
+use Rattle.life.specs.declared.refusal.Refusal.{Refusal}
+use Rattle.life.specs.declared.refusal.Refusal.TheVariants.{Memory, NotInChain, Store}
+use Rattle.life.proofs.Owners.{StayOwn, own_of}
+use Rattle.life.proofs.Starting.{IsStore, about_of_store, all_mapped, keeps_volume, leaves_now}
+
+-- what is so of what is there
+pub if_some : {A : Type 0} (o : Option A) (P : A → Type 0) → ((x : A) → o ≡ Some x → P x) → IfSome o P
+if_some None P each = tt
+if_some (Some x) P each = each x refl
+
+-- what is so of an error is so of it where it is passed on
+pub passed_on : {T E : Type 0} (result : Result T E) (e : E) (P : E → Type 0) → IsErrAnd result (λ y. y ≡ e) → P e → IfErr result P
+passed_on (Ok t) e P is so = tt
+passed_on (Err y) e P is so = subst P (sym is) so
+
+-- what is so of each is so of the one at a place
+all_at : {A : Type 0} (Q : A → Type 0) (xs : List A) (at : ℕ) (x : A) → All Q xs → slice_get xs at ≡ Some x → Q x
+all_at Q [] at x all here = let none : None ≡ Some x = here in absurd (cc)
+all_at Q (a ∷ xs) zero x all here = let some : Some a ≡ Some x = here in let same : a ≡ x = cc some in subst Q same (All-head Q a xs all)
+all_at Q (a ∷ xs) (suc k) x all here = all_at Q xs k x (All-tail Q a xs all) here
+
+of_mapped : {A B : Type 0} (Q : B → Type 0) (f : A → B) (xs : List A) → All Q (map f xs) → All (λ x. Q (f x)) xs
+of_mapped Q f xs all = λ k d within. subst Q (get_or-map f xs k d (f d) within) (all k (f d) (rw (length-map xs f) within))
+
+-- ---- the members' disks stay
+
+-- an incarnation counted from 1, and these sizes
+abbrev IsOwn : Geometry → ℕ × Geometry → Type 0
+IsOwn geometry owner = (0 < owner.0) × (owner.1 ≡ geometry)
+
+pub disks_stay : {S : Type 0} (about : S → About) (old new : Seen S) → StayOwn about old.chain new.chain → AreOnDisks about old → AreOnDisks about new
+disks_stay about old new stays on =
+    subst (λ g. All (λ m. IsOwn g (own_of about m)) new.chain.members) (sym stays.geometry)
+    (of_mapped (IsOwn old.chain.geometry) (own_of about) new.chain.members (subst (All (IsOwn old.chain.geometry)) (sym stays.owners) (all_mapped (IsOwn old.chain.geometry) (own_of about) old.chain.members on)))
+
+pub many_stay : {S : Type 0} (about : S → About) (old new : Chained S) → StayOwn about old new → length new.members ≡ length old.members
+many_stay about old new stays = sym (length-map new.members (own_of about)) ∙ ap length stays.owners ∙ length-map old.members (own_of about)
+
+-- ---- a disk that was cut
+
+-- it is its member's, with the sizes of the chain's volume
+pub cut_of_member : (old : Seen IsStore) (v : View) (at : ℕ) (m : Linked IsStore) (disk : MemDisk) → Shows about_of_store keeps_volume leaves_now old v → slice_get old.chain.members at ≡ Some m
+    → IsCutFrom leaves_now m.node.store disk → AreOnDisks about_of_store old → (is : IsOfMember disk) × (is.meaning.geometry ≡ old.chain.geometry)
+cut_of_member old v at m disk shows here cut on =
+    let place = cell_of old.chain.members at m here in
+    let twin = twin_of (IsShown about_of_store keeps_volume leaves_now (bytes_of old.chain)) place.above m place.below v.members
+    (subst (λ l. AllZip (IsShown about_of_store keeps_volume leaves_now (bytes_of old.chain)) l v.members) place.split shows.chain.members) in
+    let so = twin.fits in
+    let (front, durable, known, is) = so.left (given_of disk) cut.left in
+    let own = all_at (λ n. (0 < (about_of_store n.node.store).incarnation) × ((about_of_store n.node.store).geometry ≡ old.chain.geometry)) old.chain.members at m on here in
+    (record { meaning = _; means = is; given = own.0; long = omega (arith, m.node.store.room, cut.left.size) }, own.1)
+
+-- ---- why it may be refused
+
+pub reopened : (bytes : List ℕ) (refusal : store.Refusal) → IsOfOpening refusal → (refusal ≡ stores.NotAVolume → IsNoVolume bytes ⊎ HasDamagedArea bytes) → (refusal ≡ stores.OtherVersion → IsOtherVersion bytes)
+    → (refusal ≡ stores.Unfinished → IsUnfinished bytes) → IsOpenable bytes → IsOfReopening refusal
+reopened bytes stores.Memory told none other unfinished openable = tt
+reopened bytes stores.NotAVolume told none other unfinished openable = elim (none refl) [ inl is ↦ absurd (openable.volume is) | inr is ↦ absurd (openable.area is) ]
+reopened bytes stores.OtherVersion told none other unfinished openable = absurd (openable.version (other refl))
+reopened bytes stores.Unfinished told none other unfinished openable = absurd (openable.finished (unfinished refl))
+reopened bytes (stores.Device error) told none other unfinished openable = told
+reopened bytes stores.Full told none other unfinished openable = absurd told
+reopened bytes stores.Broken told none other unfinished openable = absurd told
+reopened bytes stores.Backwards told none other unfinished openable = absurd told
+
+pub ends_as : (refusal : Refusal) (members others at : ℕ) → members ≡ others → EndsAtReturn members at refusal → EndsAtReturn others at refusal
+ends_as refusal members others at same ends = subst (λ n. EndsAtReturn n at refusal) same ends
+
+pub returned_not : (refusal : Refusal) (members at : ℕ) → IsOfReturning refusal → EndsAtReturn members at refusal
+returned_not Memory members at is = tt
+returned_not NotInChain members at is = absurd is
+returned_not (Store refusal) members at is = is
+
+pub begins_not : (refusal : Refusal) (members : ℕ) (eras : List Era) → IsOfBeginning refusal → BreaksOff members eras refusal
+begins_not Memory members eras is = tt
+begins_not NotInChain members eras is = absurd is
+begins_not (Store refusal) members eras is = inl is
+
+module _ {S : Type 0} (premise : Type 0) (about : S → About) (keeps : S → List ℕ → Type 0) (is_pending : S → ℕ → Type 0) (may_leave_now : S → List ℕ → Type 0) (moment : S → ℕ)
+    (left_since : S → ℕ → List ℕ → Type 0) (failures : S → ℕ) (disk : S → MemDisk) where
+  returns_nobody : (eras : List Era) (answers : List Answers) (first w : Seen S) (members : ℕ) (era : Era) (rest : List Era)
+      → ErasLead premise about keeps is_pending may_leave_now moment left_since failures disk eras answers first w → length first.chain.members ≡ members → length w.chain.members ≤ era.returned
+      → ReturnsNobody members (eras ++ era ∷ rest)
+  returns_nobody [] [] first w members era rest leads many beyond = inl (omega (arith, beyond, many, ap (λ (x : Seen S). length x.chain.members) leads))
+  returns_nobody [] (a ∷ answers) first w members era rest leads many beyond = absurd leads
+  returns_nobody (e ∷ eras) [] first w members era rest leads many beyond = absurd leads
+  returns_nobody (e ∷ eras) (a ∷ answers) first w members era rest (next, (end, lead, goes), later) many beyond = inr (returns_nobody eras answers next w 1 era rest later goes.alone beyond)
+
+  -- an era breaks off the life
+  pub breaks_off : (refusal : Refusal) (eras : List Era) (answers : List Answers) (first w : Seen S) (members : ℕ) (era : Era) (rest : List Era)
+      → ErasLead premise about keeps is_pending may_leave_now moment left_since failures disk eras answers first w → length first.chain.members ≡ members
+      → EndsAtReturn (length w.chain.members) era.returned refusal → BreaksOff members (eras ++ era ∷ rest) refusal
+  breaks_off Memory eras answers first w members era rest leads many ends = tt
+  breaks_off NotInChain eras answers first w members era rest leads many ends = returns_nobody eras answers first w members era rest leads many ends
+  breaks_off (Store refusal) eras answers first w members era rest leads many ends = inr ends

@@ -1,0 +1,182 @@
+-- The calls of a world: what each does, with what it gives.
+use Rattle.std.specs.Prelude.{◌≡◌, ◌⊎◌, ◌↔◌, ℕ, ◌+◌, Bool, true, false, Option, None, Some, Result, IfErr, IfNone, IfOk, IfSome, IsErrOf, IsSome, OnErr, OnOk, List, [], slice_get}
+use Rattle.chain.specs.Arming.{HasArmed, HasNewScript, HasOldScript}
+use Rattle.chain.specs.Chain.{Chained, Changes, RestsAt}
+use Rattle.chain.specs.Commits.{EndsAt, HasBegunCommits, HasCheckpointed, HasEndedCommit, HasNoGroup, HasNoNumber, HasStoppedTold, HasTicked, IsUsedUpAt, LeavesAt, PostsAt, PostsNone}
+use Rattle.chain.specs.Fronts.{HasKnown, HasLooked, IsNoTail, RaisesAt}
+use Rattle.chain.specs.Member.{HasCalled, Linked}
+use Rattle.chain.specs.Musters.{HasFound, HasGauged, HasMustered, HasNoFront, HasNoSlotLeft, HasNoWhole, HasSettled, LacksAt}
+use Rattle.chain.specs.Passing.{AckComes, HasNone, PutComes, Refuses, SubmitComes}
+use Rattle.chain_core.specs.Reads.{HasBrokenOff, HasOnlyRead, IsStepOver, IsStepTo}
+use Rattle.chain_core.specs.declared.refusal.Refusal.{Refusal}
+use Rattle.chain_core.specs.declared.refusal.Refusal.TheVariants as refusals
+use Rattle.chain_steps.specs.Steps.{answer_front, stop}
+use Rattle.chain_steps.specs.declared.cause.Cause.TheVariants as causes
+use Rattle.chain_steps.specs.declared.message.Envelope.{Envelope}
+use Rattle.clients.specs.Calls.{Begins, Ends, PutsOut}
+use Rattle.clients.specs.Clients.{HasClient, place_of}
+use Rattle.clients.specs.declared.output.Output.{Output}
+use Rattle.disk_model.specs.declared.memory.MemDisk.{MemDisk}
+use Rattle.disk_model.specs.declared.script.Event.{Event}
+use Rattle.flush_barrier.specs.Reply.{GivenReply}
+use Rattle.flush_barrier.specs.declared.session_id.SessionId.{SessionId}
+use Rattle.local_store.specs.About.{About}
+use Rattle.local_store.specs.Arming.{IsAsItWas}
+use Rattle.nbd_session.specs.Progress.{is_over}
+use Rattle.nbd_session.specs.declared.refusal.Refusal as session
+use Rattle.nbd_session.specs.declared.refusal.Refusal.TheVariants.{SessionOver}
+use Rattle.std.specs.declared.alloc.AllocError.{AllocError}
+use Rattle.world.specs.Reception.{Feeds, Receives}
+use Rattle.world.specs.Taking.{Takes}
+use Rattle.world.specs.Telling.{Answers, Moves}
+use Rattle.world.specs.World.{Seen}
+use Rattle.world.specs.declared.told.Told.{Told}
+
+-- ---- of clients
+
+-- A client began its session at the member at the place; or there was one of its number before; or memory ran out.
+pub record Connects {S : Type 0} (id : SessionId) (at : ℕ) (given : Result Bool AllocError) (old new : Seen S) : Type 0 where
+  pub begins : IfOk given (λ begun. begun ≡ true → Receives old new (Begins id at))
+  pub known : IfOk given (λ begun. begun ≡ false → IsSome (place_of id old.sessions.clients) × (new ≡ old))
+  pub err : OnErr given (new ≡ old)
+
+-- The session took the piece; or it was refused; or there is no such session.
+pub record TakesIn {S : Type 0} (id : SessionId) (piece : List ℕ) (given : Option (Result (Unit {0}) session.Refusal)) (old new : Seen S) : Type 0 where
+  pub fed : IfSome given (λ fed. IfOk fed (λ _. Feeds id piece old new))
+  pub none : IfNone given ((place_of id old.sessions.clients ≡ None) × (new ≡ old))
+  pub known : IfSome given (λ fed. IsSome (place_of id old.sessions.clients))
+  pub over : IfSome given (λ fed. IsErrOf fed SessionOver → HasClient id old.sessions.clients (λ client. is_over client.session.phase ≡ true))
+  pub err : IfSome given (λ fed. OnErr fed (new ≡ old))
+
+-- The client's input ended; or there is no such session that takes input.
+pub record EndsInput {S : Type 0} (id : SessionId) (taken : Bool) (old new : Seen S) : Type 0 where
+  pub ended : taken ≡ true → Receives old new (Ends id)
+  pub idle : taken ≡ false → (HasClient id old.sessions.clients (λ client. is_over client.session.phase ≡ false) → ⊥) × (new ≡ old)
+
+-- what waited for the session went out
+abbrev pub HandsOut : {S : Type 0} → SessionId → Option Output → Seen S → Seen S → Type 0
+HandsOut id given old new = Receives old new (λ old new. PutsOut id old given new)
+
+-- ---- of links
+
+-- The first message of a link was taken; or the member refused it; or there was none.
+pub record Comes {S : Type 0} (link_of : Linked S → List Envelope) (from at : ℕ) (given : Result (Option Told) Refusal) (old new : Seen S) (Did : List GivenReply → Chained S → Chained S → Type 0) : Type 0 where
+  pub none : IfOk given (λ taken. IfNone taken (Moves old new (HasNone link_of from)))
+  pub taken : IfOk given (λ taken. IfSome taken (λ told. Answers told old new Did))
+  pub refused : IfErr given (λ r. Moves old new (λ old new. Refuses link_of from at old new r))
+
+-- the head numbered the first write on its way from the member
+abbrev pub Numbers : {S : Type 0} → ℕ → Result (Option Told) Refusal → Seen S → Seen S → Type 0
+Numbers from given old new = Comes (λ member. member.submits) from 0 given old new (λ replies old new. SubmitComes from old new replies)
+
+-- the member took the first Put on its way to it
+abbrev pub TakesPut : {S : Type 0} → ℕ → Result (Option Told) Refusal → Seen S → Seen S → Type 0
+TakesPut at given old new = Comes (λ member. member.puts) at at given old new (λ replies old new. PutComes at old new replies)
+
+-- the member took the first Ack on its way from the one behind it
+abbrev pub TakesAck : {S : Type 0} → ℕ → Result (Option Told) Refusal → Seen S → Seen S → Type 0
+TakesAck at given old new = Comes (λ member. member.acks) (at + 1) at given old new (λ replies old new. AckComes at old new replies)
+
+-- ---- of the board
+
+-- The chain did so, without a reply; or it was idle for this reason.
+pub record MovesOr {S : Type 0} (taken : Bool) (old new : Seen S) (Did Idle : Chained S → Chained S → Type 0) : Type 0 where
+  pub did : taken ≡ true → Moves old new Did
+  pub idle : taken ≡ false → Moves old new Idle
+
+-- the member looked the committed front up
+abbrev pub LooksUp : {S : Type 0} → ℕ → Bool → Seen S → Seen S → Type 0
+LooksUp at taken old new = MovesOr taken old new (λ old new. Changes at old new (HasLooked old.words.front)) (RestsAt at)
+
+-- the tail raised the committed front
+abbrev pub Raises : {S : Type 0} → ℕ → Bool → Seen S → Seen S → Type 0
+Raises at taken old new = MovesOr taken old new (RaisesAt at) (λ old new. IsNoTail at old new ⊎ RestsAt at old new)
+
+-- the member looked the committed front up, for a crew
+abbrev pub FindsFront : {S : Type 0} → ℕ → Bool → Seen S → Seen S → Type 0
+FindsFront at taken old new = MovesOr taken old new (λ old new. Changes at old new (HasFound old.id old.seat old.words.front)) (RestsAt at)
+
+-- the member looked the mask of counted slots up
+abbrev pub MustersCrew : {S : Type 0} → ℕ → Bool → Seen S → Seen S → Type 0
+MustersCrew at taken old new = MovesOr taken old new (λ old new. Changes at old new (HasMustered old.id old.seat old.words.mask)) (λ old new. RestsAt at old new ⊎ LacksAt at old new HasNoFront)
+
+-- the member looked the gauge of its crew's next slot up
+abbrev pub Gauges : {S : Type 0} → ℕ → Bool → Seen S → Seen S → Type 0
+Gauges at taken old new = MovesOr taken old new (λ old new. Changes at old new (HasGauged old.words)) (λ old new. RestsAt at old new ⊎ LacksAt at old new HasNoSlotLeft)
+
+-- the member posted its last receipt
+abbrev pub Posts : {S : Type 0} → ℕ → Bool → Seen S → Seen S → Type 0
+Posts at taken old new = MovesOr taken old new (PostsAt at) (PostsNone at)
+
+-- ---- of members
+
+-- The chain did so, and its replies came to their sessions; or it was idle for this reason.
+pub record AnswersOr {S : Type 0} (given : Option Told) (old new : Seen S) (Did : List GivenReply → Chained S → Chained S → Type 0) (Idle : Chained S → Chained S → Type 0) : Type 0 where
+  pub did : IfSome given (λ told. Answers told old new Did)
+  pub idle : IfNone given (Moves old new Idle)
+
+-- the member went on with the front that it raised
+abbrev pub TakesRaised : {S : Type 0} → ℕ → Option Told → Seen S → Seen S → Type 0
+TakesRaised at given old new = AnswersOr given old new (λ replies old new. Changes at old new (HasKnown replies)) (RestsAt at)
+
+-- the member answered what waits for a floor
+abbrev pub Settles : {S : Type 0} → ℕ → Option Told → Seen S → Seen S → Type 0
+Settles at given old new = AnswersOr given old new (λ replies old new. Changes at old new (HasSettled replies)) (λ old new. RestsAt at old new ⊎ LacksAt at old new HasNoWhole)
+
+-- the member stopped
+abbrev pub Stops : {S : Type 0} → ℕ → Told → Seen S → Seen S → Type 0
+Stops at told old new = Answers told old new (λ replies old new. Changes at old new (HasStoppedTold replies))
+
+-- The first demand of the member's sessions was taken; or none waited.
+pub record TakesFirst {S : Type 0} (premise : Type 0) (about : S → About) (keeps : S → List ℕ → Type 0) (moment : S → ℕ) (left_since : S → ℕ → List ℕ → Type 0) (failures : S → ℕ)
+    (at : ℕ) (given : Option Told) (old new : Seen S) : Type 0 where
+  pub taken : IfSome given (λ told. Takes premise about failures keeps moment left_since at told old new)
+  pub none : IfNone given ((slice_get old.queues at ≡ Some []) × (new ≡ old))
+
+-- the member went on with the front that it looked up
+abbrev pub AnswersFront : {S : Type 0} → Type 0 → (S → About) → (S → List ℕ → Type 0) → (S → ℕ) → (S → ℕ → List ℕ → Type 0) → (S → ℕ) → ℕ → Option Told → Seen S → Seen S → Type 0
+AnswersFront premise about keeps moment left_since failures at given old new =
+    AnswersOr given old new (λ replies old new. Changes at old new (HasCalled (λ old new out. (HasOnlyRead premise about failures keeps moment left_since old.store new.store
+    × (IsStepOver premise (keeps old.store) new.state out (λ volume. answer_front volume old.state)
+    ⊎ IsStepTo new.state out (stop causes.Memory old.state)))
+    ⊎ HasBrokenOff about failures old new out) replies)) (RestsAt at)
+
+-- ---- of stores
+
+module _ {S : Type 0} (premise : Type 0) (about : S → About) (keeps : S → List ℕ → Type 0) (is_pending : S → ℕ → Type 0) (may_leave_now : S → List ℕ → Type 0) (moment : S → ℕ)
+    (left_since : S → ℕ → List ℕ → Type 0) (failures : S → ℕ) where
+  -- The member ended the commit under way; or it has stopped.
+  pub record EndsCommit (at : ℕ) (given : Option Told) (old new : Seen S) : Type 0 where
+    pub ended : IfSome given (λ told. Answers told old new (λ replies old new. Changes at old new (HasEndedCommit premise about is_pending failures keeps replies)))
+    pub stopped : IfNone given (Moves old new (RestsAt at))
+    pub any_moment : premise → EndsAt about keeps may_leave_now moment left_since at old.chain new.chain
+
+  -- The store wrote its next pending block home, whose number is given; or the member has stopped.
+  pub record Ticks (at : ℕ) (given : Result (Told × Option ℕ) Refusal) (old new : Seen S) : Type 0 where
+    pub done : IfOk given (λ r. Answers r.0 old new (λ replies old new. Changes at old new (HasCalled (λ old new out. HasTicked premise about is_pending failures keeps old new out r.1) replies)))
+    pub refused : IfErr given (λ r. (r ≡ refusals.Stopped) × Moves old new (RestsAt at))
+    pub any_moment : premise → LeavesAt about keeps may_leave_now moment left_since at old.chain new.chain
+
+  -- The store wrote all its pending blocks home; or it has no number left for that; or the member has stopped.
+  pub record Checkpoints (at : ℕ) (given : Result Told Refusal) (old new : Seen S) : Type 0 where
+    pub done : IfOk given (λ told. Answers told old new (λ replies old new. Changes at old new (HasCalled (HasCheckpointed premise about is_pending failures keeps) replies)))
+    pub full : IsErrOf given refusals.Full ↔ IsUsedUpAt about at old.chain
+    pub refused : IfErr given (λ r. ((r ≡ refusals.Full) × Moves old new (λ old new. Changes at old new (HasNoNumber about is_pending keeps)))
+        ⊎ ((r ≡ refusals.Stopped) × Moves old new (RestsAt at)))
+    pub any_moment : premise → LeavesAt about keeps may_leave_now moment left_since at old.chain new.chain
+
+  -- The member began a commit of at most so many writes; or no group fits; or it has stopped.
+  pub record BeginsCommits (at most : ℕ) (given : Result Told Refusal) (old new : Seen S) : Type 0 where
+    pub done : IfOk given (λ told. Answers told old new (λ replies old new. Changes at old new (HasCalled (HasBegunCommits premise about failures keeps moment left_since most) replies)))
+    pub refused : IfErr given (λ r. ((r ≡ refusals.Full) × Moves old new (λ old new. Changes at old new (HasNoGroup premise about failures keeps moment left_since most)))
+        ⊎ ((r ≡ refusals.Stopped) × Moves old new (RestsAt at)))
+    pub any_moment : premise → LeavesAt about keeps may_leave_now moment left_since at old.chain new.chain
+
+-- ---- of scripts
+
+-- The event is one more in the script of the member's disk; or memory ran out, and the script is as it was.
+pub record Arms {S : Type 0} (about : S → About) (keeps : S → List ℕ → Type 0) (is_pending : S → ℕ → Type 0) (may_leave_now : S → List ℕ → Type 0) (failures : S → ℕ) (disk : S → MemDisk)
+    (at : ℕ) (event : Event) (given : Result (Unit {0}) AllocError) (old new : Seen S) : Type 0 where
+  pub ok : OnOk given (Moves old new (λ old new. Changes at old new (HasNewScript disk event)))
+  pub err : OnErr given (Moves old new (λ old new. Changes at old new (HasOldScript disk)))
+  pub armed : Moves old new (λ old new. Changes at old new (HasArmed (IsAsItWas about keeps is_pending may_leave_now failures)))

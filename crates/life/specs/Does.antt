@@ -1,0 +1,164 @@
+-- What a step does: exactly the call of the world that it names, whose result its answer tells. Where there is no member at its place,
+-- it is skipped, and nothing changed.
+use Rattle.std.specs.Prelude.{◌≡◌, ℕ, ◌<◌, ◌≤◌, Bool, true, false, Option, None, Some, Result, Ok, Err, List, [], length}
+use Rattle.chain_core.specs.Refusal.{number_of}
+use Rattle.chain_core.specs.declared.refusal.Refusal.{Refusal}
+use Rattle.clients.specs.declared.output.Output.{Output}
+use Rattle.disk_model.specs.declared.memory.MemDisk.{MemDisk}
+use Rattle.disk_model.specs.declared.script.Event.{Event}
+use Rattle.flush_barrier.specs.declared.session_id.SessionId.{SessionId}
+use Rattle.local_store.specs.About.{About}
+use Rattle.nbd_session.specs.Refusal as session
+use Rattle.nbd_session.specs.declared.refusal.Refusal as sessions
+use Rattle.std.specs.declared.alloc.AllocError.{AllocError}
+use Rattle.world.specs.Telling.{has_room, outputs_of}
+use Rattle.world.specs.World.{Seen}
+use Rattle.world.specs.declared.told.Told.{Told}
+use Rattle.life.specs.Calls.{AnswersFront, Arms, BeginsCommits, Checkpoints, Connects, EndsCommit, EndsInput, FindsFront, Gauges, HandsOut, LooksUp, MustersCrew, Numbers, Posts, Raises, Settles, Stops, TakesAck, TakesFirst, TakesIn, TakesPut, TakesRaised, Ticks}
+use Rattle.life.specs.Played.{told_in, tried_in, went_in}
+use Rattle.life.specs.declared.answer.Answer.{Answer}
+use Rattle.life.specs.declared.answer.Answer.TheVariants.{Taken, HandedOut, Refused, Skipped}
+use Rattle.life.specs.declared.era.Deed.{Deed}
+use Rattle.life.specs.declared.era.Deed.TheVariants as deeds
+use Rattle.life.specs.declared.step.Act.{Act}
+use Rattle.life.specs.declared.step.Act.TheVariants as acts
+use Rattle.life.specs.declared.step.Step.{Step}
+use Rattle.life.specs.declared.step.Step.TheVariants.{Connect, Bytes, End, HandOut, Member}
+
+-- ---- which answer tells a call's result
+
+-- it was taken, and told nobody anything
+abbrev pub IsSilent : Answer → Type 0
+IsSilent (Taken told) = (has_room told ≡ true) × (outputs_of told ≡ [])
+IsSilent (HandedOut output) = ⊥
+IsSilent (Refused number) = ⊥
+IsSilent Skipped = ⊥
+
+-- a step was taken that tells nobody anything, or there was none
+abbrev pub TellsDone : Bool → Answer → Type 0
+TellsDone true answer = IsSilent answer
+TellsDone false answer = answer ≡ Skipped
+
+-- a session began, or there was one of its number, or memory ran out
+abbrev pub TellsBegun : Result Bool AllocError → Answer → Type 0
+TellsBegun (Ok begun) answer = TellsDone begun answer
+TellsBegun (Err error) answer = answer ≡ Refused 100
+
+-- a piece was taken, or refused, or there is no such session
+abbrev pub TellsFed : Option (Result (Unit {0}) sessions.Refusal) → Answer → Type 0
+TellsFed None answer = answer ≡ Skipped
+TellsFed (Some (Ok fed)) answer = IsSilent answer
+TellsFed (Some (Err refusal)) answer = answer ≡ Refused (session.number_of refusal)
+
+-- a script has one more event, or memory ran out
+abbrev pub TellsArmed : Result (Unit {0}) AllocError → Answer → Type 0
+TellsArmed (Ok armed) answer = IsSilent answer
+TellsArmed (Err error) answer = answer ≡ Refused 100
+
+-- what waited for a client went out, and else there was no such step
+abbrev pub handed_out_in : Option Output → Answer
+handed_out_in (Some output) = HandedOut output
+handed_out_in None = Skipped
+
+-- what a tick told clients, or why it was refused
+abbrev pub ticked_in : Result (Told × Option ℕ) Refusal → Answer
+ticked_in (Ok ticked) = Taken ticked.0
+ticked_in (Err refusal) = Refused (number_of refusal)
+
+-- the answer tells what the call gave, which did so
+abbrev pub IsDone : Answer → (Bool → Type 0) → Type 0
+IsDone answer Did = (taken : Bool) × TellsDone taken answer × Did taken
+
+abbrev pub IsTold : Answer → (Option Told → Type 0) → Type 0
+IsTold answer Did = (given : Option Told) × (answer ≡ told_in given) × Did given
+
+abbrev pub IsTried : Answer → (Result (Option Told) Refusal → Type 0) → Type 0
+IsTried answer Did = (given : Result (Option Told) Refusal) × (answer ≡ tried_in given) × Did given
+
+abbrev pub HasGone : Answer → (Result Told Refusal → Type 0) → Type 0
+HasGone answer Did = (given : Result Told Refusal) × (answer ≡ went_in given) × Did given
+
+-- ---- where there is no such step
+
+-- the step was skipped, and nothing changed
+abbrev pub IsSkipped : {S : Type 0} → Answer → Seen S → Seen S → Type 0
+IsSkipped answer old new = (answer ≡ Skipped) × (new ≡ old)
+
+-- Where there is a member at the place, this was done; else the step was skipped.
+pub record IsAtMember {S : Type 0} (at : ℕ) (answer : Answer) (old new : Seen S) (Did : Type 0) : Type 0 where
+  pub nobody : length old.chain.members ≤ at → IsSkipped answer old new
+  pub member : at < length old.chain.members → Did
+
+-- ---- a client's step
+
+-- a session began at the member at the place, if there is one
+abbrev pub IsConnected : {S : Type 0} → SessionId → ℕ → Answer → Seen S → Seen S → Type 0
+IsConnected id at answer old new = IsAtMember at answer old new ((given : Result Bool AllocError) × TellsBegun given answer × Connects id at given old new)
+
+-- the session was fed a piece, if there is one
+abbrev pub IsFed : {S : Type 0} → SessionId → List ℕ → Answer → Seen S → Seen S → Type 0
+IsFed id piece answer old new = (given : Option (Result (Unit {0}) sessions.Refusal)) × TellsFed given answer × TakesIn id piece given old new
+
+-- its input ended
+abbrev pub IsEnded : {S : Type 0} → SessionId → Answer → Seen S → Seen S → Type 0
+IsEnded id answer old new = IsDone answer (λ taken. EndsInput id taken old new)
+
+-- what waited for it went out
+abbrev pub IsHandedOut : {S : Type 0} → SessionId → Answer → Seen S → Seen S → Type 0
+IsHandedOut id answer old new = (given : Option Output) × (answer ≡ handed_out_in given) × HandsOut id given old new
+
+-- ---- an event
+
+-- the script of the disk of the member at the place has one more event, if there is such a member
+abbrev pub IsArmed : {S : Type 0} → (S → About) → (S → List ℕ → Type 0) → (S → ℕ → Type 0) → (S → List ℕ → Type 0) → (S → ℕ) → (S → MemDisk) → ℕ → Event → Answer → Seen S → Seen S → Type 0
+IsArmed about keeps is_pending may_leave_now failures disk at event answer old new =
+    IsAtMember at answer old new ((given : Result (Unit {0}) AllocError) × TellsArmed given answer × Arms about keeps is_pending may_leave_now failures disk at event given old new)
+
+-- ---- any step
+
+module _ {S : Type 0} (premise : Type 0) (about : S → About) (keeps : S → List ℕ → Type 0) (is_pending : S → ℕ → Type 0) (may_leave_now : S → List ℕ → Type 0) (moment : S → ℕ)
+    (left_since : S → ℕ → List ℕ → Type 0) (failures : S → ℕ) where
+  -- It begins a commit of at most so many writes; of none at all it is skipped.
+  pub record BeginsSome (at most : ℕ) (answer : Answer) (old new : Seen S) : Type 0 where
+    pub none : most ≡ 0 → IsSkipped answer old new
+    pub some : 0 < most → HasGone answer (λ given. BeginsCommits premise about keeps is_pending may_leave_now moment left_since failures at most given old new)
+
+  -- its store wrote a block home
+  abbrev pub IsTicked : ℕ → Answer → Seen S → Seen S → Type 0
+  IsTicked at answer old new = (given : Result (Told × Option ℕ) Refusal) × (answer ≡ ticked_in given) × Ticks premise about keeps is_pending may_leave_now moment left_since failures at given old new
+
+  -- what the member at the place did
+  abbrev pub Acts : Act → ℕ → Answer → Seen S → Seen S → Type 0
+  Acts acts.Take at answer old new = IsTold answer (λ given. TakesFirst premise about keeps moment left_since failures at given old new)
+  Acts acts.Number at answer old new = IsTried answer (λ given. Numbers at given old new)
+  Acts acts.Put at answer old new = IsTried answer (λ given. TakesPut at given old new)
+  Acts acts.Ack at answer old new = IsTried answer (λ given. TakesAck at given old new)
+  Acts acts.Look at answer old new = IsDone answer (λ taken. LooksUp at taken old new)
+  Acts acts.AnswerFront at answer old new = IsTold answer (λ given. AnswersFront premise about keeps moment left_since failures at given old new)
+  Acts acts.Raise at answer old new = IsDone answer (λ taken. Raises at taken old new)
+  Acts acts.Raised at answer old new = IsTold answer (λ given. TakesRaised at given old new)
+  Acts acts.FindFront at answer old new = IsDone answer (λ taken. FindsFront at taken old new)
+  Acts acts.Crew at answer old new = IsDone answer (λ taken. MustersCrew at taken old new)
+  Acts acts.Gauge at answer old new = IsDone answer (λ taken. Gauges at taken old new)
+  Acts acts.Settle at answer old new = IsTold answer (λ given. Settles at given old new)
+  Acts (acts.BeginCommits most) at answer old new = BeginsSome at most answer old new
+  Acts acts.EndCommit at answer old new = IsTold answer (λ given. EndsCommit premise about keeps is_pending may_leave_now moment left_since failures at given old new)
+  Acts acts.Post at answer old new = IsDone answer (λ taken. Posts at taken old new)
+  Acts acts.Tick at answer old new = IsTicked at answer old new
+  Acts acts.Checkpoint at answer old new = HasGone answer (λ given. Checkpoints premise about keeps is_pending may_leave_now moment left_since failures at given old new)
+  Acts acts.Stop at answer old new = (told : Told) × (answer ≡ Taken told) × Stops at told old new
+
+  -- what the step did
+  abbrev pub Does : Step → Answer → Seen S → Seen S → Type 0
+  Does (Connect id at) answer old new = IsConnected id at answer old new
+  Does (Bytes id piece) answer old new = IsFed id piece.items answer old new
+  Does (End id) answer old new = IsEnded id answer old new
+  Does (HandOut id) answer old new = IsHandedOut id answer old new
+  Does (Member at act) answer old new = IsAtMember at answer old new (Acts act at answer old new)
+
+  -- ---- a deed
+
+  -- what the deed did, where this is the disk of a store
+  abbrev pub DoesDeed : (S → MemDisk) → Deed → Answer → Seen S → Seen S → Type 0
+  DoesDeed disk (deeds.Step step) answer old new = Does step answer old new
+  DoesDeed disk (deeds.Arm at event) answer old new = IsArmed about keeps is_pending may_leave_now failures disk at event answer old new

@@ -1,0 +1,19 @@
+use Rattle.std.proofs.Common.{◌≡◌, List, [], ◌∷◌, ◌++◌, ℕ, subst, sym, ap, ◌∙◌}
+use Rattle.std.specs.Prelude.{All, IfSome, slice_get}
+use Rattle.std.proofs.lemmas.List.Elements.{All-cons, All-nil}
+use Rattle.life.proofs.Starting.{world_begins}
+use Rattle.life.specs.Begun.{BeginsWith}
+use Rattle.nbdchain.proofs.serving.world_of_one.Goals as goal
+
+pub returns-in-Ok-new : goal.returns-in-Ok-new
+returns-in-Ok-new g c =
+    let items = c.push_reserved.new.self.items in
+    let one : items ≡ c.args.store ∷ [] = c.push_reserved.ensures.items ∙ ap (λ l. l ++ c.args.store ∷ []) c.in_ok-stores.ensures.items in
+    record {
+      begins = λ premise volume kept.
+          (subst (λ l. IfSome (slice_get l 0) (λ first. (v : List ℕ) → All (λ s. g.S.StoreLike.keeps s v) l
+          → BeginsWith g.S.StoreLike.about g.S.StoreLike.keeps g.S.StoreLike.may_leave_now (g.S.StoreLike.about first).geometry (g.S.StoreLike.about first).front v c.in-Ok-new.world)) one
+          (world_begins g.S.StoreLike.about g.S.StoreLike.keeps g.S.StoreLike.may_leave_now items c.args.recorded c.in-Ok.chain c.in-Ok-new.world
+          c.in-Ok.ensures.sizes c.in-Ok.ensures.words (c.in-Ok.ensures.begins premise) c.in-Ok-new.ensures.chain c.in-Ok-new.ensures.sessions c.in-Ok-new.ensures.shows))
+          volume (All-cons (λ s. g.S.StoreLike.keeps s volume) c.args.store [] kept (All-nil (λ s. g.S.StoreLike.keeps s volume)));
+    }

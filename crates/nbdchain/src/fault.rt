@@ -1,0 +1,72 @@
+use folder::Failure;
+use simulator::Refusal;
+use std::alloc::{AllocError, AllocFailed};
+use std::{fmt, io};
+
+/// Why a disk is not formatted or served. It prints the refusal in a line, with the path of the file and the system's reason,
+/// where there is one.
+#[derive(Debug, Drop)]
+pub(crate) enum Fault<'a> {
+    /// A refusal of the program's own.
+    Own(Refusal),
+    /// The numbers are no layout of a disk.
+    Layout(folder::Refusal),
+    /// A file of this folder is at fault.
+    Folder { dir: &'a str, failure: Failure },
+    /// Nobody can be served, or nobody more.
+    Server(server::Refusal),
+}
+
+impl fmt::Display for Fault<'_> {
+    fn fmt<W: fmt::Write>(&self, f: &mut fmt::Formatter<W>) -> fmt::Result {
+        match self {
+            Fault::Own(refusal) => write!(f, "{refusal}"),
+            Fault::Layout(refusal) => write!(f, "{refusal}"),
+            Fault::Folder { dir, failure } => print_failure(f, dir, failure),
+            Fault::Server(refusal) => write!(f, "{refusal}"),
+        }
+    }
+}
+
+/// Prints what became of a file, with its path.
+fn print_failure<W: fmt::Write>(
+    f: &mut fmt::Formatter<W>,
+    dir: &str,
+    failure: &Failure,
+) -> fmt::Result {
+    let Failure { refusal, file, .. } = failure;
+    match &failure.reason {
+        Some(reason) => write!(f, "{refusal} {dir}/{file}: {reason}"),
+        None => write!(f, "{refusal} {dir}/{file}"),
+    }
+}
+
+impl From<Refusal> for Fault<'_> {
+    fn from(refusal: Refusal) -> Self {
+        Fault::Own(refusal)
+    }
+}
+
+impl From<server::Refusal> for Fault<'_> {
+    fn from(refusal: server::Refusal) -> Self {
+        Fault::Server(refusal)
+    }
+}
+
+impl From<AllocError> for Fault<'_> {
+    fn from(_: AllocError) -> Self {
+        Fault::Own(Refusal::Memory)
+    }
+}
+
+impl<T: Drop> From<AllocFailed<T>> for Fault<'_> {
+    fn from(_: AllocFailed<T>) -> Self {
+        Fault::Own(Refusal::Memory)
+    }
+}
+
+impl From<io::Error> for Fault<'_> {
+    fn from(error: io::Error) -> Self {
+        Fault::Own(Refusal::from(error))
+    }
+}

@@ -1,0 +1,168 @@
+//! `serve DIR`: the disk of a folder, for clients of the Network Block Device protocol.
+//!
+//! A chain of one goes on from the folder: where more members are recorded, the source of the recovery goes on alone.
+ghost use Rattle.std.specs.Prelude.{◌≡◌, [], ◌∷◌, ℕ, List, IfOk};
+ghost use Rattle.folder.specs.Found.{IsRunning, member_in};
+ghost use Rattle.life.specs.Begun.{BeginsWith};
+
+use crate::fault::Fault;
+use chain::Chain;
+use clap::{Arg, ArgAction, ArgMatches, Command, value_parser};
+use configurations::Record;
+use disk_model::FileDisk;
+use folder::Opened;
+use local_store::{Store, StoreLike};
+use log::{Log, info};
+use server::{listen, serve};
+use service::{HasError, Service};
+use simulator::Refusal;
+use std::alloc::{AllocError, Global};
+use std::fs::{File, Files};
+use std::io::Write;
+use std::net::{Net, TcpListener, TcpStream};
+use std::sync::Wait;
+use std::thread::Threads;
+use world::World;
+
+/// An example of the command.
+const EXAMPLE: &str = "Example, with a client's line:
+  nbdchain serve disk --port 10809
+  nbdcopy disk.img nbd://127.0.0.1:10809";
+
+/// The words of the command.
+pub(crate) fn words<'a>(alloc: Global) -> Result<Command<'a>, AllocError> {
+    let dir = Arg::new(alloc, "DIR")
+        .required(true)
+        .action(ArgAction::Set)
+        .help("The folder, which was formatted");
+    let port = Arg::new(alloc, "port")
+        .long("port")
+        .value_name("P")
+        .required(true)
+        .action(ArgAction::Set)
+        .value_parser(value_parser!(u16).range(1..=65_535))
+        .help("The port of 127.0.0.1");
+    let sessions = Arg::new(alloc, "sessions")
+        .long("sessions")
+        .value_name("K")
+        .action(ArgAction::Set)
+        .value_parser(value_parser!(u32))
+        .default_value("0")
+        .help("It ends after so many sessions; 0 is never");
+    Command::new(alloc, "serve")
+        .about("Serves the disk of a folder by NBD, at 127.0.0.1")
+        .after_help(EXAMPLE)
+        .arg(dir)?
+        .arg(port)?
+        .arg(sessions)
+}
+
+/// Serves the folder that the words name, so many sessions.
+///
+/// 302 `ListenFault` where binding or accepting fails. Else as `folder::open`, which records the source alone, with the next
+/// epoch, before anything else is written.
+pub(crate) fn serve_folder<'a, R, O: Write>(
+    rt: &R,
+    matches: &ArgMatches<'a>,
+    output: &mut O,
+) -> Result<(), Fault<'a>>
+where
+    R: Files<File = File>
+        + Net<Listener = TcpListener, Stream = TcpStream>
+        + AllocGlobal
+        + Threads
+        + Wait
+        + Log
+        + Copy
+        + Send
+        + 'static,
+{
+    let dir = matches.get_str("DIR").ok_or(Refusal::FileFault)?;
+    let port = matches.get_one::<u16>("port").unwrap_or(0);
+    let sessions = matches.get_one::<u32>("sessions").unwrap_or(0);
+    info!(rt; "opening the disks of {dir}");
+    let opened = match folder::open(rt, dir) {
+        Ok(opened) => opened,
+        Err(failure) => return Err(Fault::Folder { dir, failure }),
+    };
+    let source = opened.source().number();
+    print_source(source, opened.front(), opened.epoch().number(), output)?;
+    let Opened {
+        config,
+        record,
+        store,
+        ..
+    } = opened;
+    let world = world_of_one(rt.alloc(), record, store)?;
+    let mut service = Service::new(rt.alloc(), world);
+    let served = serve_at(rt, port, sessions, &mut service, output);
+    // The stores are dropped, and with them the files; until here the configuration's file was locked too.
+    let _ = service.abandon();
+    drop(config);
+    served
+}
+
+/// Prints the source and its chain.
+fn print_source<O: Write>(
+    source: u8,
+    front: u64,
+    epoch: u64,
+    output: &mut O,
+) -> Result<(), Refusal> {
+    writeln!(output, "source {source} front {front}")?;
+    Ok(writeln!(output, "epoch {epoch} chain {source}")?)
+}
+
+/// The world of a chain whose one member has this store: it begins at the store's front, with the volume that the store keeps, and has
+/// no clients.
+fn world_of_one<S: StoreLike + Drop>(
+    alloc: Global,
+    recorded: Record,
+    store: S,
+) -> Result<World<S>, AllocError>
+    requires alone { recorded.members ≡ member_in (S.about store) ∷ [] }
+    requires running { IsRunning S.about store }
+    requires keeps { S.keeps_model → (volume : List ℕ) × S.keeps store volume }
+    ensures begins { S.keeps_model → IfOk result (λ world. (volume : List ℕ) → S.keeps store volume
+        → BeginsWith S.about S.keeps S.may_leave_now (S.about store).geometry (S.about store).front volume world) }
+{
+    let mut stores = Vec::with_capacity(alloc, 1)?;
+    stores.push_reserved(store);
+    let Ok(chain) = Chain::new(alloc, recorded, stores) else {
+        return Err(AllocError);
+    };
+    match World::new(alloc, chain) {
+        Ok(world) => Ok(world),
+        Err(chain) => {
+            // The store is dropped, and with it the file.
+            let _ = chain.abandon();
+            Err(AllocError)
+        }
+    }
+}
+
+/// Serves a world at a port.
+fn serve_at<'a, R, S, O: Write>(
+    rt: &R,
+    port: u16,
+    sessions: u32,
+    service: &mut Service<S>,
+    output: &mut O,
+) -> Result<(), Fault<'a>>
+where
+    R: Net<Listener = TcpListener, Stream = TcpStream>
+        + AllocGlobal
+        + Threads
+        + Wait
+        + Log
+        + Copy
+        + Send
+        + 'static,
+    S: StoreLike + HasError + Drop,
+{
+    let listener = listen(rt, port)?;
+    let size = service.size();
+    writeln!(output, "serving {size} bytes at 127.0.0.1:{port}")?;
+    output.flush()?;
+    Ok(serve(rt, rt.alloc(), listener, u64::from(sessions), service)?)
+}

@@ -1,0 +1,139 @@
+//! A client, as the owner has it: its two threads, and how far they are.
+ghost use Rattle.std.specs.Prelude.{◌≡◌, IfOk, IfSome, true};
+ghost use Rattle.server.specs.Flow.{HasRoom, MayWrite};
+
+use crate::event::{Event, PIECE, Piece};
+use crate::flow::Flow;
+use crate::threads::{read_all, write_all};
+use crate::{Refusal, Sessions};
+use bytes::BytesMut;
+use crossbeam_channel::{Sender, bounded};
+use std::alloc::Global;
+use std::net::{Shutdown, TcpStream};
+use std::sync::Wait;
+use std::thread::{JoinHandle, Threads, spawn};
+
+/// A client.
+#[derive(Drop)]
+pub(crate) struct Client {
+    pub(crate) session: u64,
+    pub(crate) flow: Flow,
+    stream: TcpStream,
+    // where the reader gets its buffer, until it is to end
+    buffers: Option<Sender<Vec<u8>>>,
+    // the buffer, while the reader doesn't have it
+    spare: Option<Vec<u8>>,
+    outputs: Sender<BytesMut>,
+    reader: JoinHandle<()>,
+    writer: JoinHandle<()>,
+}
+
+impl Client {
+    /// The client of a session, with its threads. 100 `Memory`, also where the system gives no thread.
+    pub(crate) fn new<R: Threads + Wait + Copy + Send + 'static>(
+        rt: &R,
+        alloc: Global,
+        session: u64,
+        stream: TcpStream,
+        events: &Sender<Event>,
+    ) -> Result<Client, Refusal>
+        ensures { IfOk result (λ client. client.session ≡ session) }
+    {
+        // It only makes small replies quicker.
+        let _ = stream.set_nodelay(true);
+        let (Ok(from), Ok(to)) = (stream.try_clone(), stream.try_clone()) else {
+            return Err(Refusal::Memory);
+        };
+        let spare = vec![in alloc; 0; PIECE]?;
+        let (buffers, given_buffers) = bounded(alloc, 1)?;
+        let (outputs, given_outputs) = bounded(alloc, 1)?;
+        let (read, written) = (events.clone()?, events.clone()?);
+        let handle = *rt;
+        let reader = spawn(rt, move || {
+            read_all(&handle, session, &from, &given_buffers, &read)
+        });
+        let Ok(reader) = reader else {
+            return Err(Refusal::Memory);
+        };
+        let writer = spawn(rt, move || {
+            write_all(&handle, session, &to, &given_outputs, &written)
+        });
+        let Ok(writer) = writer else {
+            return Err(Refusal::Memory);
+        };
+        Ok(Client {
+            session,
+            flow: Flow::new(),
+            stream,
+            buffers: Some(buffers),
+            spare: Some(spare),
+            outputs,
+            reader,
+            writer,
+        })
+    }
+
+    /// The reader may read a piece.
+    pub(crate) fn let_read<R: Wait>(&mut self, rt: &R)
+        requires { HasRoom self.old.flow }
+    {
+        if let Some(buffers) = &self.buffers
+            && let Some(spare) = self.spare.take()
+        {
+            self.flow.give_leave();
+            // A reader that is gone has told, or will, that it has ended.
+            let _ = buffers.send(rt, spare);
+        }
+    }
+
+    /// The reader's piece was fed.
+    pub(crate) fn take_back(&mut self, piece: Piece) {
+        self.flow.feed();
+        self.spare = Some(piece.buffer);
+    }
+
+    /// The writer is to write.
+    pub(crate) fn write<R: Wait>(&mut self, rt: &R, bytes: BytesMut)
+        requires { MayWrite self.old.flow }
+    {
+        self.flow.give_bytes();
+        if self.outputs.send(rt, bytes).is_err() {
+            self.flow.write();
+        }
+    }
+
+    /// The session is told that its input has ended, if it wasn't told yet.
+    pub(crate) fn end<S: Sessions>(&mut self, world: &mut S)
+        ensures { self.new.flow ≡ record self.old.flow { told = true } }
+    {
+        if !self.flow.told {
+            self.flow.told = true;
+            world.end(self.session);
+        }
+    }
+
+    /// Nothing more is to be read or written: both threads end.
+    pub(crate) fn hang_up(&mut self) {
+        self.buffers = None;
+        // It may be shut down already.
+        let _ = self.stream.shutdown(Shutdown::Both);
+    }
+
+    /// Waits until both threads have ended.
+    pub(crate) fn join<R: Threads>(self, rt: &R) {
+        let Client {
+            session: _,
+            flow: _,
+            stream: _,
+            buffers,
+            spare: _,
+            outputs,
+            reader,
+            writer,
+        } = self;
+        drop(buffers);
+        drop(outputs);
+        reader.join(rt);
+        writer.join(rt);
+    }
+}

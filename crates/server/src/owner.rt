@@ -1,0 +1,329 @@
+//! The owner of all sessions, and the loop in which it plays.
+ghost use Rattle.std.specs.Prelude.{◌≡◌, ◌<◌, ◌≤◌, length, IfErr, IfSome};
+ghost use Rattle.server.specs.Flow.{MayWrite};
+
+use crate::client::Client;
+use crate::event::{Event, Piece};
+use crate::threads::accept_all;
+use crate::{Output, Refusal, Sessions};
+use crossbeam_channel::{Receiver, Sender, bounded};
+use log::{Log, error, info};
+use std::alloc::Global;
+use std::io;
+use std::net::{TcpListener, TcpStream};
+use std::sync::Wait;
+use std::thread::{Threads, spawn};
+
+/// The clients that are served at once, at most; another waits to be accepted.
+const MAX_CLIENTS: usize = 64;
+
+/// What the owner is told and hasn't taken up, at most; a thread that tells more waits.
+const MAX_EVENTS: usize = 256;
+
+/// Serves the clients that come: so many, or for ever where it is 0. It ends when the last of them is gone and nothing is
+/// left to commit.
+///
+/// 302 `ListenFault` where the system accepts no more: then the clients that are there are hung up. 100 `Memory`, before
+/// any client is served.
+pub fn serve<R: Threads + Wait + Log + Copy + Send + 'static, S: Sessions>(
+    rt: &R,
+    alloc: Global,
+    listener: TcpListener,
+    sessions: u64,
+    world: &mut S,
+) -> Result<(), Refusal> {
+    let (told, events) = bounded(alloc, MAX_EVENTS)?;
+    let (leaves, given_leaves) = bounded(alloc, 1)?;
+    let accepted = told.clone()?;
+    let handle = *rt;
+    let acceptor = spawn(rt, move || {
+        accept_all(&handle, &listener, &given_leaves, &accepted)
+    });
+    let Ok(acceptor) = acceptor else {
+        return Err(Refusal::Memory);
+    };
+    let mut owner = Owner {
+        alloc,
+        told,
+        leaves,
+        clients: Vec::new(alloc),
+        begun: 0,
+        wanted: sessions,
+        accepting: false,
+        refusal: None,
+        stop_is_told: false,
+    };
+    owner.play_all(rt, &events, world);
+    let refusal = owner.end();
+    acceptor.join(rt);
+    match refusal {
+        Some(reason) => Err(Refusal::ListenFault(reason)),
+        None => Ok(()),
+    }
+}
+
+/// The owner: its clients, and how it goes on.
+#[derive(Drop)]
+struct Owner {
+    alloc: Global,
+    // where its threads tell it
+    told: Sender<Event>,
+    // the acceptor's leave to accept a client
+    leaves: Sender<()>,
+    clients: Vec<Client>,
+    begun: u64,
+    wanted: u64,
+    // the acceptor has leave
+    accepting: bool,
+    refusal: Option<io::Error>,
+    stop_is_told: bool,
+}
+
+impl Owner {
+    /// Plays until no client is left, and none comes.
+    fn play_all<R: Threads + Wait + Log + Copy + Send + 'static, S: Sessions>(
+        &mut self,
+        rt: &R,
+        events: &Receiver<Event>,
+        world: &mut S,
+    ) {
+        let mut rests = false;
+        for _ in rt.forever() {
+            self.let_come(rt);
+            self.take_all(rt, events, rests, world);
+            let played = world.play();
+            self.tell_stop(rt, world);
+            let served = self.hand_out(rt, world);
+            self.forget(rt);
+            let committed = world.commit();
+            let goes_on = played || served || committed;
+            if !goes_on && self.is_done() {
+                break;
+            }
+            rests = !goes_on && !world.rest();
+        }
+    }
+
+    /// Gives up what threads wait for; why no client came any more, if that was refused.
+    fn end(self) -> Option<io::Error> {
+        let Owner {
+            alloc: _,
+            told: _,
+            leaves: _,
+            clients: _,
+            begun: _,
+            wanted: _,
+            accepting: _,
+            refusal,
+            stop_is_told: _,
+        } = self;
+        refusal
+    }
+
+    /// Whether another client is to come.
+    fn wants_more(&self) -> bool {
+        self.refusal.is_none() && (self.wanted == 0 || self.begun < self.wanted)
+    }
+
+    /// Whether no client is there, and none comes.
+    fn is_done(&self) -> bool {
+        !self.wants_more() && self.clients.is_empty() && !self.accepting
+    }
+
+    /// Lets the acceptor accept a client, while there is room for one.
+    fn let_come<R: Wait>(&mut self, rt: &R) {
+        if self.wants_more() && !self.accepting && self.clients.len() < MAX_CLIENTS {
+            self.accepting = self.leaves.send(rt, ()).is_ok();
+        }
+    }
+
+    /// Takes all that was told, and waits for it where there is nothing else to do.
+    fn take_all<R: Threads + Wait + Log + Copy + Send + 'static, S: Sessions>(
+        &mut self,
+        rt: &R,
+        events: &Receiver<Event>,
+        waits: bool,
+        world: &mut S,
+    ) {
+        if waits && let Ok(event) = events.recv(rt) {
+            self.take(rt, event, world);
+        }
+        for _ in 0..MAX_EVENTS {
+            let Ok(event) = events.try_recv(rt) else {
+                break;
+            };
+            self.take(rt, event, world);
+        }
+    }
+
+    /// Takes what was told.
+    fn take<R: Threads + Wait + Log + Copy + Send + 'static, S: Sessions>(
+        &mut self,
+        rt: &R,
+        event: Event,
+        world: &mut S,
+    ) {
+        match event {
+            Event::Begun(stream) => self.begin(rt, stream, world),
+            Event::Failed(reason) => self.fail(reason),
+            Event::Read { session, piece } => self.feed(session, piece, world),
+            Event::Ended { session } => self.note_end(session),
+            Event::Written { session, done } => self.go_on(session, done, world),
+        }
+    }
+
+    /// A client has come.
+    fn begin<R: Threads + Wait + Log + Copy + Send + 'static, S: Sessions>(
+        &mut self,
+        rt: &R,
+        stream: TcpStream,
+        world: &mut S,
+    ) {
+        self.accepting = false;
+        let session = self.begun;
+        self.begun = self.begun.saturating_add(1);
+        if self.clients.reserve(1).is_err() || !world.connect(session) {
+            error!(rt; "session {session} was refused: 100 Memory");
+            return;
+        }
+        match Client::new(rt, self.alloc, session, stream, &self.told) {
+            Ok(client) => {
+                info!(rt; "session {session} begun");
+                self.clients.push_reserved(client);
+            }
+            Err(refusal) => {
+                error!(rt; "session {session} was refused: {refusal}");
+                world.end(session);
+            }
+        }
+    }
+
+    /// No client can come any more; those that are there are hung up.
+    fn fail(&mut self, reason: io::Error) {
+        self.accepting = false;
+        self.refusal = Some(reason);
+        for client in self.clients.iter_mut() {
+            client.hang_up();
+        }
+    }
+
+    /// The place of a session's client.
+    fn place_of(&self, session: u64) -> Option<usize>
+        ensures { IfSome result (λ place. place < length self.now.clients.items) }
+    {
+        self.clients
+            .iter()
+            .position(|client| client.session == session)
+    }
+
+    /// A piece of a client's input is fed.
+    fn feed<S: Sessions>(&mut self, session: u64, piece: Piece, world: &mut S) {
+        let Some(place) = self.place_of(session) else {
+            return;
+        };
+        let client = &mut self.clients[place];
+        let taken = client.flow.closed || world.bytes(session, &piece.buffer[..piece.len]);
+        client.take_back(piece);
+        if !taken {
+            client.end(world);
+        }
+    }
+
+    /// A client's reader has ended.
+    fn note_end(&mut self, session: u64) {
+        if let Some(place) = self.place_of(session) {
+            self.clients[place].flow.ended = true;
+        }
+    }
+
+    /// A client's writer has written: the session goes on with what it kept. A client that can't be written to is hung up.
+    fn go_on<S: Sessions>(&mut self, session: u64, done: bool, world: &mut S) {
+        let Some(place) = self.place_of(session) else {
+            return;
+        };
+        let client = &mut self.clients[place];
+        client.flow.write();
+        if client.flow.closed {
+            client.hang_up();
+        } else if !done {
+            client.hang_up();
+            client.end(world);
+        } else if !world.bytes(session, &[]) {
+            client.end(world);
+        }
+    }
+
+    /// Hands out what waits for each client whose writer is idle, and lets the readers read whose sessions want more. False
+    /// where there was nothing to do.
+    fn hand_out<R: Wait, S: Sessions>(&mut self, rt: &R, world: &mut S) -> bool {
+        let mut served = false;
+        for client in self.clients.iter_mut() {
+            if serve_client(rt, client, world) {
+                served = true;
+            }
+        }
+        served
+    }
+
+    /// Gives up the clients that are gone.
+    fn forget<R: Threads + Log>(&mut self, rt: &R) {
+        while let Some(place) = self.place_of_gone() {
+            let client = self.clients.swap_remove(place);
+            let session = client.session;
+            client.join(rt);
+            info!(rt; "session {session} ended");
+        }
+    }
+
+    /// The place of a client that is gone.
+    fn place_of_gone(&self) -> Option<usize>
+        ensures { IfSome result (λ place. place < length self.now.clients.items) }
+    {
+        self.clients.iter().position(|client| client.flow.is_done())
+    }
+
+    /// Tells the log, once, why the member has stopped.
+    fn tell_stop<R: Log, S: Sessions>(&mut self, rt: &R, world: &S) {
+        if self.stop_is_told {
+            return;
+        }
+        if let Some(stop) = world.stop() {
+            self.stop_is_told = true;
+            error!(rt; "the member has stopped: {stop}");
+        }
+    }
+}
+
+/// Hands out what waits for a client, if its writer is idle, and lets its reader read, if its session wants more. False
+/// where there was nothing to do.
+fn serve_client<R: Wait, S: Sessions>(rt: &R, client: &mut Client, world: &mut S) -> bool {
+    let session = client.session;
+    let ends = client.flow.may_end(world.wants(session));
+    if ends {
+        client.end(world);
+    }
+    let gives = client.flow.may_write() && give_out(rt, client, world);
+    let reads = client.flow.may_read(world.wants(session));
+    if reads {
+        client.let_read(rt);
+    }
+    ends || gives || reads
+}
+
+/// Hands out what waits for a client. False where nothing waits.
+fn give_out<R: Wait, S: Sessions>(rt: &R, client: &mut Client, world: &mut S) -> bool
+    requires { MayWrite client.old.flow }
+{
+    let Some(output) = world.put_out(client.session) else {
+        return false;
+    };
+    let Output { bytes, closed } = output;
+    if !bytes.is_empty() {
+        client.write(rt, bytes);
+    }
+    client.flow.closed = closed;
+    if closed && !client.flow.writing {
+        client.hang_up();
+    }
+    true
+}

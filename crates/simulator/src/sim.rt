@@ -1,0 +1,244 @@
+//! `nbdchain sim`: plays a script over disks in memory.
+use crate::printed::Printed;
+use crate::refusal::Refusal;
+use crate::script::{ScriptCommand, parse};
+use crate::sessions::Speaker;
+use crate::trace::Telling;
+use disk_model::{Event, MemDisk};
+use flush_barrier::SessionId;
+use gate_journal::Slot;
+use local_store::Store;
+use std::alloc::Global;
+use std::collections::BTreeMap;
+use std::io::{BufRead, Write};
+use world::World;
+
+/// The most members of a chain.
+const MAX_MEMBERS: u8 = 8;
+
+/// Plays a script: what its commands print goes to the writer. It ends at the first line that is no command, or not in
+/// its place, with 301; 104 where the reader or the writer fails, or a line isn't text.
+pub fn sim_on<R: BufRead, W: Write>(
+    alloc: Global,
+    reader: &mut R,
+    writer: &mut W,
+) -> Result<(), Refusal> {
+    let telling = Telling {
+        steps: false,
+        mistakes: false,
+    };
+    let mut untold: Vec<u8> = Vec::new(alloc);
+    tell_on(alloc, reader, writer, telling, &mut untold)
+}
+
+/// Plays a script as `sim_on` does, and tells of it what is asked for.
+pub fn tell_on<R: BufRead, W: Write, T: Write>(
+    alloc: Global,
+    reader: &mut R,
+    writer: &mut W,
+    telling: Telling,
+    told: &mut T,
+) -> Result<(), Refusal> {
+    let mut sim = Sim::new(alloc);
+    if telling.steps {
+        sim.notes = Some(Vec::new(alloc));
+    }
+    let result = play_lines(&mut sim, reader, writer, telling, told);
+    sim.end();
+    result
+}
+
+fn play_lines<R: BufRead, W: Write, T: Write>(
+    sim: &mut Sim,
+    reader: &mut R,
+    writer: &mut W,
+    telling: Telling,
+    told: &mut T,
+) -> Result<(), Refusal> {
+    let mut text = Vec::new(sim.alloc);
+    for number in 1..u64::MAX {
+        text.clear();
+        if reader.read_until(b'\n', &mut text)? == 0 {
+            break;
+        }
+        let line = text.strip_suffix(b"\n").unwrap_or(&text);
+        sim.tell_line(number, line, writer, telling, told)?;
+    }
+    Ok(())
+}
+
+/// A member's disk, which a cut left.
+#[derive(Drop)]
+pub(crate) struct Left {
+    pub(crate) slot: Slot,
+    pub(crate) disk: MemDisk,
+}
+
+/// A script that is played: its world, once there is one. It has no `Drop`: `end` ends it.
+pub struct Sim {
+    pub(crate) alloc: Global,
+    pub(crate) begun: bool,
+    pub(crate) world: Option<World<Store<MemDisk>>>,
+    /// A device call met its stop: nothing goes on until a cut.
+    pub(crate) stopped: bool,
+    /// What a cut left, until a recovery.
+    pub(crate) left: Vec<Left>,
+    pub(crate) speakers: BTreeMap<SessionId, Speaker>,
+    /// The members whose devices' faults were told.
+    pub(crate) faulty: Vec<Slot>,
+    /// What is to be told of the steps since the last command, where they are told.
+    pub(crate) notes: Option<Vec<u8>>,
+}
+
+impl Sim {
+    /// A script before its first line.
+    pub fn new(alloc: Global) -> Sim {
+        Sim {
+            alloc,
+            begun: false,
+            world: None,
+            stopped: false,
+            left: Vec::new(alloc),
+            speakers: BTreeMap::new(alloc),
+            faulty: Vec::new(alloc),
+            notes: None,
+        }
+    }
+
+    /// Ends the script: its world is abandoned.
+    pub fn end(self) {
+        let Sim {
+            alloc: _,
+            begun: _,
+            world,
+            stopped: _,
+            left: _,
+            speakers: _,
+            faulty: _,
+            notes: _,
+        } = self;
+        if let Some(world) = world {
+            let _stores = world.abandon();
+        }
+    }
+
+    /// Plays the line of this number, counted from 1, without its newline: what its command prints goes to the writer.
+    ///
+    /// 301 where it is no command, or not in its place; 104 where the writer fails, or the line isn't text; 100 `Memory`.
+    pub fn play_line<W: Write>(
+        &mut self,
+        number: u64,
+        line: &[u8],
+        writer: &mut W,
+    ) -> Result<(), Refusal> {
+        match parse(self.alloc, line) {
+            Ok(None) => Ok(()),
+            Ok(Some(command)) => self.play(number, command, writer),
+            Err(error) => Err(Refusal::at(number, error)),
+        }
+    }
+
+    /// Plays the line of this number, and tells of it what is asked for.
+    fn tell_line<W: Write, T: Write>(
+        &mut self,
+        number: u64,
+        line: &[u8],
+        writer: &mut W,
+        telling: Telling,
+        told: &mut T,
+    ) -> Result<(), Refusal> {
+        if telling.steps && !line.is_empty() {
+            told.write_all(line)?;
+            writeln!(told)?;
+        }
+        let played = self.play_line(number, line, writer);
+        self.note_chain()?;
+        self.tell_notes(told)?;
+        if telling.mistakes && matches!(played, Err(Refusal::BadScript { .. })) {
+            self.tell_mistake(number, line, told)?;
+        }
+        played
+    }
+
+    /// Plays the command of a line. The first command is `new`, and no later one is.
+    fn play<W: Write>(
+        &mut self,
+        line: u64,
+        command: ScriptCommand,
+        writer: &mut W,
+    ) -> Result<(), Refusal> {
+        let is_first = !self.begun;
+        match command {
+            ScriptCommand::New {
+                members,
+                blocks,
+                max_payload,
+            } if is_first => match u8::try_from(members) {
+                Ok(members) if members > 0 && members <= MAX_MEMBERS => {
+                    self.begun = true;
+                    self.begin(members, blocks, max_payload, writer)
+                }
+                _ => Err(Refusal::BadScript { line }),
+            },
+            ScriptCommand::New { .. } => Err(Refusal::BadScript { line }),
+            _ if is_first => Err(Refusal::BadScript { line }),
+            ScriptCommand::Cut { cut } => self.cut(cut),
+            _ if self.stopped => Ok(()),
+            ScriptCommand::Return { member } => self.recover(member, writer),
+            ScriptCommand::State => self.state(writer),
+            ScriptCommand::StopAt {
+                member,
+                call,
+                bytes,
+            } => self.arm(member, Event::StopAt { call, bytes }),
+            ScriptCommand::Fail { member, call } => self.arm(member, Event::FailAt { call }),
+            command => self.show(command, writer),
+        }
+    }
+
+    /// Plays the steps of a command, and prints what they put out and their refusal.
+    fn show<W: Write>(&mut self, command: ScriptCommand, writer: &mut W) -> Result<(), Refusal> {
+        let mut printed = Printed::new(self.alloc);
+        let shown = &mut printed;
+        match command {
+            ScriptCommand::Connect { session, member } => self.connect(session, member, shown)?,
+            ScriptCommand::Session { session, member } => self.session(session, member, shown)?,
+            ScriptCommand::Request { session, request } => {
+                let piece = request.spelled(self.alloc)?;
+                self.bytes(session, piece, shown)?;
+            }
+            ScriptCommand::Bytes { session, piece } => self.bytes(session, piece, shown)?,
+            ScriptCommand::Act { act, member } => self.act(act, member, shown)?,
+            ScriptCommand::Pass { from, to } => self.pass(from, to, shown)?,
+            ScriptCommand::Run => self.run(shown)?,
+            ScriptCommand::New { .. }
+            | ScriptCommand::StopAt { .. }
+            | ScriptCommand::Fail { .. }
+            | ScriptCommand::Cut { .. }
+            | ScriptCommand::Return { .. }
+            | ScriptCommand::State => {}
+        }
+        printed.print(writer)?;
+        self.tell_stop(writer)
+    }
+
+    /// Prints that a device call met its stop, if one did.
+    pub(crate) fn tell_stop<W: Write>(&self, writer: &mut W) -> Result<(), Refusal> {
+        if self.stopped {
+            writeln!(writer, "stopped")?;
+        }
+        Ok(())
+    }
+
+    /// A disk that a cut left, in the order of the chain, until a recovery.
+    pub fn disk_left(&self, nth: usize) -> Option<&MemDisk> {
+        Some(&self.left.get(nth)?.disk)
+    }
+
+    /// The place in the chain of the member at the slot of a number, if there is one.
+    pub(crate) fn place(&self, member: u64) -> Option<usize> {
+        let world = self.world.as_ref()?;
+        (0..world.len()).find(|&at| at < world.len()
+            && u64::from(world.slot(at).number()) == member)
+    }
+}
