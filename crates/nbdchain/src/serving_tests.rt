@@ -90,34 +90,25 @@ where
     run_words(rt, &words).status
 }
 
-/// A client of a server of its own negotiates, and then sends and gets this: whether it got it, and the server's status.
-fn client<R>(rt: &R, dir: &String, last: Exchange) -> Result<(bool, u8), Fail>
-where
-    R: Files<File = File>
-        + Net<Listener = TcpListener, Stream = TcpStream>
-        + AllocGlobal
-        + Threads
-        + Wait
-        + Log
-        + Clock
-        + Copy
-        + Send
-        + 'static,
-{
-    let alloc = rt.alloc();
+/// A port that nobody listens at.
+fn free_port<R: Net<Listener = TcpListener, Stream = TcpStream>>(rt: &R) -> Result<u16, Fail> {
     let free = TcpListener::bind(rt, (Ipv4Addr::LOCALHOST, 0))?;
-    let port = free.local_addr()?.port();
-    drop(free);
-    let (handle, served) = (*rt, dir.clone()?);
-    let server = thread::spawn(rt, move || serve_once(&handle, &served, port))?;
+    Ok(free.local_addr()?.port())
+}
+
+/// A client of the server at the port negotiates, and then sends and gets this: whether it got it.
+fn talk<R: Net<Listener = TcpListener, Stream = TcpStream> + Clock + AllocGlobal>(
+    rt: &R,
+    port: u16,
+    last: Exchange,
+) -> Result<bool, Fail> {
+    let alloc = rt.alloc();
     let stream = connect(rt, port)?;
     let mut right = true;
     for one in NEGOTIATION {
         right = exchange(alloc, &stream, one)? && right;
     }
-    right = exchange(alloc, &stream, last)? && right;
-    drop(stream);
-    Ok((right, server.join(rt)))
+    Ok(exchange(alloc, &stream, last)? && right)
 }
 
 #[test]
@@ -139,10 +130,14 @@ fn formatted_and_served(rt: HostRuntime) -> Result<(), Fail> {
     words.extend_from_slice(&sizes)?;
     let formatted = run_words(&rt, &words);
     assert_eq!(rt; shown(&formatted.output), "formatted 1 members, 8 blocks\n");
-    let (wrote, status) = client(&rt, &dir, FIRST_WRITE)?;
-    assert!(rt; wrote && status == 0);
-    let (read, status) = client(&rt, &dir, FIRST_READ)?;
-    assert!(rt; read && status == 0);
+    let (port, first_dir) = (free_port(&rt)?, dir.clone()?);
+    let first = thread::spawn(&rt, move || serve_once(&rt, &first_dir, port))?;
+    let wrote = talk(&rt, port, FIRST_WRITE)?;
+    assert!(rt; first.join(&rt) == 0 && wrote);
+    let (port, second_dir) = (free_port(&rt)?, dir.clone()?);
+    let second = thread::spawn(&rt, move || serve_once(&rt, &second_dir, port))?;
+    let read = talk(&rt, port, FIRST_READ)?;
+    assert!(rt; second.join(&rt) == 0 && read);
     fs::remove_dir_all(&rt, dir.as_str())?;
     Ok(())
 }
