@@ -11,7 +11,7 @@ use Rattle.board.specs.declared.view.Step.{Step}
 use Rattle.board.specs.declared.view.View.{View}
 use Rattle.board.specs.Steps.{Counts, Finds, NeverBack, then, mask_then, words_after}
 use Rattle.board.specs.Rule.{BoardRule}
-use Rattle.board.specs.Told.{Told}
+use Rattle.board.specs.Told.{StepTold}
 use Rattle.board.proofs.Growth.{at_within}
 use Rattle.board.proofs.Keeping.{MaskTurn}
 
@@ -30,7 +30,7 @@ alone_is opening words views id view r seated one =
 
 -- what the seat is told, once the rule holds again
 pub told : (opening : Opening) (words : List ℕ) (views : List View) (id : ℕ) (view : View) (last : Step) (i left : ℕ) → i < length words → get_elem? views id ≡ some view
-    → BoardRule opening (set words i left) (set views id (then view last)) → Told i left last view (then view last)
+    → BoardRule opening (set words i left) (set views id (then view last)) → StepTold i left last view (then view last)
 told opening words views id view last i left inside seated r =
     let now : get_elem? (set views id (then view last)) id ≡ some (then view last) = set_here views id (then view last) (at_within views id view seated) in
     record {

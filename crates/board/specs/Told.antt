@@ -19,7 +19,7 @@ first opening = fresh opening true
 
 -- one step of a seat left this number in the word: its view has that step more, and keeps the rule. On a board with one
 -- seat the number is what the board opened with, after that view's steps
-pub record Told (word left : ℕ) (step : Step) (before after : View) : Type 0 where
+pub record StepTold (word left : ℕ) (step : Step) (before after : View) : Type 0 where
   pub entry : after ≡ then before step
   pub ruled : Ruled after
   pub alone : after.opening.seats ≡ 1 → left ≡ slice_index (words_after after.opening.words after.steps) word
@@ -32,7 +32,7 @@ sits exchange before found after = after.0 ≡ fresh before.0.opening false
 
 -- what a step on the front tells: what was found, and what was left
 abbrev pub FrontTold : ℕ → ℕ → Step → Seated → Seated → Type 0
-FrontTold found left step before after = Told 0 left step before.0 after.0 × NeverBack 0 before.0.steps found × (found ≤ GREATEST) × (after.1 ≡ before.1)
+FrontTold found left step before after = StepTold 0 left step before.0 after.0 × NeverBack 0 before.0.steps found × (found ≤ GREATEST) × (after.1 ≡ before.1)
 
 abbrev pub looks : Exchange (Unit {0}) → Seated → ℕ → Seated → Type 0
 looks exchange before found after = FrontTold found found (Look found) before after
@@ -42,7 +42,7 @@ raises exchange before found after = let left = max found exchange.first in Fron
 
 -- what a step on a slot's gauge tells
 abbrev pub GaugeTold : ℕ → ℕ → ℕ → Step → Seated → Seated → Type 0
-GaugeTold slot found left step before after = Told (gauge_word slot) left step before.0 after.0 × NeverBack (gauge_word slot) before.0.steps found × (after.1 ≡ before.1)
+GaugeTold slot found left step before after = StepTold (gauge_word slot) left step before.0 after.0 × NeverBack (gauge_word slot) before.0.steps found × (after.1 ≡ before.1)
 
 abbrev pub gauges : Exchange (Unit {0}) → Seated → ℕ → Seated → Type 0
 gauges exchange before found after = (slot : ℕ) → exchange.word ≡ gauge_word slot → GaugeTold slot found found (Gauge slot found) before after
@@ -53,7 +53,7 @@ posts exchange before found after = (slot : ℕ) → exchange.word ≡ gauge_wor
 
 -- what a step on the mask tells. Its mask is known to the counting seat
 abbrev pub crews : Exchange (Unit {0}) → Seated → ℕ → Seated → Type 0
-crews exchange before found after = Told 1 found (Crew found) before.0 after.0 × (found < 256) × (after.1 ≡ before.1)
+crews exchange before found after = StepTold 1 found (Crew found) before.0 after.0 × (found < 256) × (after.1 ≡ before.1)
     × (before.0.counts ≡ true → found ≡ mask_after (slice_index before.0.opening.words 1) before.0.steps)
 
 abbrev pub MaskTold : Step → Seated → Seated → Type 0

@@ -23,7 +23,7 @@ use Rattle.chain_steps.specs.declared.cause.Cause.TheVariants.{Device, Memory, T
 use Rattle.chain_core.specs.Commits.{HasStoppedBy, HasWorked}
 use Rattle.chain_core.specs.Node.{Seen}
 use Rattle.world_model.specs.Backing.{Disk, IsBacked, IsOnDisk}
-use Rattle.world_model.specs.Chain.{ArePutOut, Member, Told, View, disk_of}
+use Rattle.world_model.specs.Chain.{ArePutOut, Member, BoardInUse, View, disk_of}
 use Rattle.world_model.specs.ChainSteps.{all_between, flat_same, flat_split}
 use Rattle.world_model.specs.Counting.{all_before, all_behind}
 use Rattle.world_model.specs.Event.{ClientEvent}
@@ -184,7 +184,7 @@ gauge_raised P receipt rises slot (gauge ∷ gauges) (suc at) here all =
     (gauge_raised P receipt rises (slot + 1) gauges at (omega (arith, here)) (All-tail P (record { slot = slot; front = gauge }) (gauges_from (slot + 1) gauges) all))
 
 -- the board tells something else, and no member changes
-pub board_tells : {size : ℕ} (v : View) (told : Told) (over : List Member) (m : Member) (under : List Member) (events : List ClientEvent) → v.members ≡ over ++ m ∷ under → told.front ≡ v.told.front
+pub board_tells : {size : ℕ} (v : View) (told : BoardInUse) (over : List Member) (m : Member) (under : List Member) (events : List ClientEvent) → v.members ≡ over ++ m ∷ under → told.front ≡ v.told.front
     → ((disks : List Disk) → IsBacked v.told.front v.told.mask v.told.gauges v.told.receipts v.told.musters disks → IsBacked told.front told.mask told.gauges told.receipts told.musters disks)
     → (All (λ f. f ≤ v.told.front) v.told.fronts → All (λ f. f ≤ told.front) told.fronts) → ArePutOut [] events
     → Goes size v (record v { told = told; members = over ++ m ∷ under }) events
@@ -250,7 +250,7 @@ module _ {S : Type 0} (about : S → About) (keeps : S → List ℕ → Type 0) 
       each = [];
       inner = refl;
       era = (
-        ap (λ (t : Told). record v { told = t; members = over ++ m ∷ under })
+        ap (λ (t : BoardInUse). record v { told = t; members = over ++ m ∷ under })
             (rw (gathers (λ x. fronts_of x.front) after same.front, gathers (λ x. musters_of x.muster) after same.muster, gathers (λ x. receipts_of x.receipt) after same.receipt) (sym shows.told))
             ∙ ap (λ (ms : List Member). record v { members = ms }) (sym are),
         refl,
@@ -410,9 +410,9 @@ module _ {S : Type 0} (about : S → About) (keeps : S → List ℕ → Type 0) 
       m,
       shown_still about keeps may_leave_now old before rid m m so so.is refl refl refl refl (λ runs. runs),
       board_tells v (told_of (with_words (posted old.words receipt) rid)) over m under events are
-          (sym (ap (λ (t : Told). t.front) shows.told))
-          (λ disks is. posted_backed disks (subst (λ (t : Told). IsBacked t.front t.mask t.gauges t.receipts t.musters disks) shows.told is))
-          (λ all. rw (gathers (λ x. fronts_of x.front) rid refl) (subst (λ (t : Told). All (λ f. f ≤ t.front) t.fronts) shows.told all))
+          (sym (ap (λ (t : BoardInUse). t.front) shows.told))
+          (λ disks is. posted_backed disks (subst (λ (t : BoardInUse). IsBacked t.front t.mask t.gauges t.receipts t.musters disks) shows.told is))
+          (λ all. rw (gathers (λ x. fronts_of x.front) rid refl) (subst (λ (t : BoardInUse). All (λ f. f ≤ t.front) t.fronts) shows.told all))
           put_out,
     ))
 

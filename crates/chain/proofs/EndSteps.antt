@@ -19,7 +19,7 @@ use Rattle.chain_steps.specs.Steps.{ended, silent, stop, volume_at}
 use Rattle.chain_steps.specs.declared.cause.Cause.{Cause}
 use Rattle.chain_steps.specs.declared.cause.Cause.TheVariants.{Device, Memory}
 use Rattle.world_model.specs.Backing.{Disk, IsBacked, IsOnDisk}
-use Rattle.world_model.specs.Chain.{ArePutOut, Member, StandsFor, Told, View, disk_of, slot_of}
+use Rattle.world_model.specs.Chain.{ArePutOut, Member, StandsFor, BoardInUse, View, disk_of, slot_of}
 use Rattle.world_model.specs.ChainLaws.{with_members}
 use Rattle.world_model.specs.ChainSteps.{maps_same}
 use Rattle.world_model.specs.Counting.{all_at}
@@ -87,7 +87,7 @@ receipt_on_disk over g under front apart durable =
         (others xs (All-tail (λ slot. slot ≢ slot_of g) (slot_of x) (map slot_of xs) all))
 
 -- a member does so, and then the board tells something else
-pub does_then_tells : {size : ℕ} (v : View) (doing : Doing) (over : List Member) (m g : Member) (under : List Member) (told : Told) (events : List ClientEvent) → v.members ≡ over ++ m ∷ under → Does v doing m g events
+pub does_then_tells : {size : ℕ} (v : View) (doing : Doing) (over : List Member) (m g : Member) (under : List Member) (told : BoardInUse) (events : List ClientEvent) → v.members ≡ over ++ m ∷ under → Does v doing m g events
     → IsTold (with_members v (over ++ g ∷ under)) (record v { told = told; members = over ++ g ∷ under }) → Goes size v (record v { told = told; members = over ++ g ∷ under }) events
 does_then_tells v doing over m g under told events were did tells = record {
   happenings = MemberDoes doing ∷ BoardTells ∷ [];
@@ -267,10 +267,10 @@ module _ {S : Type 0} (premise : Type 0) (about : S → About) (is_pending : S �
               → IsTold (with_members v (over ++ shown_as m ∷ others)) (record v { told = told_of then; members = over ++ shown_as m ∷ others })
           tells over m others are fits = record {
             told = told_of then;
-            front = sym (ap (λ (t : Told). t.front) shows.told);
+            front = sym (ap (λ (t : BoardInUse). t.front) shows.told);
             backed = λ was. backed_so (map disk_of (over ++ shown_as m ∷ others)) (on_disk over m others are fits)
-                (subst (λ (t : Told). IsBacked t.front t.mask t.gauges t.receipts t.musters (map disk_of (over ++ shown_as m ∷ others))) shows.told was);
-            fronts = λ all. rw (gathers about keeps may_leave_now old at before here (λ x. fronts_of x.front) done refl) (subst (λ (t : Told). All (λ f. f ≤ t.front) t.fronts) shows.told all);
+                (subst (λ (t : BoardInUse). IsBacked t.front t.mask t.gauges t.receipts t.musters (map disk_of (over ++ shown_as m ∷ others))) shows.told was);
+            fronts = λ all. rw (gathers about keeps may_leave_now old at before here (λ x. fronts_of x.front) done refl) (subst (λ (t : BoardInUse). All (λ f. f ≤ t.front) t.fronts) shows.told all);
             are = refl;
           }
 

@@ -20,7 +20,7 @@ use Rattle.chain_steps.specs.declared.cause.Cause.TheVariants as causes
 use Rattle.world_model.specs.Backing.{Disk, IsBacked, IsMustered, IsOnDisk, IsWhole}
 use Rattle.world_model.specs.Backing as model
 use Rattle.world_model.specs.BackingSteps.{backs_crew, floor_is_backed, musters_gauge}
-use Rattle.world_model.specs.Chain.{ArePutOut, Member, StandsFor, Told, View, disk_of}
+use Rattle.world_model.specs.Chain.{ArePutOut, Member, StandsFor, BoardInUse, View, disk_of}
 use Rattle.world_model.specs.ChainLaws.{with_members}
 use Rattle.world_model.specs.ChainSteps.{flat_same, flat_split}
 use Rattle.world_model.specs.Counting.{all_before, all_behind}
@@ -89,12 +89,12 @@ stands_now {S} old now v s same stands = subst (λ (c : Chained S). StandsFor (b
 -- ---- the board tells
 
 -- what is told then is so, where what was told is
-pub record TellsSo (was is : Told) : Type 0 where
+pub record TellsSo (was is : BoardInUse) : Type 0 where
   pub front : is.front ≡ was.front
   pub backed : (disks : List Disk) → IsBacked was.front was.mask was.gauges was.receipts was.musters disks → IsBacked is.front is.mask is.gauges is.receipts is.musters disks
   pub fronts : All (λ f. f ≤ was.front) was.fronts → All (λ f. f ≤ is.front) is.fronts
 
-told_so : (v : View) (was is : Told) → v.told ≡ was → TellsSo was is → IsTold v (record v { told = is })
+told_so : (v : View) (was is : BoardInUse) → v.told ≡ was → TellsSo was is → IsTold v (record v { told = is })
 told_so v was is shown so =
     let here : TellsSo v.told is = subst (λ t. TellsSo t is) (sym shown) so in
     record { told = is; front = here.front; backed = here.backed (map disk_of v.members); fronts = here.fronts; are = refl }
@@ -276,7 +276,7 @@ module _ {S : Type 0} (about : S → About) (old : Chained S) (at : ℕ) (before
     pub mustered_goes : (keeps : S → List ℕ → Type 0) (may_leave_now : S → List ℕ → Type 0) (v : View) (s : State) (events : List ClientEvent) → Shows about keeps may_leave_now old v → StandsFor (bytes_of old) v s → ArePutOut [] events
         → (w : View) × Shows about keeps may_leave_now then w × Goes (bytes_of old) v w events
     mustered_goes keeps may_leave_now v s events shows (line, backed, stands) put_out =
-        let told : All (λ f. f ≤ (told_of old).front) (told_of old).fronts = subst (λ (t : Told). All (λ f. f ≤ t.front) t.fronts) shows.told stands.fronts in
+        let told : All (λ f. f ≤ (told_of old).front) (told_of old).fronts = subst (λ (t : BoardInUse). All (λ f. f ≤ t.front) t.fronts) shows.told stands.fronts in
         let own : All (λ f. f ≤ old.words.front) (fronts_of before.front) = of_one (λ m. fronts_of m.front) old.members at before after here (λ f. f ≤ old.words.front) told in
         let committed : did.front.number ≤ old.words.front = All-head (λ f. f ≤ old.words.front) did.front.number [] (subst (λ (o : Option FoundFront). All (λ f. f ≤ old.words.front) (fronts_of o)) did.had own) in
         board_tells about keeps may_leave_now old at before after here v events shows put_out
@@ -409,14 +409,14 @@ module _ {S : Type 0} (about : S → About) (old : Chained S) (at : ℕ) (before
   settled_goes keeps may_leave_now v s events shows (line, backed, stands) put_out =
       let floor = least_of did.muster.crew.front (gauges_of did.muster.gauges) in
       let disks = map disk_of v.members in
-      let told : All (IsMustered old.words.front disks) (told_of old).musters = subst (λ (t : Told). All (IsMustered t.front disks) t.musters) shows.told stands.disks.mustered in
+      let told : All (IsMustered old.words.front disks) (told_of old).musters = subst (λ (t : BoardInUse). All (IsMustered t.front disks) t.musters) shows.told stands.disks.mustered in
       let own : All (IsMustered old.words.front disks) (musters_of before.muster) = of_one (λ m. musters_of m.muster) old.members at before after here (IsMustered old.words.front disks) told in
       let one : IsMustered old.words.front disks (muster_seen did.muster) =
       All-head (IsMustered old.words.front disks) (muster_seen did.muster) [] (subst (λ (o : Option Muster). All (IsMustered old.words.front disks) (musters_of o)) did.had own) in
       let least : model.least_of did.muster.crew.front (map gauge_seen did.muster.gauges) ≡ floor = least_seen did.muster.crew.front did.muster.gauges in
       let on : (floor ≤ old.words.front) × All (λ d. floor ≤ d.durable) disks =
       subst (λ (f : ℕ). (f ≤ old.words.front) × All (λ d. f ≤ d.durable) disks) least (floor_is_backed old.words.front disks (muster_seen did.muster) one (whole_of did.muster did.whole)) in
-      let within : floor ≤ v.told.front = subst (λ (t : Told). floor ≤ t.front) (sym shows.told) on.0 in
+      let within : floor ≤ v.told.front = subst (λ (t : BoardInUse). floor ≤ t.front) (sym shows.told) on.0 in
       elim did.did [
         | inl answers ↦ settled_by (λ n. (answer_floor floor n).node) answers.node (λ n. refl) (λ n. refl) (λ n. refl) (λ n. refl) (λ n. refl) keeps may_leave_now (AnswerFloor floor) v events shows (λ n. refl) (λ n. refl)
             (λ m same. (within, on.1, rw same (rw (← ap (λ (o : Out). o.replies) answers.sent, did.told) put_out), refl))

@@ -6,7 +6,7 @@ use Rattle.std.proofs.lemmas.List.{append-nil, length-map, map-append}
 use Rattle.local_store.specs.About.{About}
 use Rattle.chain_steps.specs.Node.{last_of}
 use Rattle.chain_steps.specs.declared.found.Found.TheVariants.{Looked, Raised}
-use Rattle.world_model.specs.Chain.{ArePutOut, Member, StandsFor, Told, View, hop_of}
+use Rattle.world_model.specs.Chain.{ArePutOut, Member, StandsFor, BoardInUse, View, hop_of}
 use Rattle.world_model.specs.ChainLaws.{with_members}
 use Rattle.world_model.specs.Event.{ClientEvent}
 use Rattle.world_model.specs.Life.{FrontRaised, KeepRaised, LookUp, MemberDoes}
@@ -31,7 +31,7 @@ module _ {S : Type 0} (about : S → About) (old : Chained S) (at : ℕ) (before
       one_does about keeps may_leave_now old at before _ here (LookUp did.front) v events (record { front = refl; muster = refl; receipt = refl }) shows (λ m so. (
         record m { node = record m.node { found = Some (Looked did.front) } },
         shown_still about keeps may_leave_now old before _ m _ so (ap (λ (x : Member). record x { node = record x.node { found = Some (Looked did.front) } }) so.is) refl refl refl refl (λ runs. runs),
-        (did.of_number ∙ found ∙ sym (ap (λ (t : Told). t.front) shows.told), refl, put_out),
+        (did.of_number ∙ found ∙ sym (ap (λ (t : BoardInUse). t.front) shows.told), refl, put_out),
       )))
 
 -- ---- the tail raises the front
@@ -91,7 +91,7 @@ module _ {S : Type 0} (about : S → About) (old : Chained S) (at : ℕ) (before
       let last : ℕ = last_of twin.own.node in
       let same : last ≡ last_of before.node.state = ap (λ (m : Member). last_of m.node) twin.fits.is in
       let least : v.told.front ≤ last = tail_has (bytes_of old) v s twin.over twin.own were stands in
-      let words : v.told.front ≡ old.words.front = ap (λ (t : Told). t.front) shows.told in
+      let words : v.told.front ≡ old.words.front = ap (λ (t : BoardInUse). t.front) shows.told in
       let greatest : last ≡ max old.words.front (last_of before.node.state) = omega (arith, same, least, words) in
       let mid : View = record v { told = record v.told { front = last } } in
       let new : Member = record twin.own { node = record twin.own.node { found = Some (Raised did.front) } } in
@@ -100,7 +100,7 @@ module _ {S : Type 0} (about : S → About) (old : Chained S) (at : ℕ) (before
         w,
         record {
           told =
-              ap (λ (t : Told). record t { front = last }) shows.told
+              ap (λ (t : BoardInUse). record t { front = last }) shows.told
               ∙ ap (λ (n : ℕ). record (told_of old) { front = n }) greatest
               ∙ rw (gathered (λ m. fronts_of m.front) old.members at before after here (ap (λ m. fronts_of m.front) did.are), gathered (λ m. musters_of m.muster) old.members at before after here (ap (λ m. musters_of m.muster) did.are), gathered (λ m. receipts_of m.receipt) old.members at before after here (ap (λ m. receipts_of m.receipt) did.are)) refl;
           members = subst (λ l. AllZip IsSo l (twin.over ++ new ∷ [])) (sym (place.setting after)) (twin.others after new [] []

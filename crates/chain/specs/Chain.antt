@@ -10,7 +10,7 @@ use Rattle.gate_journal.specs.Receipt.{Receipt}
 use Rattle.local_store.specs.About.{About}
 use Rattle.volume.specs.declared.geometry.Geometry.{Geometry}
 use Rattle.chain_steps.specs.Node.{is_stopped}
-use Rattle.world_model.specs.Chain.{ArePutOut, StandsFor, Told, View}
+use Rattle.world_model.specs.Chain.{ArePutOut, StandsFor, BoardInUse, View}
 use Rattle.world_model.specs.Event.{ClientEvent}
 use Rattle.world_model.specs.Life.{Era, Happening, HeadNumbers, PutApplied, AckTaken, FrontRaised, BoardTells, MemberDoes, MemberTakes, RequestsSent, RequestsTakenUp, SessionBegins, SessionEnds, all_events}
 use Rattle.world_model.specs.Machine.{State}
@@ -55,7 +55,7 @@ gauges_from slot [] = []
 gauges_from slot (front ∷ fronts) = record { slot = slot; front = front } ∷ gauges_from (slot + 1) fronts
 
 -- the board, and what of it is in use
-abbrev pub told_of : {S : Type 0} → Chained S → Told
+abbrev pub told_of : {S : Type 0} → Chained S → BoardInUse
 told_of c = record {
   front = c.words.front;
   mask = c.words.mask;

@@ -13,7 +13,7 @@ use Rattle.flush_barrier.specs.declared.error_code.ErrorCode.{ErrorCode}
 use Rattle.flush_barrier.specs.declared.session_id.SessionId.{SessionId}
 use Rattle.nbd_session.specs.Begun.{greeted}
 use Rattle.nbd_session.specs.Demand.{Asked}
-use Rattle.nbd_session.specs.Lawful.{History, IsLawful, Stands, fed_and_asked, handed_out, nothing, replied, sent_by}
+use Rattle.nbd_session.specs.Lawful.{History, IsLawful, HasHistory, fed_and_asked, handed_out, nothing, replied, sent_by}
 use Rattle.nbd_session.specs.Laws.{HistoriesAreLawful, OutputIsLawful, RepliesAreLawful}
 use Rattle.nbd_session.specs.Progress.{is_over}
 use Rattle.nbd_session.specs.Replies.{WireReply, answered, is_owed, reply_seen, seen_with}
@@ -48,7 +48,7 @@ goes_answered laws s h reply (inr (over, is_lawful)) = over_answered s h reply o
 pub goes_ended : HistoriesAreLawful → (s : State) (h : History) → Goes s h → Goes (record s { phase = Over; kept = [] }) h
 goes_ended laws s h goes = inr (refl, goes_lawful laws s h goes)
 
-pub goes_fed : (s next : State) (h later : History) → is_over s.phase ≡ false → (Stands s h → Stands next later) → Goes s h
+pub goes_fed : (s next : State) (h later : History) → is_over s.phase ≡ false → (HasHistory s h → HasHistory next later) → Goes s h
     → Goes next later
 goes_fed s next h later still stays (inl stands) = inl (stays stands)
 goes_fed s next h later still stays (inr (over, is_lawful)) = let is : is_over s.phase ≡ true = ap is_over over in absurd cc

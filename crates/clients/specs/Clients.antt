@@ -5,7 +5,7 @@ use Rattle.board.specs.Seats.{BoardId}
 use Rattle.flush_barrier.specs.declared.session_id.SessionId.{SessionId}
 use Rattle.nbd_session.specs.Demand.{Asked, asked_by, owed_by}
 use Rattle.nbd_session.specs.Demand as demands
-use Rattle.nbd_session.specs.Lawful.{History, IsLawful, Stands, nothing, sent_by}
+use Rattle.nbd_session.specs.Lawful.{History, IsLawful, HasHistory, nothing, sent_by}
 use Rattle.nbd_session.specs.Replies.{WireReply, seen_with}
 use Rattle.nbd_session.specs.Session.{Holds, State}
 use Rattle.nbd_session.specs.declared.answer.Export.{Export}
@@ -72,11 +72,11 @@ AreKept clients kept = AllZip Keeps clients kept
 
 -- ---- how sessions go on
 
--- A session's history is that of a lawful session; or it was ended by its client or for want of memory, and what had gone out or waited
+-- A session's history is that of a lawful session; or it was ended by its client or where memory runs out, and what had gone out or waited
 -- then is lawful.
 abbrev pub Goes : State → History → Type 0
 Goes session history =
-    Stands session history
+    HasHistory session history
     ⊎ ((session.phase ≡ Over) × IsLawful session.export history.fed (sent_by session history) history.asked history.replies)
 
 -- each session has its history, and one that hasn't begun has none

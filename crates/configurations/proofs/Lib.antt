@@ -1,4 +1,4 @@
 mod MemberLists
 mod Openings
-mod Spellings
+mod Encodings
 mod Stores

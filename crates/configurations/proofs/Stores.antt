@@ -5,14 +5,14 @@ use Rattle.disk_model.specs.Frames.{started_inside}
 use Rattle.disk_model.specs.Moments.{weaker}
 use Rattle.disk_model.specs.Part.{inside}
 use Rattle.gate_journal.specs.Pair.{Entry, HoldsClosing, HoldsStored, IsSettledPair, Slots, last_number, newest, next_slot, with_entry}
-use Rattle.configurations.specs.Record.{IsSpelling, Record}
+use Rattle.configurations.specs.Record.{IsEncoding, Record}
 use Rattle.configurations.specs.Store.{HoldsOldOrNew, HoldsRecord, IsSettledConfig, Records, State, settled_leaves}
-use Rattle.configurations.proofs.Spellings.{records_apart}
+use Rattle.configurations.proofs.Encodings.{records_apart}
 
 -- an entry records one record at most
 pub one_record : (entry : Option Entry) (some other : Record) → Records entry some → Records entry other → some ≡ other
-one_record None some other spells spells' = absurd spells
-one_record (Some entry) some other spells spells' = records_apart some other spells.is spells'.is (sym spells.spelled ∙ spells'.spelled)
+one_record None some other encodes encodes' = absurd encodes
+one_record (Some entry) some other encodes encodes' = records_apart some other encodes.is encodes'.is (sym encodes.encoded ∙ encodes'.encoded)
 
 -- the slot that a store goes into can be emptied: the newer entry stays
 abbrev pub Empties : Type 0
@@ -37,7 +37,7 @@ module _ (store : State) (gives : List ℕ) (may_leave : List ℕ → Type 0) (s
       (λ holds. record { slots = with_entry into None slots; holds = holds; newer = subst (λ (e : Option Entry). Records e store.current) (sym same) settled.newer })
       held
 
-  module _ (payload : List ℕ) (new : Record) (spells : IsSpelling payload new) where
+  module _ (payload : List ℕ) (new : Record) (encodes : IsEncoding payload new) where
     abbrev entry : Entry
     entry = record { number = store.pair.number + 1; payload = payload }
 
@@ -49,7 +49,7 @@ module _ (store : State) (gives : List ℕ) (may_leave : List ℕ → Type 0) (s
         (λ holds. inl (still_held empties bytes (inl holds)))
         (λ either. ⊎_elim
         (λ holds. inl (still_held empties bytes (inr holds)))
-        (λ holds. inr (record { slots = with_entry into (Some entry) slots; holds = holds; newer = subst (λ (e : Option Entry). Records e new) (sym same) spells }))
+        (λ holds. inr (record { slots = with_entry into (Some entry) slots; holds = holds; newer = subst (λ (e : Option Entry). Records e new) (sym same) encodes }))
         either)
         held
 
@@ -72,9 +72,9 @@ module _ (view now : State) (is : view ≡ now) {gives : List ℕ} {may_leave : 
       (λ c. still_held view gives may_leave settled empties (inside view.pair.part c)) (run settled.slots settled.pair))
 
   -- while a new one is stored, it is the old one or the new
-  pub either_storing : Fills → (payload : List ℕ) (new : Record) → IsSpelling payload new
+  pub either_storing : Fills → (payload : List ℕ) (new : Record) → IsEncoding payload new
       → ((slots : Slots) → IsSettledPair view.pair slots gives may_leave → LeavesOnly moment left_since from to (λ c. HoldsStored slots view.pair.into (record { number = view.pair.number + 1; payload = payload }) (inside view.pair.part c)))
       → IsSettledConfig now gives may_leave → LeavesOnly moment left_since from to (λ c. HoldsOldOrNew now.current new (inside now.pair.part c))
-  either_storing fills payload new spells run = subst (λ (s : State). IsSettledConfig s gives may_leave → LeavesOnly moment left_since from to (λ c. HoldsOldOrNew s.current new (inside s.pair.part c))) is
+  either_storing fills payload new encodes run = subst (λ (s : State). IsSettledConfig s gives may_leave → LeavesOnly moment left_since from to (λ c. HoldsOldOrNew s.current new (inside s.pair.part c))) is
       (λ settled. weaker moment left_since from to (λ c. HoldsStored settled.slots view.pair.into (record { number = view.pair.number + 1; payload = payload }) (inside view.pair.part c)) (λ c. HoldsOldOrNew view.current new (inside view.pair.part c))
-      (λ c. old_or_new view gives may_leave settled payload new spells empties fills (inside view.pair.part c)) (run settled.slots settled.pair))
+      (λ c. old_or_new view gives may_leave settled payload new encodes empties fills (inside view.pair.part c)) (run settled.slots settled.pair))

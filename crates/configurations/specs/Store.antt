@@ -5,20 +5,20 @@ use Rattle.disk_model.specs.Part.{inside, LeftInside}
 use Rattle.disk_model.specs.declared.part.Part.{Part}
 use Rattle.gate_journal.specs.Pair.{Entry, HoldsPair, IsCleared, IsSettledPair, Pair, Slots, newest, stored}
 use Rattle.gate_journal.specs.declared.batch.TheConstants.{MAX_NUMBER}
-use Rattle.configurations.specs.Record.{IsSpelling, Record}
+use Rattle.configurations.specs.Record.{IsEncoding, Record}
 
--- the payload of this entry spells the record
+-- the payload of this entry encodes the record
 abbrev pub Records : Option Entry → Record → Type 0
 Records None r = ⊥
-Records (Some entry) r = IsSpelling entry.payload r
+Records (Some entry) r = IsEncoding entry.payload r
 
--- the bytes of a pair hold this record: the payload of their newer open slot spells it
+-- the bytes of a pair hold this record: the payload of their newer open slot encodes it
 pub record HoldsRecord (r : Record) (bytes : List ℕ) : Type 0 where
   pub slots : Slots
   pub holds : HoldsPair slots bytes
   pub newer : Records (newest slots) r
 
--- the bytes hold no record: no slot is open, or the newer open one spells none
+-- the bytes hold no record: no slot is open, or the newer open one encodes none
 abbrev pub HoldsNone : List ℕ → Type 0
 HoldsNone bytes = (r : Record) → HoldsRecord r bytes → ⊥
 

@@ -1,14 +1,14 @@
-//! Laws of spellings and of what a part holds, for callers that argue about bytes. The functions do nothing.
+//! Laws of encodings and of what a part holds, for callers that argue about bytes. The functions do nothing.
 
 ghost use Rattle.std.specs.Prelude.{◌≡◌, ℕ, List};
-ghost use Rattle.configurations.specs.Record.{IsRecord, Record, record_spelling};
+ghost use Rattle.configurations.specs.Record.{IsRecord, Record, record_encoding};
 ghost use Rattle.configurations.specs.Store.{HoldsRecord};
 
 use gate_journal::pair_readings_are_one;
 
-/// No two records have one spelling.
-pub fn spellings_differ()
-    ensures { (some other : Record) → IsRecord some → IsRecord other → record_spelling some ≡ record_spelling other → some ≡ other }
+/// No two records have one encoding.
+pub fn encodings_differ()
+    ensures { (some other : Record) → IsRecord some → IsRecord other → record_encoding some ≡ record_encoding other → some ≡ other }
 {}
 
 /// The bytes of a pair hold one record at most.

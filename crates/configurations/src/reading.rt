@@ -2,7 +2,7 @@
 ghost use Rattle.std.specs.Prelude.{◌≡◌, ◌++◌, ◌^◌, ◌<◌, List, length, IfOk, IfSome, IfNone};
 ghost use Rattle.byteorder.specs.Endian.{big_bytes};
 ghost use Rattle.configurations.specs.declared.member.Member.{Member};
-ghost use Rattle.configurations.specs.Record.{AreSpelled, HasNoHeader, HasNoMember, IsMember, header_spelling, member_spelling};
+ghost use Rattle.configurations.specs.Record.{AreEncoded, HasNoHeader, HasNoMember, IsMember, header_encoding, member_encoding};
 
 use crate::record::PREFIX;
 use crate::{Epoch, Incarnation, Member};
@@ -28,7 +28,7 @@ pub(crate) struct Header<'a> {
 
 /// The header that bytes begin with.
 pub(crate) fn read_header(bytes: &[u8]) -> Option<Header<'_>>
-    ensures header { IfSome result (λ h. bytes.now ≡ header_spelling h.epoch h.count ++ h.behind.now) }
+    ensures header { IfSome result (λ h. bytes.now ≡ header_encoding h.epoch h.count ++ h.behind.now) }
     ensures epoch { IfSome result (λ h. h.epoch < 2 ^ 63) }
     ensures none { IfNone result (HasNoHeader bytes.now) }
 {
@@ -45,7 +45,7 @@ pub(crate) fn read_header(bytes: &[u8]) -> Option<Header<'_>>
 
 /// The member that bytes begin with, and what is behind it.
 fn read_member(bytes: &[u8]) -> Option<(Member, &[u8])>
-    ensures member { IfSome result (λ p. bytes.now ≡ member_spelling p.0 ++ p.1.now) }
+    ensures member { IfSome result (λ p. bytes.now ≡ member_encoding p.0 ++ p.1.now) }
     ensures is { IfSome result (λ p. IsMember p.0) }
     ensures none { IfNone result (HasNoMember bytes.now) }
 {
@@ -56,14 +56,14 @@ fn read_member(bytes: &[u8]) -> Option<(Member, &[u8])>
     Some((Member { slot, incarnation }, behind))
 }
 
-/// The members that bytes spell, where they spell so many.
+/// The members that bytes encode, where they encode so many.
 pub(crate) fn read_members(
     alloc: Global,
     count: u8,
     bytes: &[u8],
 ) -> Result<Option<Vec<Member>>, AllocError>
-    ensures found { IfOk result (λ found. IfSome found (λ members. AreSpelled count bytes.now members.items)) }
-    ensures none { IfOk result (λ found. IfNone found ((members : List Member) → AreSpelled count bytes.now members → ⊥)) }
+    ensures found { IfOk result (λ found. IfSome found (λ members. AreEncoded count bytes.now members.items)) }
+    ensures none { IfOk result (λ found. IfNone found ((members : List Member) → AreEncoded count bytes.now members → ⊥)) }
 {
     let mut members = Vec::new(alloc);
     let mut rest = bytes;

@@ -10,7 +10,7 @@ use std::marker::Model;
 /// The most members that a chain has.
 pub const MAX_MEMBERS: usize = 8;
 
-/// What the bytes of a record begin with: the magic, and the version of the spelling.
+/// What the bytes of a record begin with: the magic, and the version of the encoding.
 pub(crate) const PREFIX: [u8; 12] = *b"CRAQCONF\x00\x00\x00\x01";
 
 /// A configuration: an epoch, and the members of the chain in its order.
@@ -32,7 +32,7 @@ impl Model for Record {
 
 impl Record {
     ghost use Rattle.std.specs.Prelude.{◌≡◌, ◌↔◌, ◌≤◌, length, Some, IfOk, IfSome, OnOk, IsOk, IsErrOf};
-    ghost use Rattle.configurations.specs.Record.{AreMembers, IsRecord, IsSpelling, Record as Spelled, record_spelling};
+    ghost use Rattle.configurations.specs.Record.{AreMembers, IsRecord, IsEncoding, Record as Encoded, record_encoding};
 
     /// The configuration of this epoch and these members, in the chain's order. 163 `BadMembers` for none, for more
     /// than eight, and for a slot twice.
@@ -64,8 +64,8 @@ impl Record {
     }
 
     /// The bytes that record it, at most 93.
-    pub fn spelled(&self, alloc: Global) -> Result<Vec<u8>, AllocError>
-        ensures spelling { IfOk result (λ bytes. bytes.items ≡ record_spelling self.now) }
+    pub fn encoded(&self, alloc: Global) -> Result<Vec<u8>, AllocError>
+        ensures encoding { IfOk result (λ bytes. bytes.items ≡ record_encoding self.now) }
         ensures short { IfOk result (λ bytes. length bytes.items ≤ 93) }
         ensures whole { OnOk result (IsRecord self.now) }
     {
@@ -81,10 +81,10 @@ impl Record {
         Ok(bytes)
     }
 
-    /// The record that these bytes spell, or `None` where they spell none.
+    /// The record that these bytes encode, or `None` where they encode none.
     pub fn read(alloc: Global, bytes: &[u8]) -> Result<Option<Record>, AllocError>
-        ensures found { IfOk result (λ found. IfSome found (IsSpelling bytes.now)) }
-        ensures exact { IfOk result (λ found. (r : Spelled) → IsSpelling bytes.now r → found ≡ Some r) }
+        ensures found { IfOk result (λ found. IfSome found (IsEncoding bytes.now)) }
+        ensures exact { IfOk result (λ found. (r : Encoded) → IsEncoding bytes.now r → found ≡ Some r) }
     {
         let Some(header) = read_header(bytes) else {
             return Ok(None);

@@ -15,7 +15,7 @@ pub enum Refusal {
     /// A device call failed before: the store answers so until it is opened again, and leaves the disk alone.
     #[error("122 Broken")]
     Broken,
-    /// The part of the disk holds no record: neither slot is open, or the newer open one spells none.
+    /// The part of the disk holds no record: neither slot is open, or the newer open one encodes none.
     #[error("161 NoRecord")]
     NoRecord,
     /// The record's epoch isn't the last one's plus 1, or the pair has no number left: nothing changed.

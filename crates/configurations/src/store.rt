@@ -41,7 +41,7 @@ impl ConfigStore {
     /// A store in a part of a disk, which may hold anything, with this first record. The part has 8,192 bytes, within the
     /// disk. After it the whole disk is durable.
     ///
-    /// 100 `Memory`, which changes nothing, and what the device refuses. Until it is done, an open slot of the part spells
+    /// 100 `Memory`, which changes nothing, and what the device refuses. Until it is done, an open slot of the part encodes
     /// what stood there behind an open gate, whole or in part, or nothing, or the part holds the record.
     pub fn create<D: Disk>(
         alloc: Global,
@@ -62,7 +62,7 @@ impl ConfigStore {
         ensures unchanged { IfErr result (λ r. ¬ IsOfDevice r → disk.new ≡ disk.old) }
         ensures cause { HasCause (D.failures disk.old) (D.failures disk.new) result }
     {
-        let payload = first.spelled(alloc)?;
+        let payload = first.encoded(alloc)?;
         let (pair, _receipt) = GatedPair::create(disk, part, &payload, receipt_slot(), 0)?;
         Ok(ConfigStore {
             pair,
@@ -73,7 +73,7 @@ impl ConfigStore {
     /// The store in a part of a disk, which may hold anything, with the record that the part holds. The part has 8,192
     /// bytes, within the disk. It syncs, and then reads; after it the whole disk is durable.
     ///
-    /// 161 `NoRecord` exactly where the part holds none: neither slot is open, or the newer open one spells none.
+    /// 161 `NoRecord` exactly where the part holds none: neither slot is open, or the newer open one encodes none.
     /// 100 `Memory`, and what the device refuses. All leave the part as it was.
     pub fn open<D: Disk>(alloc: Global, disk: &mut D, part: Part) -> Result<ConfigStore, Refusal>
         requires pair { part.len ≡ PAIR_SIZE }
@@ -219,7 +219,7 @@ impl ConfigStore {
     {
         stores_leave_old_or_new();
         self.may_record(next.epoch())?;
-        let payload = next.spelled(alloc)?;
+        let payload = next.encoded(alloc)?;
         let _receipt = self.pair.end_store(disk, &payload, receipt_slot(), 0)?;
         self.current = next;
         Ok(())
@@ -260,7 +260,7 @@ impl ConfigStore {
     {
         stores_leave_old_or_new();
         self.may_record(next.epoch())?;
-        let payload = next.spelled(alloc)?;
+        let payload = next.encoded(alloc)?;
         let _receipt = self.pair.store(disk, &payload, receipt_slot(), 0)?;
         self.current = next;
         Ok(())

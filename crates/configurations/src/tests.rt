@@ -30,14 +30,14 @@ const FRESH: [u8; 48] =
 fn a_fresh_chain(rt: HostRuntime) -> Result<(), Fail> {
     let alloc = rt.alloc();
     let fresh = record(alloc, 1, &[(0, 1), (1, 1), (2, 1)])?;
-    assert_eq!(rt; fresh.spelled(alloc)?.as_slice(), FRESH.as_slice());
+    assert_eq!(rt; fresh.encoded(alloc)?.as_slice(), FRESH.as_slice());
     let read = Record::read(alloc, &FRESH)?.ok_or("a record")?;
     assert_eq!(rt; read.epoch().number(), 1);
     assert_eq!(rt; read.members(), fresh.members());
     Ok(())
 }
 
-// Bytes that spell no record: each is a fresh chain's with one of its bytes changed, or the bytes behind a place cut.
+// Bytes that encode no record: each is a fresh chain's with one of its bytes changed, or the bytes behind a place cut.
 #[test]
 fn no_records(rt: HostRuntime) -> Result<(), Fail> {
     let alloc = rt.alloc();

@@ -30,7 +30,7 @@ IsCausedBy before now (Chain refusal) = chain.IsCaused before now refusal
 IsCausedBy before now (Store refusal) = store.IsCaused before now refusal
 IsCausedBy before now _ = Unit {0}
 
--- what is told of a disk that can't be opened for itself: want of memory, and what the device refuses
+-- what is told of a disk that can't be opened for itself: out of memory, and what the device refuses
 abbrev pub IsOfFinding : Refusal → Type 0
 IsOfFinding Memory = Unit {0}
 IsOfFinding (Store faults.Memory) = Unit {0}

@@ -53,7 +53,7 @@ impl Failure {
         }
     }
 
-    /// Want of memory, at a file.
+    /// Out of memory, at a file.
     pub(crate) fn of_memory(file: FileName) -> Failure
         ensures refusal { result.refusal ≡ Refusal.Memory }
         ensures file { result.file ≡ file }

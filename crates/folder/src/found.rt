@@ -69,7 +69,7 @@ pub(crate) fn find_all<D: Disk + Drop>(
 /// The store on a disk that returned, or `None` where the disk means no volume of an incarnation that disks are given. It
 /// is only read.
 ///
-/// What it is refused with hands the disk back: want of memory, and what the device refuses.
+/// What it is refused with hands the disk back: out of memory, and what the device refuses.
 fn find<D: Disk + Drop>(
     alloc: Global,
     disk: D,

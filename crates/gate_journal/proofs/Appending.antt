@@ -4,7 +4,7 @@ use Rattle.std.proofs.lemmas.Bool.{cases_eq}
 use Rattle.std.proofs.lemmas.Grind.{flat_map-append}
 use Rattle.std.proofs.lemmas.List.{append-nil, take_at, drop_at, drop_more}
 use Rattle.disk_model.specs.Disk.{Holds, Torn}
-use Rattle.gate_journal.specs.Batch.{Batch, IsBatch, AreBatches, HoldsBatches, HoldsOldOrNew, batch_spelling, spelling_behind_gate, body_spelling, spellings, last_front}
+use Rattle.gate_journal.specs.Batch.{Batch, IsBatch, AreBatches, HoldsBatches, HoldsOldOrNew, batch_encoding, encoding_behind_gate, body_encoding, encodings, last_front}
 
 pub last_front-push : (before : ℕ) (old : List Batch) (batch : Batch) → last_front before (old ++ batch ∷ []) ≡ batch.front
 last_front-push before [] batch = refl
@@ -14,8 +14,8 @@ pub AreBatches-push : (blocks before : ℕ) (old : List Batch) (batch : Batch) �
 AreBatches-push blocks before [] batch are is = (is, tt)
 AreBatches-push blocks before (b ∷ old) batch are is = (are.0, AreBatches-push blocks b.front old batch are.1 is)
 
-pub spellings-push : (old : List Batch) (batch : Batch) → spellings (old ++ batch ∷ []) ≡ spellings old ++ batch_spelling batch
-spellings-push old batch = flat_map-append batch_spelling old (batch ∷ []) ∙ ap (λ (l : List ℕ). spellings old ++ l) (append-nil (batch_spelling batch))
+pub encodings-push : (old : List Batch) (batch : Batch) → encodings (old ++ batch ∷ []) ≡ encodings old ++ batch_encoding batch
+encodings-push old batch = flat_map-append batch_encoding old (batch ∷ []) ∙ ap (λ (l : List ℕ). encodings old ++ l) (append-nil (batch_encoding batch))
 
 -- a front, a gate and what is behind it
 module _ (front : List ℕ) (at : ℕ) (is_at : length front ≡ at) (gate : ℕ) (rest : List ℕ) where
@@ -60,57 +60,57 @@ pub record IsStaged (blocks before : ℕ) (old : List Batch) (batch : Batch) (ar
   pub next : IsBatch blocks (last_front before old) batch
   pub gate : ℕ
   pub end : List ℕ
-  pub spelled : area ≡ spellings old ++ gate ∷ (spelling_behind_gate batch.front batch.images ++ end)
+  pub encoded : area ≡ encodings old ++ gate ∷ (encoding_behind_gate batch.front batch.images ++ end)
 
-module _ (blocks before : ℕ) (old : List Batch) (at : ℕ) (is_at : at ≡ length (spellings old)) where
+module _ (blocks before : ℕ) (old : List Batch) (at : ℕ) (is_at : at ≡ length (encodings old)) where
   pub still_holds : (n : ℕ) (area c : List ℕ) → HoldsBatches blocks before old area → Torn (at + 1) n area c → HoldsBatches blocks before old c
   still_holds n area c holds torn = record {
     are = holds.are;
     gate = holds.gate;
     closed = holds.closed;
     rest = drop (at + 1) c;
-    spelled = torn_behind (spellings old) at (sym is_at) holds.gate holds.rest n c (subst (λ (a : List ℕ). Torn (at + 1) n a c) holds.spelled torn);
+    encoded = torn_behind (encodings old) at (sym is_at) holds.gate holds.rest n c (subst (λ (a : List ℕ). Torn (at + 1) n a c) holds.encoded torn);
   }
 
-  pub staged : (batch : Batch) (bytes area c : List ℕ) → bytes ≡ spelling_behind_gate batch.front batch.images → IsBatch blocks (last_front before old) batch → HoldsBatches blocks before old area → Holds area (at + 1) bytes c → IsStaged blocks before old batch c
+  pub staged : (batch : Batch) (bytes area c : List ℕ) → bytes ≡ encoding_behind_gate batch.front batch.images → IsBatch blocks (last_front before old) batch → HoldsBatches blocks before old area → Holds area (at + 1) bytes c → IsStaged blocks before old batch c
   staged batch bytes area c is next holds put =
-      let behind = put_behind (spellings old) at (sym is_at) holds.gate holds.rest bytes c (subst (λ (a : List ℕ). Holds a (at + 1) bytes c) holds.spelled put) in
+      let behind = put_behind (encodings old) at (sym is_at) holds.gate holds.rest bytes c (subst (λ (a : List ℕ). Holds a (at + 1) bytes c) holds.encoded put) in
       record {
         are = holds.are;
         next = next;
         gate = holds.gate;
         end = behind.0;
-        spelled = behind.1 ∙ ap (λ (b : List ℕ). spellings old ++ holds.gate ∷ (b ++ behind.0)) is;
+        encoded = behind.1 ∙ ap (λ (b : List ℕ). encodings old ++ holds.gate ∷ (b ++ behind.0)) is;
       }
 
   -- behind an open gate the batch counts
   opened : (batch : Batch) (gate : ℕ) (end area : List ℕ) → AreBatches blocks before old → IsBatch blocks (last_front before old) batch → gate ≡ 1
-      → area ≡ spellings old ++ gate ∷ (spelling_behind_gate batch.front batch.images ++ end) → HoldsBatches blocks before (old ++ batch ∷ []) area
-  unfolding batch_spelling
-  opened batch gate end area are next is spelled = record {
+      → area ≡ encodings old ++ gate ∷ (encoding_behind_gate batch.front batch.images ++ end) → HoldsBatches blocks before (old ++ batch ∷ []) area
+  unfolding batch_encoding
+  opened batch gate end area are next is encoded = record {
     are = AreBatches-push blocks before old batch are next;
     gate = 0;
     closed = λ e. absurd (omega arith);
     rest = end;
-    spelled =
-        spelled ∙ ap (λ (g : ℕ). spellings old ++ g ∷ (spelling_behind_gate batch.front batch.images ++ end)) is
-        ∙ ap (λ (l : List ℕ). spellings old ++ 1 ∷ l) (append_assoc (body_spelling batch.front batch.images) (0 ∷ []) end)
-        ∙ sym (append_assoc (spellings old) (batch_spelling batch) (0 ∷ end))
-        ∙ ap (λ (l : List ℕ). l ++ 0 ∷ end) (sym (spellings-push old batch));
+    encoded =
+        encoded ∙ ap (λ (g : ℕ). encodings old ++ g ∷ (encoding_behind_gate batch.front batch.images ++ end)) is
+        ∙ ap (λ (l : List ℕ). encodings old ++ 1 ∷ l) (append_assoc (body_encoding batch.front batch.images) (0 ∷ []) end)
+        ∙ sym (append_assoc (encodings old) (batch_encoding batch) (0 ∷ end))
+        ∙ ap (λ (l : List ℕ). l ++ 0 ∷ end) (sym (encodings-push old batch));
   }
 
   -- and behind a closed one it doesn't
   pub old_or_new : (batch : Batch) (area c : List ℕ) → IsStaged blocks before old batch area → Torn at 1 area c → HoldsOldOrNew blocks before old batch c
   old_or_new batch area c stage torn =
-      let rest = spelling_behind_gate batch.front batch.images ++ stage.end in
-      let (gate, is) = torn_gate (spellings old) at (sym is_at) stage.gate rest c (subst (λ (a : List ℕ). Torn at 1 a c) stage.spelled torn) in
+      let rest = encoding_behind_gate batch.front batch.images ++ stage.end in
+      let (gate, is) = torn_gate (encodings old) at (sym is_at) stage.gate rest c (subst (λ (a : List ℕ). Torn at 1 a c) stage.encoded torn) in
       elim (cases_eq gate 1) [
         | inl open_gate ↦ inr (opened batch gate stage.end c stage.are stage.next open_gate is)
-        | inr shut ↦ inl (record { are = stage.are; gate = gate; closed = shut; rest = rest; spelled = is })
+        | inr shut ↦ inl (record { are = stage.are; gate = gate; closed = shut; rest = rest; encoded = is })
       ]
 
   pub new : (batch : Batch) (area c : List ℕ) → IsStaged blocks before old batch area → Holds area at (1 ∷ []) c → HoldsBatches blocks before (old ++ batch ∷ []) c
   new batch area c stage put =
-      let rest = spelling_behind_gate batch.front batch.images ++ stage.end in
+      let rest = encoding_behind_gate batch.front batch.images ++ stage.end in
       opened batch 1 stage.end c stage.are stage.next refl
-      (put_gate (spellings old) at (sym is_at) stage.gate rest 1 c (subst (λ (a : List ℕ). Holds a at (1 ∷ []) c) stage.spelled put))
+      (put_gate (encodings old) at (sym is_at) stage.gate rest 1 c (subst (λ (a : List ℕ). Holds a at (1 ∷ []) c) stage.encoded put))

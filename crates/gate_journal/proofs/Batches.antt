@@ -4,18 +4,18 @@ use Rattle.disk_model.specs.Disk.{Holds, LeavesOnly, Only, Torn}
 use Rattle.disk_model.specs.Frames.{started_inside}
 use Rattle.disk_model.specs.Moments.{weaker}
 use Rattle.disk_model.specs.Part.{inside, LeftInside}
-use Rattle.gate_journal.specs.Batch.{Batch, IsBatch, HoldsBatches, HoldsOldOrNew, batch_spelling, spellings, last_front}
-use Rattle.gate_journal.specs.Journal.{State, IsSettled, IsSpelled, appended}
+use Rattle.gate_journal.specs.Batch.{Batch, IsBatch, HoldsBatches, HoldsOldOrNew, batch_encoding, encodings, last_front}
+use Rattle.gate_journal.specs.Journal.{State, IsSettled, IsEncoded, appended}
 use Rattle.gate_journal.specs.Runs.{WasTorn}
-use Rattle.gate_journal.proofs.Appending.{IsStaged, staged, still_holds, old_or_new, new, last_front-push, spellings-push}
-use Rattle.gate_journal.proofs.Spellings.{length-batch_spelling}
+use Rattle.gate_journal.proofs.Appending.{IsStaged, staged, still_holds, old_or_new, new, last_front-push, encodings-push}
+use Rattle.gate_journal.proofs.Encodings.{length-batch_encoding}
 
-module _ (s : State) (old : List Batch) (batch : Batch) (bytes : List ℕ) {gives : List ℕ} {left : List ℕ → Type 0} (settled : IsSettled s old gives left) (spelled : IsSpelled s batch bytes) where
+module _ (s : State) (old : List Batch) (batch : Batch) (bytes : List ℕ) {gives : List ℕ} {left : List ℕ → Type 0} (settled : IsSettled s old gives left) (encoded : IsEncoded s batch bytes) where
   abbrev OldOrNew : List ℕ → Type 0
   OldOrNew c = HoldsOldOrNew s.blocks s.before old batch (inside s.part c)
 
   next : IsBatch s.blocks (last_front s.before old) batch
-  next = subst (λ (f : ℕ). IsBatch s.blocks f batch) settled.front spelled.next
+  next = subst (λ (f : ℕ). IsBatch s.blocks f batch) settled.front encoded.next
 
   pub behind_gate : {D : Type 0} {moment : D → ℕ} {left_since : D → ℕ → List ℕ → Type 0} (before after : D) (n : ℕ) → LeavesOnly moment left_since before after (WasTorn s.part (s.end + 1) n left) → LeavesOnly moment left_since before after OldOrNew
   behind_gate {moment = moment} {left_since = left_since} before after n run =
@@ -25,7 +25,7 @@ module _ (s : State) (old : List Batch) (batch : Batch) (bytes : List ℕ) {give
 
   module _ (mid_gives : List ℕ) (put : Holds (inside s.part gives) (s.end + 1) bytes (inside s.part mid_gives)) where
     stage : IsStaged s.blocks s.before old batch (inside s.part mid_gives)
-    stage = staged s.blocks s.before old s.end settled.end batch bytes (inside s.part gives) (inside s.part mid_gives) spelled.is next settled.holds put
+    stage = staged s.blocks s.before old s.end settled.end batch bytes (inside s.part gives) (inside s.part mid_gives) encoded.is next settled.holds put
 
     pub at_gate : {D : Type 0} {moment : D → ℕ} {left_since : D → ℕ → List ℕ → Type 0} (before after : D) (mid_left : List ℕ → Type 0) → Only (inside s.part mid_gives) (LeftInside s.part mid_left)
         → LeavesOnly moment left_since before after (WasTorn s.part s.end 1 mid_left) → LeavesOnly moment left_since before after OldOrNew
@@ -38,7 +38,7 @@ module _ (s : State) (old : List Batch) (batch : Batch) (bytes : List ℕ) {give
         → IsSettled (appended s batch.front (length batch.images)) (old ++ batch ∷ []) new_gives new_left
     settled_new new_gives new_left holds only = record {
       holds = new s.blocks s.before old s.end settled.end batch (inside s.part mid_gives) (inside s.part new_gives) stage holds;
-      end = omega (arith, settled.end, ap length (spellings-push old batch), length-append (spellings old) (batch_spelling batch), length-batch_spelling s.blocks s.front batch spelled.next);
+      end = omega (arith, settled.end, ap length (encodings-push old batch), length-append (encodings old) (batch_encoding batch), length-batch_encoding s.blocks s.front batch encoded.next);
       front = sym (last_front-push s.before old batch);
       runs = settled.runs;
       durable = only;

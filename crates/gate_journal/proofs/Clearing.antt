@@ -7,8 +7,8 @@ use Rattle.disk_model.specs.Frames.{both, goes_on_inside, others_keep}
 use Rattle.disk_model.specs.Moments.{then_run, weaker}
 use Rattle.disk_model.specs.Part.{inside, IsApart, LeftInside, TouchesOnly}
 use Rattle.disk_model.specs.declared.part.Part.{Part}
-use Rattle.gate_journal.specs.Pair.{Entry, HasGate, HoldsSlot, IsTornIn, Uncovers, entry_spelling, slot_bytes}
-use Rattle.gate_journal.specs.Reading.{Stands}
+use Rattle.gate_journal.specs.Pair.{Entry, HasGate, HoldsSlot, IsTornIn, Uncovers, entry_encoding, slot_bytes}
+use Rattle.gate_journal.specs.Reading.{HoldsAt}
 use Rattle.gate_journal.proofs.Entries.{heads_apart}
 use Rattle.gate_journal.proofs.Pairs.{range_bytes}
 use Rattle.gate_journal.proofs.Runs.{Tears, torn_once}
@@ -84,10 +84,10 @@ empty (x ∷ xs) e = absurd (omega arith)
 
 -- where a slot's numbers are torn, a payload is what stood there
 pub torn_uncovers : (x y : List ℕ) → Torn 1 12 x y → Uncovers x y
-unfolding entry_spelling
-torn_uncovers x y torn entry (rest, is, spelled) =
+unfolding entry_encoding
+torn_uncovers x y torn entry (rest, is, encoded) =
     let head : List ℕ = 1 ∷ (big_bytes 8 entry.number ++ big_bytes 4 (length entry.payload)) in
-    let cut : y ≡ head ++ (entry.payload ++ rest) = spelled ∙ append_assoc head entry.payload rest in
+    let cut : y ≡ head ++ (entry.payload ++ rest) = encoded ∙ append_assoc head entry.payload rest in
     let gate : take 1 x ≡ 1 ∷ [] = sym torn.before ∙ ap (λ (l : List ℕ). take 1 l) cut in
     let open_before : HasGate false x = (drop 1 x, sym (take-append-drop 1 x) ∙ ap (λ (l : List ℕ). l ++ drop 1 x) gate) in
     let behind : drop 13 x ≡ entry.payload ++ rest = sym torn.after ∙ ap (λ (l : List ℕ). drop 13 l) cut in
@@ -95,21 +95,21 @@ torn_uncovers x y torn entry (rest, is, spelled) =
 
 -- and where they are zeros and the gate is torn, there is none
 pub zeroed_uncovers : (x mid y : List ℕ) → 13 ≤ length x → Holds x 1 zeros mid → Torn 0 1 mid y → Uncovers x y
-unfolding entry_spelling
-zeroed_uncovers x mid y long put torn entry (rest, is, spelled) =
+unfolding entry_encoding
+zeroed_uncovers x mid y long put torn entry (rest, is, encoded) =
     let behind : drop 1 mid ≡ zeros ++ drop 13 mid = stands_put x 1 zeros mid (omega arith) put in
-    let body : (big_bytes 8 0 ++ big_bytes 4 0) ++ drop 13 mid ≡ (big_bytes 8 entry.number ++ big_bytes 4 (length entry.payload) ++ entry.payload) ++ rest = sym behind ∙ sym torn.after ∙ ap (λ (l : List ℕ). drop 1 l) spelled in
+    let body : (big_bytes 8 0 ++ big_bytes 4 0) ++ drop 13 mid ≡ (big_bytes 8 entry.number ++ big_bytes 4 (length entry.payload) ++ entry.payload) ++ rest = sym behind ∙ sym torn.after ∙ ap (λ (l : List ℕ). drop 1 l) encoded in
     let apart = heads_apart 8 4 0 0 entry.number (length entry.payload) (drop 13 mid) entry.payload rest (omega arith) (omega (arith, is.limit)) (omega arith) (omega (arith, is.fits)) body in
     inl (empty entry.payload apart.1)
 
 -- a slot without an entry uncovers none
 pub none_uncovers : (x y : List ℕ) → HoldsSlot None y → Uncovers x y
-none_uncovers x y none entry (rest, is, spelled) = absurd (none entry rest is spelled)
+none_uncovers x y none entry (rest, is, encoded) = absurd (none entry rest is encoded)
 
 -- a cleared slot's gate is closed
-pub cleared_gate : (x : List ℕ) → Stands x 0 13 (replicate 13 0) → HasGate true x
+pub cleared_gate : (x : List ℕ) → HoldsAt x 0 13 (replicate 13 0) → HasGate true x
 cleared_gate x stands = (0, zeros ++ drop 13 x, λ e. absurd (omega arith), stands)
 
 -- both writes of a slot that is cleared
-pub slot_cleared : (x mid y : List ℕ) → 13 ≤ length x → Holds x 1 zeros mid → Holds mid 0 (0 ∷ []) y → Stands y 0 13 (replicate 13 0)
+pub slot_cleared : (x mid y : List ℕ) → 13 ≤ length x → Holds x 1 zeros mid → Holds mid 0 (0 ∷ []) y → HoldsAt y 0 13 (replicate 13 0)
 slot_cleared x mid y long behind gate = stands_before x mid y 0 (0 ∷ []) zeros long behind gate

@@ -6,13 +6,13 @@ use Rattle.std.specs.Option.{SomeIff}
 use Rattle.byteorder.specs.Endian.{big_bytes}
 use Rattle.byteorder.specs.Numbers.{length-bytes_high_first}
 use Rattle.disk_model.specs.Disk.{Holds, Torn}
-use Rattle.gate_journal.specs.Pair.{Entry, IsEntry, HasGate, HoldsSlot, closing, entry_body, entry_spelling}
+use Rattle.gate_journal.specs.Pair.{Entry, IsEntry, HasGate, HoldsSlot, closing, entry_body, entry_encoding}
 use Rattle.gate_journal.specs.PairSlot.{entry_behind}
-use Rattle.gate_journal.specs.Reading.{Stands}
+use Rattle.gate_journal.specs.Reading.{HoldsAt}
 use Rattle.gate_journal.specs.declared.pair_slot.EntryHead.{EntryHead}
 use Rattle.gate_journal.proofs.Appending.{torn_behind, put_behind, torn_gate, put_gate}
 use Rattle.gate_journal.proofs.Lists.{same_halves}
-use Rattle.gate_journal.proofs.Spellings.{numbers_apart}
+use Rattle.gate_journal.proofs.Encodings.{numbers_apart}
 use Rattle.gate_journal.proofs.Standing.{stands_before}
 
 -- the widths stand as variables, so that nothing computes
@@ -37,16 +37,16 @@ bodies_apart w m x y r s number number' len len' e =
     let payload_is = payloads.0 in
     λ i. record { number = number_is i; payload = payload_is i }
 
--- no spelling of an entry begins another
-pub entries_apart : (x y : Entry) (r s : List ℕ) → IsEntry x → IsEntry y → entry_spelling x ++ r ≡ entry_spelling y ++ s → x ≡ y
-unfolding entry_spelling
+-- no encoding of an entry begins another
+pub entries_apart : (x y : Entry) (r s : List ℕ) → IsEntry x → IsEntry y → entry_encoding x ++ r ≡ entry_encoding y ++ s → x ≡ y
+unfolding entry_encoding
 entries_apart x y r s is is' e =
     let behind : body 8 4 x ++ r ≡ body 8 4 y ++ s = cc in
     bodies_apart 8 4 x y r s (omega (arith, is.limit)) (omega (arith, is'.limit)) (omega (arith, is.fits)) (omega (arith, is'.fits)) behind
 
 -- an entry begins with an open gate
-pub open_gate : (entry : Entry) (gate : ℕ) (r s : List ℕ) → gate ∷ r ≡ entry_spelling entry ++ s → gate ≡ 1
-unfolding entry_spelling
+pub open_gate : (entry : Entry) (gate : ℕ) (r s : List ℕ) → gate ∷ r ≡ entry_encoding entry ++ s → gate ≡ 1
+unfolding entry_encoding
 open_gate entry gate r s e = cc
 
 -- behind a closed gate there is none
@@ -56,9 +56,9 @@ none_behind bytes (gate, rest, shut, is) entry behind are e = shut (open_gate en
 -- bytes hold one entry, or none
 pub one_entry : (x y : Option Entry) (bytes : List ℕ) → HoldsSlot x bytes → HoldsSlot y bytes → x ≡ y
 one_entry None None bytes holds holds' = refl
-one_entry None (Some y) bytes holds (rest, is, spelled) = absurd (holds y rest is spelled)
-one_entry (Some x) None bytes (rest, is, spelled) holds = absurd (holds x rest is spelled)
-one_entry (Some x) (Some y) bytes (rest, is, spelled) (rest', is', spelled') = ap (λ (e : Entry). Some e) (entries_apart x y rest rest' is is' (sym spelled ∙ spelled'))
+one_entry None (Some y) bytes holds (rest, is, encoded) = absurd (holds y rest is encoded)
+one_entry (Some x) None bytes (rest, is, encoded) holds = absurd (holds x rest is encoded)
+one_entry (Some x) (Some y) bytes (rest, is, encoded) (rest', is', encoded') = ap (λ (e : Entry). Some e) (entries_apart x y rest rest' is is' (sym encoded ∙ encoded'))
 
 -- so it is none behind a closed gate
 pub closed_is_none : (entry : Option Entry) (bytes : List ℕ) → HasGate true bytes → HoldsSlot entry bytes → entry ≡ None
@@ -83,11 +83,11 @@ pub behind_torn : (n : ℕ) (x y : List ℕ) → HasGate true x → Torn 1 n x y
 behind_torn n x y (gate, rest, shut, is) torn =
     none_behind y (gate, drop 1 y, shut, torn_behind [] 0 refl gate rest n y (subst (λ (l : List ℕ). Torn 1 n l y) is torn))
 
-module _ (new : Entry) (is_new : IsEntry new) (bytes : List ℕ) (spelled : bytes ≡ entry_body new.number new.payload) where
+module _ (new : Entry) (is_new : IsEntry new) (bytes : List ℕ) (encoded : bytes ≡ entry_body new.number new.payload) where
   -- behind an open gate it counts
   counts : (gate : ℕ) (end y : List ℕ) → gate ≡ 1 → y ≡ gate ∷ (bytes ++ end) → HoldsSlot (Some new) y
-  unfolding entry_spelling
-  counts gate end y is same = (end, is_new, same ∙ ap (λ (g : ℕ). g ∷ (bytes ++ end)) is ∙ ap (λ (l : List ℕ). 1 ∷ (l ++ end)) spelled)
+  unfolding entry_encoding
+  counts gate end y is same = (end, is_new, same ∙ ap (λ (g : ℕ). g ∷ (bytes ++ end)) is ∙ ap (λ (l : List ℕ). 1 ∷ (l ++ end)) encoded)
 
   -- a gate that is being opened
   pub opening_torn : (x mid y : List ℕ) → HasGate true x → Holds x 1 bytes mid → Torn 0 1 mid y → HoldsSlot None y ⊎ HoldsSlot (Some new) y
@@ -100,13 +100,13 @@ module _ (new : Entry) (is_new : IsEntry new) (bytes : List ℕ) (spelled : byte
       ]
 
 -- what stands at the front of a slot is held
-pub held : (new : Entry) (area : List ℕ) (n : ℕ) → IsEntry new → Stands area 0 n (entry_spelling new) → HoldsSlot (Some new) area
+pub held : (new : Entry) (area : List ℕ) (n : ℕ) → IsEntry new → HoldsAt area 0 n (entry_encoding new) → HoldsSlot (Some new) area
 held new area n is stands = (drop n area, is, stands)
 
 -- an open gate stands there too
 pub held_open : (new : Entry) (area : List ℕ) → HoldsSlot (Some new) area → HasGate false area
-unfolding entry_spelling
-held_open new area (rest, is, spelled) = (entry_body new.number new.payload ++ rest, spelled)
+unfolding entry_encoding
+held_open new area (rest, is, encoded) = (entry_body new.number new.payload ++ rest, encoded)
 
 -- a slot's first bytes are a gate and what is behind it
 pub at_front : (area bytes rest : List ℕ) → length bytes ≡ 13 → area ≡ bytes ++ drop 13 area → drop 1 bytes ≡ rest → area ≡ get_or bytes 0 0 ∷ (rest ++ drop 13 area)
@@ -115,8 +115,8 @@ at_front area bytes rest size stands is =
 
 -- what a slot holds that begins with a gate and two numbers
 module _ (area : List ℕ) (gate f n : ℕ) (rest : List ℕ) (is : area ≡ gate ∷ ((big_bytes 8 f ++ big_bytes 4 n) ++ rest)) (number : f < 2 ^ 64) (len : n < 2 ^ 32) where
-  read_apart : (entry : Entry) (behind : List ℕ) → IsEntry entry → area ≡ entry_spelling entry ++ behind → (f ≡ entry.number) × (n ≡ length entry.payload)
-  unfolding entry_spelling
+  read_apart : (entry : Entry) (behind : List ℕ) → IsEntry entry → area ≡ entry_encoding entry ++ behind → (f ≡ entry.number) × (n ≡ length entry.payload)
+  unfolding entry_encoding
   read_apart entry behind are e =
       let text : (big_bytes 8 f ++ big_bytes 4 n) ++ rest ≡ (big_bytes 8 entry.number ++ big_bytes 4 (length entry.payload) ++ entry.payload) ++ behind = cc in
       let apart = heads_apart 8 4 f n entry.number (length entry.payload) rest entry.payload behind (omega arith) (omega (arith, are.limit)) (omega arith) (omega (arith, are.fits)) text in
@@ -128,7 +128,7 @@ module _ (area : List ℕ) (gate f n : ℕ) (rest : List ℕ) (is : area ≡ gat
       never (open_gate entry gate ((big_bytes 8 f ++ big_bytes 4 n) ++ rest) behind (sym is ∙ e)) (omega (arith, apart.0, are.limit)) (omega (arith, apart.1, are.fits))
 
   pub head_of_some : gate ≡ 1 → f ≤ 9223372036854775807 → n ≤ 4083 → n ≤ length rest → (payload : List ℕ) → payload ≡ take n rest → HoldsSlot (Some (record { number = f; payload = payload })) area
-  unfolding entry_spelling
+  unfolding entry_encoding
   head_of_some opened limit fits long payload payload_is =
       let size : length payload ≡ n = ap (λ (l : List ℕ). length l) payload_is ∙ length-take-le n rest long in
       let head = big_bytes 8 f ++ big_bytes 4 n in (
@@ -161,13 +161,13 @@ length-entry_body w m number payload =
 
 -- a body written behind a gate, and the gate then opened
 pub entry_stands : (new : Entry) (area mid last bytes : List ℕ) → bytes ≡ entry_body new.number new.payload → 13 + length new.payload ≤ length area → Holds area 1 bytes mid → Holds mid 0 (1 ∷ []) last
-    → Stands last 0 (13 + length new.payload) (entry_spelling new)
-unfolding entry_spelling
+    → HoldsAt last 0 (13 + length new.payload) (entry_encoding new)
+unfolding entry_encoding
 entry_stands new area mid last bytes is fits behind before =
     let size : length bytes ≡ 12 + length new.payload = ap (λ (l : List ℕ). length l) is ∙ length-entry_body 8 4 new.number new.payload in
     let there = stands_before area mid last 0 (1 ∷ []) bytes (omega arith) behind before in
     let to : 1 + length bytes ≡ 13 + length new.payload = omega arith in
-    subst (λ (k : ℕ). Stands last 0 k (1 ∷ entry_body new.number new.payload)) to (subst (λ (l : List ℕ). Stands last 0 (1 + length bytes) (1 ∷ l)) is there)
+    subst (λ (k : ℕ). HoldsAt last 0 k (1 ∷ entry_body new.number new.payload)) to (subst (λ (l : List ℕ). HoldsAt last 0 (1 + length bytes) (1 ∷ l)) is there)
 
 -- what a slot holds, by its head: an entry exactly where the head may be one's
 pub entry_by_head : (area bytes : List ℕ) (f n : ℕ) → length area ≡ 4096 → length bytes ≡ 13 → area ≡ bytes ++ drop 13 area → drop 1 bytes ≡ big_bytes 8 f ++ big_bytes 4 n → f < 2 ^ 64 → n < 2 ^ 32 → get_or bytes 0 0 ≡ 1

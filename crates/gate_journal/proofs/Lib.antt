@@ -10,6 +10,6 @@ mod PairSteps
 mod Pairs
 mod Readings
 mod Runs
-mod Spellings
+mod Encodings
 mod Standing
 mod Walks

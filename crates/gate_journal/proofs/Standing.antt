@@ -10,16 +10,16 @@ use Rattle.disk_model.specs.Disk.{Holds}
 use Rattle.disk_model.specs.Part.{inside}
 use Rattle.disk_model.specs.Writes.{drop-put, length-put, slice-put}
 use Rattle.disk_model.specs.declared.part.Part.{Part}
-use Rattle.gate_journal.specs.Reading.{Stands}
+use Rattle.gate_journal.specs.Reading.{HoldsAt}
 
-pub stands_slice : (area : List ℕ) (at m n : ℕ) (bytes : List ℕ) → m ≡ n → bytes ≡ slice_range area at (at + m) → Stands area at (at + n) bytes
+pub stands_slice : (area : List ℕ) (at m n : ℕ) (bytes : List ℕ) → m ≡ n → bytes ≡ slice_range area at (at + m) → HoldsAt area at (at + n) bytes
 stands_slice area at m n bytes same is =
     let count : at + m - at ≡ n = omega arith in
     sym (take-append-drop n (drop at area)) ∙ ap (λ (l : List ℕ). take n (drop at area) ++ l) (drop-drop n at area)
     ∙ ap (λ (l : List ℕ). l ++ drop (at + n) area) (sym (is ∙ ap (λ (k : ℕ). take k (drop at area)) count))
 
 -- one behind the other
-pub stands_then : (area : List ℕ) (a b c : ℕ) (xs ys : List ℕ) → Stands area a b xs → Stands area b c ys → Stands area a c (xs ++ ys)
+pub stands_then : (area : List ℕ) (a b c : ℕ) (xs ys : List ℕ) → HoldsAt area a b xs → HoldsAt area b c ys → HoldsAt area a c (xs ++ ys)
 stands_then area a b c xs ys first second = first ∙ ap (λ (l : List ℕ). xs ++ l) second ∙ sym (append_assoc xs ys (drop c area))
 
 -- the bytes of a number, and the number
@@ -56,19 +56,19 @@ header_is w m first second bytes len fits x y is is' =
     number_is w first bytes (omega arith) fits x is ∙ ap (λ (l : List ℕ). big_bytes w x ++ l) (sym back)
 
 -- what was put in its place stands there
-pub stands_put : (area : List ℕ) (at : ℕ) (bytes new : List ℕ) → at + length bytes ≤ length area → Holds area at bytes new → Stands new at (at + length bytes) bytes
+pub stands_put : (area : List ℕ) (at : ℕ) (bytes new : List ℕ) → at + length bytes ≤ length area → Holds area at bytes new → HoldsAt new at (at + length bytes) bytes
 stands_put area at bytes new fits holds =
     stands_slice new at (length bytes) (length bytes) bytes refl
     (sym (ap (λ (l : List ℕ). slice_range l at (at + length bytes)) holds ∙ slice-put area at bytes fits))
 
 -- bytes, and what is put right before them
 pub stands_before : (area mid new : List ℕ) (at : ℕ) (front bytes : List ℕ) → at + length front + length bytes ≤ length area → Holds area (at + length front) bytes mid → Holds mid at front new
-    → Stands new at (at + length front + length bytes) (front ++ bytes)
+    → HoldsAt new at (at + length front + length bytes) (front ++ bytes)
 stands_before area mid new at front bytes fits behind before =
     let long : length mid ≡ length area = ap (λ (l : List ℕ). length l) behind ∙ length-put area (at + length front) bytes fits in
     let same : drop (at + length front) new ≡ drop (at + length front) mid = ap (λ (l : List ℕ). drop (at + length front) l) before ∙ drop-put mid at front (omega arith) in
     let rest : (c : List ℕ) → drop (length bytes) (drop (at + length front) c) ≡ drop (at + length front + length bytes) c = λ c. drop-drop (length bytes) (at + length front) c in
-    let there : Stands new (at + length front) (at + length front + length bytes) bytes =
+    let there : HoldsAt new (at + length front) (at + length front + length bytes) bytes =
     same ∙ stands_put area (at + length front) bytes mid fits behind
     ∙ ap (λ (l : List ℕ). bytes ++ l) (sym (rest mid) ∙ ap (λ (l : List ℕ). drop (length bytes) l) (sym same) ∙ rest new) in
     stands_then new at (at + length front) (at + length front + length bytes) front bytes (stands_put mid at front new (omega arith) before) there

@@ -1,4 +1,4 @@
--- The spelling of a batch, and what makes images a batch.
+-- The encoding of a batch, and what makes images a batch.
 use Rattle.std.specs.Prelude.{◌≡◌, ◌≢◌, ◌⊎◌, ℕ, ◌+◌, ◌*◌, ◌^◌, ◌<◌, ◌≤◌, List, [], ◌∷◌, ◌++◌, length, All, AllPairs}
 use Rattle.std.specs.List.{flat_map}
 use Rattle.byteorder.specs.Endian.{big_bytes}
@@ -11,20 +11,20 @@ pub record Batch : Type 0 where
   pub images : List Image
 
 -- a block's number in four bytes, and the block
-abbrev pub image_spelling : Image → List ℕ
-image_spelling image = big_bytes 4 image.block ++ image.bytes
+abbrev pub image_encoding : Image → List ℕ
+image_encoding image = big_bytes 4 image.block ++ image.bytes
 
 -- the front in eight bytes, the number of images in four, the images
-abbrev pub body_spelling : ℕ → List Image → List ℕ
-body_spelling front images = big_bytes 8 front ++ big_bytes 4 (length images) ++ flat_map image_spelling images
+abbrev pub body_encoding : ℕ → List Image → List ℕ
+body_encoding front images = big_bytes 8 front ++ big_bytes 4 (length images) ++ flat_map image_encoding images
 
 -- the body, and the closed gate behind it
-abbrev pub spelling_behind_gate : ℕ → List Image → List ℕ
-spelling_behind_gate front images = body_spelling front images ++ 0 ∷ []
+abbrev pub encoding_behind_gate : ℕ → List Image → List ℕ
+encoding_behind_gate front images = body_encoding front images ++ 0 ∷ []
 
 -- an open gate, and the body
-unfoldable pub batch_spelling : Batch → List ℕ
-batch_spelling batch = 1 ∷ body_spelling batch.front batch.images
+unfoldable pub batch_encoding : Batch → List ℕ
+batch_encoding batch = 1 ∷ body_encoding batch.front batch.images
 
 -- the bytes of a batch of that many images
 abbrev pub batch_size : ℕ → ℕ
@@ -54,9 +54,9 @@ abbrev pub AreBatches : ℕ → ℕ → List Batch → Type 0
 AreBatches blocks before [] = Unit {0}
 AreBatches blocks before (batch ∷ batches) = IsBatch blocks before batch × AreBatches blocks batch.front batches
 
--- batches spelled one after another
-abbrev pub spellings : List Batch → List ℕ
-spellings batches = flat_map batch_spelling batches
+-- batches encoded one after another
+abbrev pub encodings : List Batch → List ℕ
+encodings batches = flat_map batch_encoding batches
 
 -- the front of the last batch, or the one before the first
 abbrev pub last_front : ℕ → List Batch → ℕ
@@ -69,7 +69,7 @@ pub record HoldsBatches (blocks before : ℕ) (batches : List Batch) (area : Lis
   pub gate : ℕ
   pub closed : gate ≢ 1
   pub rest : List ℕ
-  pub spelled : area ≡ spellings batches ++ gate ∷ rest
+  pub encoded : area ≡ encodings batches ++ gate ∷ rest
 
 -- the area holds no batches, not even none
 abbrev pub IsDamaged : ℕ → ℕ → List ℕ → Type 0

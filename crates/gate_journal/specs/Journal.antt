@@ -5,7 +5,7 @@ use Rattle.disk_model.specs.Disk.{Only}
 use Rattle.disk_model.specs.Frames.{settled_still}
 use Rattle.disk_model.specs.Part.{inside, KeepsPart, LeftInside}
 use Rattle.disk_model.specs.declared.part.Part.{Part}
-use Rattle.gate_journal.specs.Batch.{Batch, IsBatch, batch_size, spelling_behind_gate, spellings, last_front, HoldsBatches}
+use Rattle.gate_journal.specs.Batch.{Batch, IsBatch, batch_size, encoding_behind_gate, encodings, last_front, HoldsBatches}
 
 -- a journal in a part of a disk, for the blocks of the member at a slot: the front before its first batch and that
 -- of the last one, the place of the closed gate behind it, and whether a device call failed
@@ -33,7 +33,7 @@ appended journal front count = record journal { front = front; end = journal.end
 -- The part holds these batches, the journal knows where they end, and a stop now leaves the part as it is.
 pub record IsSettled (journal : State) (batches : List Batch) (gives : List ℕ) (may_leave : List ℕ → Type 0) : Type 0 where
   pub holds : HoldsBatches journal.blocks journal.before batches (inside journal.part gives)
-  pub end : journal.end ≡ length (spellings batches)
+  pub end : journal.end ≡ length (encodings batches)
   pub front : journal.front ≡ last_front journal.before batches
   pub runs : journal.broken ≡ false
   pub durable : Only (inside journal.part gives) (LeftInside journal.part may_leave)
@@ -49,6 +49,6 @@ still_settled {journal} {batches} keeps settled = record {
 }
 
 -- the bytes are the batch's behind its gate, and it may be the next
-pub record IsSpelled (journal : State) (batch : Batch) (bytes : List ℕ) : Type 0 where
+pub record IsEncoded (journal : State) (batch : Batch) (bytes : List ℕ) : Type 0 where
   pub next : IsBatch journal.blocks journal.front batch
-  pub is : bytes ≡ spelling_behind_gate batch.front batch.images
+  pub is : bytes ≡ encoding_behind_gate batch.front batch.images

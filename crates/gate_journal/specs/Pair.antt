@@ -23,13 +23,13 @@ abbrev pub entry_body : ℕ → List ℕ → List ℕ
 entry_body number payload = big_bytes 8 number ++ big_bytes 4 (length payload) ++ payload
 
 -- an open gate, and the body
-unfoldable pub entry_spelling : Entry → List ℕ
-entry_spelling entry = 1 ∷ entry_body entry.number entry.payload
+unfoldable pub entry_encoding : Entry → List ℕ
+entry_encoding entry = 1 ∷ entry_body entry.number entry.payload
 
 -- a slot holds this entry, with anything behind it; or none, since its bytes don't begin with one
 abbrev pub HoldsSlot : Option Entry → List ℕ → Type 0
-HoldsSlot None bytes = (entry : Entry) (rest : List ℕ) → IsEntry entry → bytes ≡ entry_spelling entry ++ rest → ⊥
-HoldsSlot (Some entry) bytes = (rest : List ℕ) × IsEntry entry × (bytes ≡ entry_spelling entry ++ rest)
+HoldsSlot None bytes = (entry : Entry) (rest : List ℕ) → IsEntry entry → bytes ≡ entry_encoding entry ++ rest → ⊥
+HoldsSlot (Some entry) bytes = (rest : List ℕ) × IsEntry entry × (bytes ≡ entry_encoding entry ++ rest)
 
 -- a slot's gate is closed, or open
 abbrev pub HasGate : Bool → List ℕ → Type 0

@@ -1,6 +1,6 @@
 ghost use Rattle.std.specs.Prelude.{◌≡◌, ◌≢◌, ◌++◌, ◌+◌, ◌^◌, ◌<◌, ◌≤◌, ◌↔◌, ℕ, length, All, AllPairs, IfOk, OnOk, IsTrue};
 ghost use Rattle.byteorder.specs.Endian.{big_bytes};
-ghost use Rattle.gate_journal.specs.Batch.{AreImages, IsWhole, batch_size, spelling_behind_gate};
+ghost use Rattle.gate_journal.specs.Batch.{AreImages, IsWhole, batch_size, encoding_behind_gate};
 
 use std::alloc::{AllocError, Global};
 use std::marker::Model;
@@ -107,13 +107,13 @@ fn has_each_once(images: &[Image]) -> bool
 }
 
 /// The bytes of a batch behind its gate, and the closed gate behind the batch.
-pub(crate) fn spelled_behind_gate(
+pub(crate) fn encoded_behind_gate(
     alloc: Global,
     front: u64,
     images: &[Image],
 ) -> Result<Vec<u8>, AllocError>
     requires { length images.now < 2 ^ 32 }
-    ensures spelling { IfOk result (λ bytes. bytes.items ≡ spelling_behind_gate front images.now) }
+    ensures encoding { IfOk result (λ bytes. bytes.items ≡ encoding_behind_gate front images.now) }
     ensures len { IfOk result (λ bytes. length bytes.items ≡ batch_size (length images.now)) }
     ensures whole { OnOk result (All IsWhole images.now) }
 {

@@ -1,14 +1,14 @@
 ghost use Rattle.std.specs.Prelude.{◌≡◌, ◌≢◌, ◌+◌, ◌-◌, ◌*◌, ◌^◌, ◌<◌, ◌≤◌, ◌↔◌, ℕ, List, [], ◌∷◌, ◌++◌, true, false, length, max, IfOk, IfErr, OnOk, OnErr, IsErrOf, IsTrue};
 ghost use Rattle.disk_model.specs.Disk.{LeavesOnly, Only};
 ghost use Rattle.disk_model.specs.Part.{inside, TouchesOnly};
-ghost use Rattle.gate_journal.specs.Batch.{AreBatches, AreImages, Batch, HoldsBatches, HoldsOldOrNew, IsDamaged, batch_spelling, last_front};
-ghost use Rattle.gate_journal.specs.Reading.{Stands};
+ghost use Rattle.gate_journal.specs.Batch.{AreBatches, AreImages, Batch, HoldsBatches, HoldsOldOrNew, IsDamaged, batch_encoding, last_front};
+ghost use Rattle.gate_journal.specs.Reading.{HoldsAt};
 ghost use Rattle.gate_journal.specs.Refusal.{HasCause, IsOfAppending, IsOfDevice, IsOfOpening, IsOfReading, IsOfWriting};
 ghost use Rattle.gate_journal.specs.Runs.{OnlyReads, WasTorn};
 
 use crate::batch::{
     BATCH_HEADER, Batch, CLOSED, IMAGE_RECORD, Image, MAX_BLOCKS, MAX_NUMBER, OPEN, are_images,
-    room_behind, spelled_behind_gate,
+    room_behind, encoded_behind_gate,
 };
 use crate::durable::write_durably;
 use crate::refusal::Refusal;
@@ -45,7 +45,7 @@ impl Model for Journal {
 }
 
 impl Journal {
-    ghost use Rattle.gate_journal.specs.Journal.{Fits, IsSettled, IsSpelled, IsTooMuch, appended};
+    ghost use Rattle.gate_journal.specs.Journal.{Fits, IsSettled, IsEncoded, IsTooMuch, appended};
 
     /// An empty journal in a part of a disk, of 1 byte to 2^32 - 1, for the blocks 0 to `blocks - 1`, at most 65,536, of
     /// the member at the slot; the first batch will have a front above `front`. The part lies within the disk. It writes a
@@ -65,7 +65,7 @@ impl Journal {
         requires on_disk { part.start + part.len ≤ D.size disk.old }
         ensures journal { IfOk result (λ j. j ≡ record { part = part; slot = slot; blocks = blocks; before = front; front = front; end = 0; broken = false }) }
         ensures settled { D.keeps_model → IfOk result (λ j. IsSettled j [] (D.gives disk.new) (D.may_leave_now disk.new)) }
-        ensures bytes { D.keeps_model → OnOk result (Stands (inside part (D.gives disk.new)) 0 1 (CLOSED ∷ [])) }
+        ensures bytes { D.keeps_model → OnOk result (HoldsAt (inside part (D.gives disk.new)) 0 1 (CLOSED ∷ [])) }
         ensures whole { D.keeps_model → OnOk result (Only (D.gives disk.new) (D.may_leave_now disk.new)) }
         ensures any_moment { D.keeps_model → LeavesOnly D.moment D.may_have_left_since disk.old disk.new
             (WasTorn part 0 1 (D.may_leave_now disk.old)) }
@@ -200,8 +200,8 @@ impl Journal {
             → OnOk result (IsSettled self.new (batches ++ record { front = front; images = images.now } ∷ []) (D.gives disk.new) (D.may_leave_now disk.new)) }
 
         // Behind the last batch stand the new one, its gate open, and a closed gate.
-        ensures bytes { D.keeps_model → OnOk result (Stands (inside self.old.part (D.gives disk.new)) self.old.end (self.new.end + 1)
-            (batch_spelling (record { front = front; images = images.now }) ++ CLOSED ∷ [])) }
+        ensures bytes { D.keeps_model → OnOk result (HoldsAt (inside self.old.part (D.gives disk.new)) self.old.end (self.new.end + 1)
+            (batch_encoding (record { front = front; images = images.now }) ++ CLOSED ∷ [])) }
         ensures whole { D.keeps_model → OnOk result (Only (D.gives disk.new) (D.may_leave_now disk.new)) }
 
         // A stop at any moment of the call leaves the batches from before it, with the new one or without.
@@ -226,7 +226,7 @@ impl Journal {
         if self.room() < images.len() as u64 {
             return Err(Refusal::Full);
         }
-        let body = spelled_behind_gate(alloc, front, images)?;
+        let body = encoded_behind_gate(alloc, front, images)?;
         if let Err(error) = self.write_batch(disk, &body) {
             self.broken = true;
             return Err(Refusal::Device(error));
@@ -280,13 +280,13 @@ impl Journal {
         requires fits { self.now.end + 1 + length body.now ≤ self.now.part.len }
         requires on_disk { self.now.part.start + self.now.part.len ≤ D.size disk.old }
         ensures settled { D.keeps_model → (batches : List Batch) (batch : Batch)
-            → IsSettled self.now batches (D.gives disk.old) (D.may_leave_now disk.old) → IsSpelled self.now batch body.now
+            → IsSettled self.now batches (D.gives disk.old) (D.may_leave_now disk.old) → IsEncoded self.now batch body.now
             → OnOk result (IsSettled (appended self.now batch.front (length batch.images)) (batches ++ batch ∷ []) (D.gives disk.new) (D.may_leave_now disk.new)) }
         ensures any_moment { D.keeps_model → (batches : List Batch) (batch : Batch)
-            → IsSettled self.now batches (D.gives disk.old) (D.may_leave_now disk.old) → IsSpelled self.now batch body.now
+            → IsSettled self.now batches (D.gives disk.old) (D.may_leave_now disk.old) → IsEncoded self.now batch body.now
             → LeavesOnly D.moment D.may_have_left_since disk.old disk.new
             (λ c. HoldsOldOrNew self.now.blocks self.now.before batches batch (inside self.now.part c)) }
-        ensures bytes { D.keeps_model → OnOk result (Stands (inside self.now.part (D.gives disk.new)) self.now.end (self.now.end + 1 + length body.now) (OPEN ∷ body.now)) }
+        ensures bytes { D.keeps_model → OnOk result (HoldsAt (inside self.now.part (D.gives disk.new)) self.now.end (self.now.end + 1 + length body.now) (OPEN ∷ body.now)) }
         ensures whole { D.keeps_model → OnOk result (Only (D.gives disk.new) (D.may_leave_now disk.new)) }
         ensures frame { D.keeps_model → TouchesOnly D.gives D.may_leave_now D.moment D.may_have_left_since self.now.part disk.old disk.new }
         ensures size { D.size disk.new ≡ D.size disk.old }

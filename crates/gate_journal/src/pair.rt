@@ -2,9 +2,9 @@
 ghost use Rattle.std.specs.Prelude.{◌≡◌, ◌≢◌, ◌+◌, ◌-◌, ◌*◌, ◌^◌, ◌<◌, ◌≤◌, ◌↔◌, List, Option, Some, None, ℕ, true, false, length, replicate, IfOk, IfErr, OnOk, OnErr, IsErrOf};
 ghost use Rattle.disk_model.specs.Disk.{Holds, LeavesOnly, Only};
 ghost use Rattle.disk_model.specs.Part.{inside, TouchesOnly};
-ghost use Rattle.gate_journal.specs.Pair.{HoldsClosing, HoldsStored, IsBeingMade, IsCleared, IsPayloadOf, IsSettledPair, IsTornIn, Pair, Slots, closing, entry_spelling, last_number, newest, next_slot, slot_bytes, stored, with_entry};
+ghost use Rattle.gate_journal.specs.Pair.{HoldsClosing, HoldsStored, IsBeingMade, IsCleared, IsPayloadOf, IsSettledPair, IsTornIn, Pair, Slots, closing, entry_encoding, last_number, newest, next_slot, slot_bytes, stored, with_entry};
 ghost use Rattle.gate_journal.specs.PairSlot.{entry_behind};
-ghost use Rattle.gate_journal.specs.Reading.{Stands};
+ghost use Rattle.gate_journal.specs.Reading.{HoldsAt};
 ghost use Rattle.gate_journal.specs.Refusal.{HasCause, IsOfDevice, IsOfLoading, IsOfStoring, IsOfWriting};
 ghost use Rattle.gate_journal.specs.Runs.{OnlyReads};
 
@@ -132,8 +132,8 @@ fn write_both<D: Disk>(part: Part, disk: &mut D, at: u64, bytes: &[u8]) -> Resul
 fn clear<D: Disk>(part: Part, disk: &mut D) -> Result<(), DiskError>
     requires pair { part.len ≡ PAIR_SIZE }
     requires on_disk { part.start + part.len ≤ D.size disk.old }
-    ensures first { D.keeps_model → OnOk result (Stands (slot_bytes 0 (inside part (D.gives disk.new))) 0 13 (replicate 13 0)) }
-    ensures second { D.keeps_model → OnOk result (Stands (slot_bytes 1 (inside part (D.gives disk.new))) 0 13 (replicate 13 0)) }
+    ensures first { D.keeps_model → OnOk result (HoldsAt (slot_bytes 0 (inside part (D.gives disk.new))) 0 13 (replicate 13 0)) }
+    ensures second { D.keeps_model → OnOk result (HoldsAt (slot_bytes 1 (inside part (D.gives disk.new))) 0 13 (replicate 13 0)) }
     ensures whole { D.keeps_model → OnOk result (Only (D.gives disk.new) (D.may_leave_now disk.new)) }
     ensures any_moment { D.keeps_model → LeavesOnly D.moment D.may_have_left_since disk.old disk.new
         (λ c. IsCleared part 0 (D.may_leave_now disk.old) c × IsCleared part 1 (D.may_leave_now disk.old) c) }
@@ -170,7 +170,7 @@ impl GatedPair {
         ensures pair { IfOk result (λ r. r.0 ≡ record { part = part; number = 1; into = 1; is_closed = true; other_is_closed = false; broken = false }) }
         ensures receipt { IfOk result (λ r. r.1 ≡ record { slot = slot; front = front }) }
         ensures settled { D.keeps_model → IfOk result (λ r. IsSettledPair r.0 (record { first = Some (record { number = 1; payload = payload.now }); second = None }) (D.gives disk.new) (D.may_leave_now disk.new)) }
-        ensures cleared { D.keeps_model → OnOk result (Stands (slot_bytes 1 (inside part (D.gives disk.new))) 0 13 (replicate 13 0)) }
+        ensures cleared { D.keeps_model → OnOk result (HoldsAt (slot_bytes 1 (inside part (D.gives disk.new))) 0 13 (replicate 13 0)) }
         ensures whole { D.keeps_model → OnOk result (Only (D.gives disk.new) (D.may_leave_now disk.new)) }
         ensures any_moment { D.keeps_model → LeavesOnly D.moment D.may_have_left_since disk.old disk.new (IsBeingMade part payload.now (D.may_leave_now disk.old)) }
         ensures frame { D.keeps_model → TouchesOnly D.gives D.may_leave_now D.moment D.may_have_left_since part disk.old disk.new }
@@ -366,8 +366,8 @@ impl GatedPair {
         ensures ok { OnOk result (self.new ≡ stored self.old) }
         ensures settled { D.keeps_model → (slots : Slots) → IsSettledPair self.old slots (D.gives disk.old) (D.may_leave_now disk.old)
             → OnOk result (IsSettledPair self.new (with_entry self.old.into (Some (record { number = self.old.number + 1; payload = payload.now })) slots) (D.gives disk.new) (D.may_leave_now disk.new)) }
-        ensures bytes { D.keeps_model → OnOk result (Stands (slot_bytes self.old.into (inside self.old.part (D.gives disk.new))) 0 (13 + length payload.now)
-            (entry_spelling (record { number = self.old.number + 1; payload = payload.now }))) }
+        ensures bytes { D.keeps_model → OnOk result (HoldsAt (slot_bytes self.old.into (inside self.old.part (D.gives disk.new))) 0 (13 + length payload.now)
+            (entry_encoding (record { number = self.old.number + 1; payload = payload.now }))) }
         ensures other { D.keeps_model → slot_bytes (1 - self.old.into) (inside self.old.part (D.gives disk.new)) ≡ slot_bytes (1 - self.old.into) (inside self.old.part (D.gives disk.old)) }
         ensures whole { D.keeps_model → OnOk result (Only (D.gives disk.new) (D.may_leave_now disk.new)) }
 
@@ -405,8 +405,8 @@ impl GatedPair {
         requires fits { length payload.now ≤ MAX_PAYLOAD }
         ensures settled { D.keeps_model → (slots : Slots) → IsSettledPair self.now slots (D.gives disk.old) (D.may_leave_now disk.old)
             → OnOk result (IsSettledPair (stored self.now) (with_entry self.now.into (Some (record { number = self.now.number + 1; payload = payload.now })) slots) (D.gives disk.new) (D.may_leave_now disk.new)) }
-        ensures bytes { D.keeps_model → OnOk result (Stands (slot_bytes self.now.into (inside self.now.part (D.gives disk.new))) 0 (13 + length payload.now)
-            (entry_spelling (record { number = self.now.number + 1; payload = payload.now }))) }
+        ensures bytes { D.keeps_model → OnOk result (HoldsAt (slot_bytes self.now.into (inside self.now.part (D.gives disk.new))) 0 (13 + length payload.now)
+            (entry_encoding (record { number = self.now.number + 1; payload = payload.now }))) }
         ensures other { D.keeps_model → slot_bytes (1 - self.now.into) (inside self.now.part (D.gives disk.new)) ≡ slot_bytes (1 - self.now.into) (inside self.now.part (D.gives disk.old)) }
         ensures whole { D.keeps_model → OnOk result (Only (D.gives disk.new) (D.may_leave_now disk.new)) }
         ensures any_moment { D.keeps_model → (slots : Slots) → IsSettledPair self.now slots (D.gives disk.old) (D.may_leave_now disk.old)
@@ -445,8 +445,8 @@ impl GatedPair {
         ensures ok { OnOk result (self.new ≡ stored self.old) }
         ensures settled { D.keeps_model → (slots : Slots) → IsSettledPair self.old slots (D.gives disk.old) (D.may_leave_now disk.old)
             → OnOk result (IsSettledPair self.new (with_entry self.old.into (Some (record { number = self.old.number + 1; payload = payload.now })) slots) (D.gives disk.new) (D.may_leave_now disk.new)) }
-        ensures bytes { D.keeps_model → OnOk result (Stands (slot_bytes self.old.into (inside self.old.part (D.gives disk.new))) 0 (13 + length payload.now)
-            (entry_spelling (record { number = self.old.number + 1; payload = payload.now }))) }
+        ensures bytes { D.keeps_model → OnOk result (HoldsAt (slot_bytes self.old.into (inside self.old.part (D.gives disk.new))) 0 (13 + length payload.now)
+            (entry_encoding (record { number = self.old.number + 1; payload = payload.now }))) }
         ensures other { D.keeps_model → slot_bytes (1 - self.old.into) (inside self.old.part (D.gives disk.new)) ≡ slot_bytes (1 - self.old.into) (inside self.old.part (D.gives disk.old)) }
         ensures whole { D.keeps_model → OnOk result (Only (D.gives disk.new) (D.may_leave_now disk.new)) }
 

@@ -3,8 +3,8 @@ ghost use Rattle.std.specs.Prelude.{◌≡◌, ◌≢◌, ◌⊎◌, ◌+◌, �
 ghost use Rattle.std.specs.Option.{SomeIff};
 ghost use Rattle.disk_model.specs.Disk.{Holds, LeavesOnly, Only};
 ghost use Rattle.disk_model.specs.Part.{inside, LeftInside, TouchesOnly};
-ghost use Rattle.gate_journal.specs.Pair.{Entry, HasGate, HoldsSlot, closing, entry_body, entry_spelling};
-ghost use Rattle.gate_journal.specs.Reading.{Stands};
+ghost use Rattle.gate_journal.specs.Pair.{Entry, HasGate, HoldsSlot, closing, entry_body, entry_encoding};
+ghost use Rattle.gate_journal.specs.Reading.{HoldsAt};
 ghost use Rattle.gate_journal.specs.Refusal.{HasCause, IsOfLoading};
 ghost use Rattle.gate_journal.specs.Runs.{OnlyReads};
 ghost use Rattle.gate_journal.specs.PairSlot.{IsHeadOf};
@@ -89,7 +89,7 @@ pub(crate) fn close_gate<D: Disk>(
 }
 
 /// The body of an entry, and zeros behind it.
-fn spelled_body(number: u64, payload: &[u8]) -> [u8; BODY_SIZE]
+fn encoded_body(number: u64, payload: &[u8]) -> [u8; BODY_SIZE]
     requires { length payload.now ≤ MAX_PAYLOAD }
     ensures { take (12 + length payload.now) result ≡ entry_body number payload.now }
 {
@@ -112,8 +112,8 @@ pub(crate) fn write_entry<D: Disk>(
     requires on_disk { part.start + part.len ≤ D.size disk.old }
     requires fits { length payload.now ≤ MAX_PAYLOAD }
     requires limit { number ≤ MAX_NUMBER }
-    ensures bytes { D.keeps_model → OnOk result (Stands (inside part (D.gives disk.new)) 0 (13 + length payload.now)
-        (entry_spelling (record { number = number; payload = payload.now }))) }
+    ensures bytes { D.keeps_model → OnOk result (HoldsAt (inside part (D.gives disk.new)) 0 (13 + length payload.now)
+        (entry_encoding (record { number = number; payload = payload.now }))) }
     ensures whole { D.keeps_model → OnOk result (Only (D.gives disk.new) (D.may_leave_now disk.new)) }
     ensures any_moment { D.keeps_model → HasGate true (inside part (D.gives disk.old)) → Only (inside part (D.gives disk.old)) (LeftInside part (D.may_leave_now disk.old))
         → LeavesOnly D.moment D.may_have_left_since disk.old disk.new
@@ -125,7 +125,7 @@ pub(crate) fn write_entry<D: Disk>(
     ensures done { OnOk result (D.failures disk.new ≡ D.failures disk.old) }
     ensures cause { IfErr result (λ e. e ≢ DiskError.Memory → D.failures disk.old < D.failures disk.new) }
 {
-    let body = spelled_body(number, payload);
+    let body = encoded_body(number, payload);
     write_durably(part, disk, 1, &body[..12 + payload.len()])?;
     write_durably(part, disk, 0, &[OPEN])
 }

@@ -4,8 +4,8 @@ ghost use Rattle.std.specs.Prelude.{◌≡◌, ◌≢◌, ◌+◌, ◌*◌, ◌<
 ghost use Rattle.std.specs.List.{flat_map};
 ghost use Rattle.byteorder.specs.Endian.{big_bytes};
 ghost use Rattle.disk_model.specs.Part.{inside};
-ghost use Rattle.gate_journal.specs.Batch.{IsBatch, IsDamaged, IsWhole, batch_size, batch_spelling, image_spelling};
-ghost use Rattle.gate_journal.specs.Reading.{HasNoBatch, IsFound, Stands};
+ghost use Rattle.gate_journal.specs.Batch.{IsBatch, IsDamaged, IsWhole, batch_size, batch_encoding, image_encoding};
+ghost use Rattle.gate_journal.specs.Reading.{HasNoBatch, IsFound, HoldsAt};
 ghost use Rattle.gate_journal.specs.Refusal.{HasCause, IsOfReading};
 ghost use Rattle.gate_journal.specs.Runs.{OnlyReads};
 
@@ -36,7 +36,7 @@ pub(crate) fn read_array<D: Disk, const N: usize>(
 ) -> Result<[u8; N], Refusal>
     requires on_disk { part.start + part.len ≤ D.size disk.old }
     requires range { at + N ≤ part.len }
-    ensures bytes { D.keeps_model → IfOk result (λ bytes. Stands (inside part (D.gives disk.old)) at (at + N) bytes) }
+    ensures bytes { D.keeps_model → IfOk result (λ bytes. HoldsAt (inside part (D.gives disk.old)) at (at + N) bytes) }
     ensures reads { D.keeps_model → OnlyReads D.gives D.may_leave_now D.moment D.may_have_left_since disk.old disk.new }
     ensures size { D.size disk.new ≡ D.size disk.old }
     ensures told { IfErr result IsOfReading }
@@ -52,7 +52,7 @@ pub(crate) fn read_array<D: Disk, const N: usize>(
 fn read_gate<D: Disk>(part: Part, disk: &mut D, at: u64) -> Result<u8, Refusal>
     requires on_disk { part.start + part.len ≤ D.size disk.old }
     requires range { at + 1 ≤ part.len }
-    ensures gate { D.keeps_model → IfOk result (λ gate. Stands (inside part (D.gives disk.old)) at (at + 1) (gate ∷ [])) }
+    ensures gate { D.keeps_model → IfOk result (λ gate. HoldsAt (inside part (D.gives disk.old)) at (at + 1) (gate ∷ [])) }
     ensures reads { D.keeps_model → OnlyReads D.gives D.may_leave_now D.moment D.may_have_left_since disk.old disk.new }
     ensures size { D.size disk.new ≡ D.size disk.old }
     ensures told { IfErr result IsOfReading }
@@ -67,7 +67,7 @@ fn read_gate<D: Disk>(part: Part, disk: &mut D, at: u64) -> Result<u8, Refusal>
 fn read_header<D: Disk>(part: Part, disk: &mut D, at: u64) -> Result<Header, Refusal>
     requires on_disk { part.start + part.len ≤ D.size disk.old }
     requires range { at + 12 ≤ part.len }
-    ensures header { D.keeps_model → IfOk result (λ h. Stands (inside part (D.gives disk.old)) at (at + 12) (big_bytes 8 h.front ++ big_bytes 4 h.count)) }
+    ensures header { D.keeps_model → IfOk result (λ h. HoldsAt (inside part (D.gives disk.old)) at (at + 12) (big_bytes 8 h.front ++ big_bytes 4 h.count)) }
     ensures reads { D.keeps_model → OnlyReads D.gives D.may_leave_now D.moment D.may_have_left_since disk.old disk.new }
     ensures size { D.size disk.new ≡ D.size disk.old }
     ensures told { IfErr result IsOfReading }
@@ -85,7 +85,7 @@ fn read_header<D: Disk>(part: Part, disk: &mut D, at: u64) -> Result<Header, Ref
 fn read_image<D: Disk>(part: Part, disk: &mut D, at: u64) -> Result<Image, Refusal>
     requires on_disk { part.start + part.len ≤ D.size disk.old }
     requires range { at + IMAGE_RECORD ≤ part.len }
-    ensures image { D.keeps_model → IfOk result (λ image. Stands (inside part (D.gives disk.old)) at (at + IMAGE_RECORD) (image_spelling image)) }
+    ensures image { D.keeps_model → IfOk result (λ image. HoldsAt (inside part (D.gives disk.old)) at (at + IMAGE_RECORD) (image_encoding image)) }
     ensures whole { IfOk result IsWhole }
     ensures reads { D.keeps_model → OnlyReads D.gives D.may_leave_now D.moment D.may_have_left_since disk.old disk.new }
     ensures size { D.size disk.new ≡ D.size disk.old }
@@ -112,7 +112,7 @@ fn read_images<D: Disk>(
 ) -> Result<Vec<Image>, Refusal>
     requires on_disk { part.start + part.len ≤ D.size disk.old }
     requires range { at + IMAGE_RECORD * count ≤ part.len }
-    ensures images { D.keeps_model → IfOk result (λ images. Stands (inside part (D.gives disk.old)) at (at + IMAGE_RECORD * count) (flat_map image_spelling images.items)) }
+    ensures images { D.keeps_model → IfOk result (λ images. HoldsAt (inside part (D.gives disk.old)) at (at + IMAGE_RECORD * count) (flat_map image_encoding images.items)) }
     ensures count { IfOk result (λ images. length images.items ≡ count) }
     ensures whole { IfOk result (λ images. All IsWhole images.items) }
     ensures reads { D.keeps_model → OnlyReads D.gives D.may_leave_now D.moment D.may_have_left_since disk.old disk.new }
@@ -156,7 +156,7 @@ fn read_body<D: Disk>(
     requires volume { blocks ≤ MAX_BLOCKS }
     ensures next { IfOk result (IsBatch blocks before) }
     ensures batch { D.keeps_model → IfOk result (λ batch.
-        1 ∷ drop (at + 1) (inside part (D.gives disk.old)) ≡ batch_spelling batch ++ drop (at + batch_size (length batch.images)) (inside part (D.gives disk.old))) }
+        1 ∷ drop (at + 1) (inside part (D.gives disk.old)) ≡ batch_encoding batch ++ drop (at + batch_size (length batch.images)) (inside part (D.gives disk.old))) }
     ensures within { IfOk result (λ batch. at + batch_size (length batch.images) + 1 ≤ part.len) }
     ensures damaged { D.keeps_model → IsErrOf result Refusal.Damaged → HasNoBatch blocks before (1 ∷ drop (at + 1) (inside part (D.gives disk.old))) }
     ensures reads { D.keeps_model → OnlyReads D.gives D.may_leave_now D.moment D.may_have_left_since disk.old disk.new }

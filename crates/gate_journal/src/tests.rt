@@ -133,7 +133,7 @@ fn faults(rt: HostRuntime) -> Result<(), Fail> {
 }
 
 // An open gate, a front, a count, and blocks of zeros under these numbers.
-fn spell(bytes: &mut Vec<u8>, front: u64, count: u32, blocks: &[u32]) -> Result<(), AllocError> {
+fn encode(bytes: &mut Vec<u8>, front: u64, count: u32, blocks: &[u32]) -> Result<(), AllocError> {
     bytes.push(1)?;
     bytes.extend_from_slice(&front.to_be_bytes())?;
     bytes.extend_from_slice(&count.to_be_bytes())?;
@@ -187,8 +187,8 @@ fn damage(rt: HostRuntime) -> Result<(), Fail> {
     let alloc = rt.alloc();
     for (front, count, blocks, area, last) in SECONDS {
         let mut bytes = Vec::new(alloc);
-        spell(&mut bytes, 7, 1, &[1])?;
-        spell(&mut bytes, front, count, blocks)?;
+        encode(&mut bytes, 7, 1, &[1])?;
+        encode(&mut bytes, front, count, blocks)?;
         let wanted = last.ok_or(Refusal::Damaged);
         assert_eq!(rt;
             opened(alloc, area, &bytes)?,

@@ -1,7 +1,7 @@
 // From batch to batch through a part of a disk.
 ghost use Rattle.std.specs.Prelude.{◌≡◌, ◌+◌, ◌^◌, ◌<◌, ◌≤◌, length, max, IfOk, IfErr, IsErrOf};
 ghost use Rattle.disk_model.specs.Part.{inside};
-ghost use Rattle.gate_journal.specs.Batch.{AreBatches, HoldsBatches, IsDamaged, batch_size, last_front, spellings};
+ghost use Rattle.gate_journal.specs.Batch.{AreBatches, HoldsBatches, IsDamaged, batch_size, last_front, encodings};
 ghost use Rattle.gate_journal.specs.Refusal.{HasCause, IsOfReading};
 ghost use Rattle.gate_journal.specs.Runs.{OnlyReads};
 
@@ -45,7 +45,7 @@ pub(crate) fn read_batches<D: Disk>(
     requires volume { blocks ≤ MAX_BLOCKS }
     ensures are { IfOk result (λ r. AreBatches blocks before r.0.items) }
     ensures held { D.keeps_model → IfOk result (λ r. HoldsBatches blocks before r.0.items (inside part (D.gives disk.old))) }
-    ensures end { D.keeps_model → IfOk result (λ r. r.1.end ≡ length (spellings r.0.items)) }
+    ensures end { D.keeps_model → IfOk result (λ r. r.1.end ≡ length (encodings r.0.items)) }
     ensures front { IfOk result (λ r. r.1.front ≡ last_front before r.0.items) }
     ensures within { IfOk result (λ r. r.1.end + 1 ≤ part.len) }
     ensures fronts { IfOk result (λ r. (before ≤ r.1.front) × (r.1.front ≤ max before MAX_NUMBER)) }

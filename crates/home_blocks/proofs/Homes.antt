@@ -8,7 +8,7 @@ use Rattle.disk_model.specs.Part.{inside}
 use Rattle.disk_model.specs.declared.part.Part.{Part}
 use Rattle.gate_journal.specs.Pair.{Entry, HoldsPair, HoldsStored, IsSettledPair, Pair, Slots, last_number, newest, next_slot, stored, with_entry}
 use Rattle.home_blocks.specs.Home.{HoldsSuperblock, IsSettledHome, State}
-use Rattle.home_blocks.specs.Superblock.{IsSuperblock, Superblock, marked, superblock_spelling}
+use Rattle.home_blocks.specs.Superblock.{IsSuperblock, Superblock, marked, superblock_encoding}
 use Rattle.home_blocks.specs.declared.area.Area.{Area}
 
 -- a block is what is read at its place
@@ -25,18 +25,18 @@ LeavesOld = (slots : Slots) → newest (with_entry (next_slot slots) None slots)
 abbrev pub LeavesNew : Type 0
 LeavesNew = (slots : Slots) (new : Entry) → new.number ≡ last_number (newest slots) + 1 → newest (with_entry (next_slot slots) (Some new) slots) ≡ Some new
 
-module _ (home : State) (gives : List ℕ) (left : List ℕ → Type 0) (settled : IsSettledHome home gives left) (sb : Superblock) (is : IsSuperblock sb) (payload : List ℕ) (spelled : payload ≡ superblock_spelling sb) (old : LeavesOld) (new : LeavesNew) where
+module _ (home : State) (gives : List ℕ) (left : List ℕ → Type 0) (settled : IsSettledHome home gives left) (sb : Superblock) (is : IsSuperblock sb) (payload : List ℕ) (encoded : payload ≡ superblock_encoding sb) (old : LeavesOld) (new : LeavesNew) where
   abbrev entry : Entry
   entry = record { number = home.pair.number + 1; payload = payload }
 
   abbrev marked_slots : Slots
   marked_slots = with_entry home.pair.into (Some entry) settled.slots
 
-  newer : newest marked_slots ≡ Some (record { number = home.pair.number + 1; payload = superblock_spelling sb })
+  newer : newest marked_slots ≡ Some (record { number = home.pair.number + 1; payload = superblock_encoding sb })
   newer =
       ap (λ (k : ℕ). newest (with_entry k (Some entry) settled.slots)) settled.pair.into
       ∙ new settled.slots entry (ap (λ (k : ℕ). k + 1) settled.pair.number)
-      ∙ (λ i. Some (record { number = home.pair.number + 1; payload = spelled i }))
+      ∙ (λ i. Some (record { number = home.pair.number + 1; payload = encoded i }))
 
   holds_old : (slots : Slots) (c : List ℕ) → newest slots ≡ newest settled.slots → HoldsPair slots (inside home.pair.part c) → HoldsSuperblock home.superblock c
   holds_old slots c same holds = record {
@@ -71,15 +71,15 @@ module _ (home : State) (gives : List ℕ) (left : List ℕ → Type 0) (settled
     place = ap (λ (p : Pair). p.part) same ∙ settled.place;
     slots = marked_slots;
     pair = stands;
-    is_newest = newer ∙ (λ i. Some (record { number = sym (ap (λ (p : Pair). p.number) same) i; payload = superblock_spelling sb }));
+    is_newest = newer ∙ (λ i. Some (record { number = sym (ap (λ (p : Pair). p.number) same) i; payload = superblock_encoding sb }));
   }
 
 -- a whole mark, of a home that is seen as another
 pub mark_run : {D : Type 0} {moment : D → ℕ} {left_since : D → ℕ → List ℕ → Type 0} {before after : D} (home now : State) (same : home ≡ now) (gives : List ℕ) (left : List ℕ → Type 0) → IsSettledHome now gives left
-    → (front : ℕ) (area : Area) (sb : Superblock) → sb ≡ marked home.superblock front area → IsSuperblock sb → (payload : List ℕ) → payload ≡ superblock_spelling sb → LeavesOld → LeavesNew
+    → (front : ℕ) (area : Area) (sb : Superblock) → sb ≡ marked home.superblock front area → IsSuperblock sb → (payload : List ℕ) → payload ≡ superblock_encoding sb → LeavesOld → LeavesNew
     → ((slots : Slots) → IsSettledPair home.pair slots gives left → LeavesOnly moment left_since before after (λ c. HoldsStored slots home.pair.into (record { number = home.pair.number + 1; payload = payload }) (inside home.pair.part c)))
     → LeavesOnly moment left_since before after (λ c. HoldsSuperblock now.superblock c ⊎ HoldsSuperblock (marked now.superblock front area) c)
-mark_run {D} {moment} {left_since} {before} {after} home now same gives left settled front area sb made is payload spelled old new run =
+mark_run {D} {moment} {left_since} {before} {after} home now same gives left settled front area sb made is payload encoded old new run =
     let here : IsSettledHome home gives left = subst (λ (h : State). IsSettledHome h gives left) (sym same) settled in
     let Leaves : State → Superblock → Type 0 = λ h s. LeavesOnly moment left_since before after (λ c. HoldsSuperblock h.superblock c ⊎ HoldsSuperblock s c) in
     subst (λ (h : State). Leaves h (marked h.superblock front area)) same
@@ -87,5 +87,5 @@ mark_run {D} {moment} {left_since} {before} {after} home now same gives left set
     (weaker moment left_since before after
     (λ c. HoldsStored here.slots home.pair.into (record { number = home.pair.number + 1; payload = payload }) (inside home.pair.part c))
     (λ c. HoldsSuperblock home.superblock c ⊎ HoldsSuperblock sb c)
-    (mark_leaves home gives left here sb is payload spelled old new)
+    (mark_leaves home gives left here sb is payload encoded old new)
     (run here.slots here.pair)))

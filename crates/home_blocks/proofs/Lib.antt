@@ -1,4 +1,4 @@
 mod Homes
 mod Payloads
 mod Reading
-mod Spellings
+mod Encodings

@@ -6,8 +6,8 @@ use Rattle.disk_model.specs.declared.part.Part.{Part}
 use Rattle.gate_journal.specs.Pair.{Entry, HoldsPair, IsPayloadOf, IsSettledPair, Pair, Slots, last_number, newest}
 use Rattle.home_blocks.specs.Home.{HoldsNoPayload, HoldsPayload, HoldsSuperblock, IsNoVolume, IsOtherVersion, IsVolume}
 use Rattle.home_blocks.specs.Places.{superblock_part}
-use Rattle.home_blocks.specs.Superblock.{HasOtherVersion, IsSpelling, Superblock, superblock_spelling}
-use Rattle.home_blocks.proofs.Spellings.{other_version_apart, superblocks_apart}
+use Rattle.home_blocks.specs.Superblock.{HasOtherVersion, IsEncoding, Superblock, superblock_encoding}
+use Rattle.home_blocks.proofs.Encodings.{other_version_apart, superblocks_apart}
 
 -- the bytes of a pair have one reading at most
 abbrev pub OneReading : Type 0
@@ -32,16 +32,16 @@ module _ (one : OneReading) (bytes : List ℕ) where
       cc same
 
   pub one_superblock : (some other : Superblock) → HoldsSuperblock some bytes → HoldsSuperblock other bytes → some ≡ other
-  one_superblock some other holds holds' = superblocks_apart some other holds.is holds'.is (one_payload (superblock_spelling some) (superblock_spelling other) holds.payload holds'.payload)
+  one_superblock some other holds holds' = superblocks_apart some other holds.is holds'.is (one_payload (superblock_encoding some) (superblock_encoding other) holds.payload holds'.payload)
 
   pub not_another : (sb : Superblock) → HoldsSuperblock sb bytes → IsOtherVersion bytes → ⊥
-  not_another sb holds other = other_version_apart sb other.payload (one_payload other.payload (superblock_spelling sb) other.holds holds.payload) other.other
+  not_another sb holds other = other_version_apart sb other.payload (one_payload other.payload (superblock_encoding sb) other.holds holds.payload) other.other
 
   pub a_volume : (sb : Superblock) → IsVolume sb bytes → IsNoVolume bytes → ⊥
   a_volume sb is (inl short) = omega (arith, short, is.room)
-  a_volume sb is (inr (inl none)) = not_none (superblock_spelling sb) is.holds.payload none
+  a_volume sb is (inr (inl none)) = not_none (superblock_encoding sb) is.holds.payload none
   a_volume sb is (inr (inr (inl other))) =
-      other.no_superblock.none sb (record { is = is.holds.is; spelled = one_payload other.payload (superblock_spelling sb) other.holds is.holds.payload })
+      other.no_superblock.none sb (record { is = is.holds.is; encoded = one_payload other.payload (superblock_encoding sb) other.holds is.holds.payload })
   a_volume sb is (inr (inr (inr short))) =
       let same = one_superblock sb short.superblock is.holds short.holds in
       omega (arith, short.short, is.room, ap (λ (s : Superblock). s.geometry.blocks) same, ap (λ (s : Superblock). s.geometry.area) same)
@@ -83,6 +83,6 @@ module _ (pair : Pair) (gives old : List ℕ) (left : List ℕ → Type 0) (plac
 pub passed_on : {T E : Type 0} (result : Result T E) (told field : E) → IsErrAnd result (λ e. e ≡ field) → result ≡ Err told → field ≡ told
 passed_on {T} {E} result told field passed is = sym (subst (λ (r : Result T E). IsErrAnd r (λ e. e ≡ field)) is passed)
 
--- a payload that spells a superblock
-pub held_superblock : (sb : Superblock) (payload bytes : List ℕ) → IsSpelling payload sb → HoldsPayload payload bytes → HoldsSuperblock sb bytes
-held_superblock sb payload bytes spelled holds = record { is = spelled.is; payload = subst (λ (l : List ℕ). HoldsPayload l bytes) spelled.spelled holds }
+-- a payload that encodes a superblock
+pub held_superblock : (sb : Superblock) (payload bytes : List ℕ) → IsEncoding payload sb → HoldsPayload payload bytes → HoldsSuperblock sb bytes
+held_superblock sb payload bytes encoded holds = record { is = encoded.is; payload = subst (λ (l : List ℕ). HoldsPayload l bytes) encoded.encoded holds }

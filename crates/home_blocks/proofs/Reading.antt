@@ -5,10 +5,10 @@ use Rattle.std.specs.Option.{ok_or}
 use Rattle.std.specs.Cmp.Lexicographic.{pointwise, other_text, same_text}
 use Rattle.std.proofs.lemmas.List.{take_at, take-append-drop}
 use Rattle.byteorder.specs.Endian.{big_bytes}
-use Rattle.home_blocks.specs.Superblock.{HasOtherVersion, IsNoSuperblock, IsSpelling, IsSuperblock, Superblock, fields_spelling, header_spelling}
+use Rattle.home_blocks.specs.Superblock.{HasOtherVersion, IsNoSuperblock, IsEncoding, IsSuperblock, Superblock, fields_encoding, header_encoding}
 use Rattle.home_blocks.specs.declared.refusal.Refusal.{Refusal}
 use Rattle.home_blocks.specs.declared.refusal.Refusal.TheVariants.{NotAVolume}
-use Rattle.home_blocks.proofs.Spellings.{fields_apart, fields_of, no_other, spells, too_short, too_short_for_another, unmarked, unversioned}
+use Rattle.home_blocks.proofs.Encodings.{fields_apart, fields_of, no_other, encodes, too_short, too_short_for_another, unmarked, unversioned}
 
 -- bytes that don't begin with the magic
 pub no_magic : (bytes : List ℕ) → pointwise nat_eq (take 8 bytes) (codes "CRAQDISK") ≡ false → IsNoSuperblock bytes
@@ -22,7 +22,7 @@ pub no_version : (bytes : List ℕ) → length bytes < 12 → IsNoSuperblock byt
 no_version bytes short = record { none = too_short bytes short; same = too_short_for_another bytes short }
 
 -- bytes with a header
-pub header_is : (bytes behind fields : List ℕ) (version : ℕ) → pointwise nat_eq (take 8 bytes) (codes "CRAQDISK") ≡ true → behind ≡ drop 8 bytes → behind ≡ big_bytes 4 version ++ fields → bytes ≡ header_spelling version ++ fields
+pub header_is : (bytes behind fields : List ℕ) (version : ℕ) → pointwise nat_eq (take 8 bytes) (codes "CRAQDISK") ≡ true → behind ≡ drop 8 bytes → behind ≡ big_bytes 4 version ++ fields → bytes ≡ header_encoding version ++ fields
 header_is bytes behind fields version same is read =
     sym (take-append-drop 8 bytes)
     ∙ ap (λ (l : List ℕ). l ++ drop 8 bytes) (same_text (take 8 bytes) (codes "CRAQDISK") (sym same))
@@ -35,26 +35,26 @@ other_version bytes behind fields version same is read fits other =
     record { version = version; rest = fields; fits = fits; other = other; begins = header_is bytes behind fields version same is read }
 
 -- bytes with the header of version 1
-module _ (bytes fields : List ℕ) (begins : bytes ≡ header_spelling 1 ++ fields) where
-  pub no_fields : ((sb : Superblock) → IsSuperblock sb → fields ≡ fields_spelling sb → ⊥) → IsNoSuperblock bytes
-  no_fields never = record { none = λ sb spelled. never sb spelled.is (fields_of bytes fields begins sb spelled); same = no_other bytes fields begins }
+module _ (bytes fields : List ℕ) (begins : bytes ≡ header_encoding 1 ++ fields) where
+  pub no_fields : ((sb : Superblock) → IsSuperblock sb → fields ≡ fields_encoding sb → ⊥) → IsNoSuperblock bytes
+  no_fields never = record { none = λ sb encoded. never sb encoded.is (fields_of bytes fields begins sb encoded); same = no_other bytes fields begins }
 
   -- a superblock that was read of the fields, or none
   abbrev Answer : Option Superblock → Result Superblock Refusal
   Answer found = ok_or found NotAVolume
 
-  pub answer_found : (found : Option Superblock) → IfSome found (λ sb. fields ≡ fields_spelling sb) → IfSome found IsSuperblock → IfOk (Answer found) (IsSpelling bytes)
-  answer_found (Some sb) read is = spells bytes fields begins sb is read
+  pub answer_found : (found : Option Superblock) → IfSome found (λ sb. fields ≡ fields_encoding sb) → IfSome found IsSuperblock → IfOk (Answer found) (IsEncoding bytes)
+  answer_found (Some sb) read is = encodes bytes fields begins sb is read
   answer_found None read is = tt
 
-  pub answer_exact : (found : Option Superblock) → IfSome found (λ sb. fields ≡ fields_spelling sb) → IfSome found IsSuperblock → IfNone found ((sb : Superblock) → IsSuperblock sb → fields ≡ fields_spelling sb → ⊥)
-      → (sb : Superblock) → IsSpelling bytes sb → Answer found ≡ Ok sb
-  answer_exact (Some here) read is none sb spelled =
-      let same = fields_apart here sb is spelled.is (sym read ∙ fields_of bytes fields begins sb spelled) in
+  pub answer_exact : (found : Option Superblock) → IfSome found (λ sb. fields ≡ fields_encoding sb) → IfSome found IsSuperblock → IfNone found ((sb : Superblock) → IsSuperblock sb → fields ≡ fields_encoding sb → ⊥)
+      → (sb : Superblock) → IsEncoding bytes sb → Answer found ≡ Ok sb
+  answer_exact (Some here) read is none sb encoded =
+      let same = fields_apart here sb is encoded.is (sym read ∙ fields_of bytes fields begins sb encoded) in
       λ i. Ok (same i)
-  answer_exact None read is none sb spelled = absurd (none sb spelled.is (fields_of bytes fields begins sb spelled))
+  answer_exact None read is none sb encoded = absurd (none sb encoded.is (fields_of bytes fields begins sb encoded))
 
-  pub answer_none : (found : Option Superblock) → IfSome found (λ sb. fields ≡ fields_spelling sb) → IfSome found IsSuperblock → IfNone found ((sb : Superblock) → IsSuperblock sb → fields ≡ fields_spelling sb → ⊥)
+  pub answer_none : (found : Option Superblock) → IfSome found (λ sb. fields ≡ fields_encoding sb) → IfSome found IsSuperblock → IfNone found ((sb : Superblock) → IsSuperblock sb → fields ≡ fields_encoding sb → ⊥)
       → IsErrOf (Answer found) NotAVolume ↔ IsNoSuperblock bytes
-  answer_none (Some sb) read is none = (λ e. absurd (cc e), λ no. absurd (no.none sb (spells bytes fields begins sb is read)))
+  answer_none (Some sb) read is none = (λ e. absurd (cc e), λ no. absurd (no.none sb (encodes bytes fields begins sb is read)))
   answer_none None read is none = (λ e. no_fields none, λ no. refl)

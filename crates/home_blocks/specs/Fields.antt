@@ -7,8 +7,8 @@ use Rattle.home_blocks.specs.Superblock.{IsSuperblock, Superblock}
 use Rattle.home_blocks.specs.declared.fields.Fields.{Fields}
 
 -- one number behind the other
-abbrev pub numbers_spelling : Fields → List ℕ
-numbers_spelling n = n.progress ∷ n.slot ∷ big_bytes 8 n.incarnation
+abbrev pub numbers_encoding : Fields → List ℕ
+numbers_encoding n = n.progress ∷ n.slot ∷ big_bytes 8 n.incarnation
     ++ (big_bytes 4 n.blocks ++ big_bytes 4 n.area ++ big_bytes 4 n.max_payload) ++ big_bytes 8 n.front ++ n.current ∷ []
 
 -- the numbers of a superblock

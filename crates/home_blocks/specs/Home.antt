@@ -6,7 +6,7 @@ use Rattle.disk_model.specs.Part.{inside, KeepsPart}
 use Rattle.disk_model.specs.declared.part.Part.{Part}
 use Rattle.gate_journal.specs.Pair.{HasGate, HoldsPair, IsSettledPair, Pair, Slots, newest, slot_bytes}
 use Rattle.home_blocks.specs.Places.{disk_size_of, superblock_part}
-use Rattle.home_blocks.specs.Superblock.{HasOtherVersion, IsNoSuperblock, IsSuperblock, Superblock, superblock_spelling}
+use Rattle.home_blocks.specs.Superblock.{HasOtherVersion, IsNoSuperblock, IsSuperblock, Superblock, superblock_encoding}
 
 -- the pair that keeps a disk's superblock, and the superblock
 pub record State : Type 0 where
@@ -29,7 +29,7 @@ pub record HoldsNoPayload (bytes : List ℕ) : Type 0 where
 -- the disk's bytes hold this superblock
 pub record HoldsSuperblock (sb : Superblock) (bytes : List ℕ) : Type 0 where
   pub is : IsSuperblock sb
-  pub payload : HoldsPayload (superblock_spelling sb) bytes
+  pub payload : HoldsPayload (superblock_encoding sb) bytes
 
 -- the disk's bytes are those of a volume with this superblock: they hold it, and have room for what it says
 pub record IsVolume (sb : Superblock) (bytes : List ℕ) : Type 0 where
@@ -66,7 +66,7 @@ pub record IsSettledHome (home : State) (gives : List ℕ) (may_leave : List ℕ
   pub place : home.pair.part ≡ superblock_part
   pub slots : Slots
   pub pair : IsSettledPair home.pair slots gives may_leave
-  pub is_newest : newest slots ≡ Some (record { number = home.pair.number; payload = superblock_spelling home.superblock })
+  pub is_newest : newest slots ≡ Some (record { number = home.pair.number; payload = superblock_encoding home.superblock })
 
 -- a settled home's disk holds its superblock: lemmas for the crates above
 pub settled_holds : {home : State} {gives : List ℕ} {may_leave : List ℕ → Type 0} → IsSettledHome home gives may_leave → HoldsSuperblock home.superblock gives

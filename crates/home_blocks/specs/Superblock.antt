@@ -1,4 +1,4 @@
--- What a superblock says, and its spelling.
+-- What a superblock says, and its encoding.
 use Rattle.std.specs.Prelude.{◌≡◌, ◌≢◌, ℕ, ◌^◌, ◌<◌, ◌≤◌, List, [], ◌∷◌, ◌++◌, codes}
 use Rattle.byteorder.specs.Endian.{big_bytes}
 use Rattle.gate_journal.specs.declared.batch.TheConstants.{MAX_NUMBER}
@@ -31,26 +31,26 @@ abbrev pub marked : Superblock → ℕ → Area → Superblock
 marked sb front area = record sb { progress = Whole; front = front; current = area }
 
 -- the magic, and the number of a version in four bytes
-abbrev pub header_spelling : ℕ → List ℕ
-header_spelling version = codes "CRAQDISK" ++ big_bytes 4 version
+abbrev pub header_encoding : ℕ → List ℕ
+header_encoding version = codes "CRAQDISK" ++ big_bytes 4 version
 
 -- the blocks, the bytes of an area, and the largest payload, in four bytes each
-abbrev pub geometry_spelling : Geometry → List ℕ
-geometry_spelling g = big_bytes 4 g.blocks ++ big_bytes 4 g.area ++ big_bytes 4 g.max_payload
+abbrev pub geometry_encoding : Geometry → List ℕ
+geometry_encoding g = big_bytes 4 g.blocks ++ big_bytes 4 g.area ++ big_bytes 4 g.max_payload
 
 -- what stands behind the header: progress and slot in one byte each, the incarnation in eight, the geometry, the front
 -- in eight, the area in one
-abbrev pub fields_spelling : Superblock → List ℕ
-fields_spelling sb = progress_number sb.progress ∷ sb.slot ∷ big_bytes 8 sb.incarnation ++ geometry_spelling sb.geometry ++ big_bytes 8 sb.front ++ area_number sb.current ∷ []
+abbrev pub fields_encoding : Superblock → List ℕ
+fields_encoding sb = progress_number sb.progress ∷ sb.slot ∷ big_bytes 8 sb.incarnation ++ geometry_encoding sb.geometry ++ big_bytes 8 sb.front ++ area_number sb.current ∷ []
 
 -- the header of version 1, and the fields
-unfoldable pub superblock_spelling : Superblock → List ℕ
-superblock_spelling sb = header_spelling 1 ++ fields_spelling sb
+unfoldable pub superblock_encoding : Superblock → List ℕ
+superblock_encoding sb = header_encoding 1 ++ fields_encoding sb
 
--- the bytes are the spelling of this superblock
-pub record IsSpelling (bytes : List ℕ) (sb : Superblock) : Type 0 where
+-- the bytes are the encoding of this superblock
+pub record IsEncoding (bytes : List ℕ) (sb : Superblock) : Type 0 where
   pub is : IsSuperblock sb
-  pub spelled : bytes ≡ superblock_spelling sb
+  pub encoded : bytes ≡ superblock_encoding sb
 
 -- the bytes begin with the magic and the number of another version
 pub record HasOtherVersion (bytes : List ℕ) : Type 0 where
@@ -58,9 +58,9 @@ pub record HasOtherVersion (bytes : List ℕ) : Type 0 where
   pub rest : List ℕ
   pub fits : version < 2 ^ 32
   pub other : version ≢ 1
-  pub begins : bytes ≡ header_spelling version ++ rest
+  pub begins : bytes ≡ header_encoding version ++ rest
 
 -- the bytes are no superblock's, of this version or of another
 pub record IsNoSuperblock (bytes : List ℕ) : Type 0 where
-  pub none : (sb : Superblock) → IsSpelling bytes sb → ⊥
+  pub none : (sb : Superblock) → IsEncoding bytes sb → ⊥
   pub same : HasOtherVersion bytes → ⊥

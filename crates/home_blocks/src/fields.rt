@@ -1,7 +1,7 @@
-// The pieces of a superblock's spelling.
+// The pieces of a superblock's encoding.
 ghost use Rattle.std.specs.Prelude.{◌≡◌, ◌+◌, ◌^◌, ◌<◌, ◌≤◌, ◌++◌, length, take, IfSome, IfNone};
 ghost use Rattle.byteorder.specs.Endian.{big_bytes};
-ghost use Rattle.home_blocks.specs.Superblock.{IsSuperblock, Superblock as Said, fields_spelling};
+ghost use Rattle.home_blocks.specs.Superblock.{IsSuperblock, Superblock as Said, fields_encoding};
 
 use crate::{Area, Progress, Superblock};
 use gate_journal::{MAX_NUMBER, Slot};
@@ -49,12 +49,12 @@ struct Fields {
 
 impl Fields {
     ghost use Rattle.std.specs.Prelude.{◌≡◌, ◌≢◌, IfSome, IfNone, length};
-    ghost use Rattle.home_blocks.specs.Fields.{IsOf, numbers_spelling};
+    ghost use Rattle.home_blocks.specs.Fields.{IsOf, numbers_encoding};
     ghost use Rattle.home_blocks.specs.Superblock.{Superblock as Said};
 
     /// The numbers of bytes, where there are as many as there should be.
     fn read(bytes: &[u8]) -> Option<Fields>
-        ensures read { IfSome result (λ fields. bytes.now ≡ numbers_spelling fields) }
+        ensures read { IfSome result (λ fields. bytes.now ≡ numbers_encoding fields) }
         ensures none { IfNone result (length bytes.now ≢ 31) }
     {
         let (progress, behind) = bytes.split_first()?;
@@ -104,9 +104,9 @@ impl Fields {
 
 /// The superblock whose fields these bytes are.
 pub(crate) fn read_fields(bytes: &[u8]) -> Option<Superblock>
-    ensures found { IfSome result (λ sb. bytes.now ≡ fields_spelling sb) }
+    ensures found { IfSome result (λ sb. bytes.now ≡ fields_encoding sb) }
     ensures is { IfSome result IsSuperblock }
-    ensures none { IfNone result ((sb : Said) → IsSuperblock sb → bytes.now ≡ fields_spelling sb → ⊥) }
+    ensures none { IfNone result ((sb : Said) → IsSuperblock sb → bytes.now ≡ fields_encoding sb → ⊥) }
 {
     Fields::read(bytes)?.superblock()
 }

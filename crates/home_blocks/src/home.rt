@@ -9,7 +9,7 @@ ghost use Rattle.home_blocks.specs.Home.{HoldsSuperblock, IsNoVolume, IsOtherVer
 ghost use Rattle.home_blocks.specs.Places as places;
 ghost use Rattle.home_blocks.specs.Places.{disk_size_of, home_block};
 ghost use Rattle.home_blocks.specs.Refusal.{HasCause, IsOfDevice, IsOfMarking, IsOfOpening, IsOfWriting};
-ghost use Rattle.home_blocks.specs.Superblock.{marked, superblock_spelling};
+ghost use Rattle.home_blocks.specs.Superblock.{marked, superblock_encoding};
 
 use crate::{Area, Refusal, Superblock, disk_size, home_part, superblock_part};
 use disk_model::{Disk, DiskError};
@@ -54,13 +54,13 @@ impl Home {
         ensures receipt { IfOk result (λ r. r.1 ≡ record { slot = superblock.slot; front = superblock.front }) }
         ensures settled { D.keeps_model → IfOk result (λ r. IsSettledHome r.0 (D.gives disk.new) (D.may_leave_now disk.new)) }
         ensures whole { D.keeps_model → OnOk result (Only (D.gives disk.new) (D.may_leave_now disk.new)) }
-        ensures any_moment { D.keeps_model → LeavesOnly D.moment D.may_have_left_since disk.old disk.new (IsBeingMade places.superblock_part (superblock_spelling superblock) (D.may_leave_now disk.old)) }
+        ensures any_moment { D.keeps_model → LeavesOnly D.moment D.may_have_left_since disk.old disk.new (IsBeingMade places.superblock_part (superblock_encoding superblock) (D.may_leave_now disk.old)) }
         ensures frame { D.keeps_model → TouchesOnly D.gives D.may_leave_now D.moment D.may_have_left_since places.superblock_part disk.old disk.new }
         ensures size { D.size disk.new ≡ D.size disk.old }
         ensures told { IfErr result IsOfWriting }
         ensures cause { HasCause (D.failures disk.old) (D.failures disk.new) result }
     {
-        let payload = superblock.spelled();
+        let payload = superblock.encoded();
         let (slot, front) = (superblock.slot(), superblock.front());
         let made = GatedPair::create(disk, superblock_part(), &payload, slot, front)?;
         let (pair, receipt) = made;
@@ -220,7 +220,7 @@ impl Home {
         ensures cause { HasCause (D.failures disk.old) (D.failures disk.new) result }
     {
         let superblock = self.superblock.marked(front, area);
-        let payload = superblock.spelled();
+        let payload = superblock.encoded();
         // A law that the proof needs: the call does nothing.
         stores_leave_old_or_new();
         let receipt = self.pair.store(disk, &payload, superblock.slot(), front)?;

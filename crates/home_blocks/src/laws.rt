@@ -2,13 +2,13 @@
 
 ghost use Rattle.std.specs.Prelude.{◌≡◌, ℕ, List};
 ghost use Rattle.home_blocks.specs.Home.{HoldsSuperblock, IsNoVolume, IsOtherVersion, IsVolume};
-ghost use Rattle.home_blocks.specs.Superblock.{IsSuperblock, Superblock, superblock_spelling};
+ghost use Rattle.home_blocks.specs.Superblock.{IsSuperblock, Superblock, superblock_encoding};
 
 use gate_journal::pair_readings_are_one;
 
-/// No two superblocks have one spelling.
-pub fn spellings_differ()
-    ensures { (some other : Superblock) → IsSuperblock some → IsSuperblock other → superblock_spelling some ≡ superblock_spelling other → some ≡ other }
+/// No two superblocks have one encoding.
+pub fn encodings_differ()
+    ensures { (some other : Superblock) → IsSuperblock some → IsSuperblock other → superblock_encoding some ≡ superblock_encoding other → some ≡ other }
 {}
 
 /// The bytes of a disk hold one superblock at most.

@@ -18,7 +18,7 @@ mod superblock;
 
 pub use area::Area;
 pub use home::Home;
-pub use laws::{disks_have_one_answer, spellings_differ, superblocks_are_one};
+pub use laws::{disks_have_one_answer, encodings_differ, superblocks_are_one};
 pub use places::{area_part, disk_size, home_part, superblock_part};
 pub use progress::Progress;
 pub use refusal::Refusal;

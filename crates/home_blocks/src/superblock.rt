@@ -9,7 +9,7 @@ use volume::Geometry;
 /// What a superblock begins with.
 const MAGIC: [u8; 8] = *b"CRAQDISK";
 
-/// The version of the spelling.
+/// The version of the encoding.
 const VERSION: u32 = 1;
 
 /// What a member's disk says of itself.
@@ -40,9 +40,9 @@ impl Model for Superblock {
 impl Superblock {
     ghost use Rattle.std.specs.Prelude.{◌≡◌, ◌≤◌, ◌↔◌, Ok, IfOk, IfErr, IsErrOf, length};
     ghost use Rattle.home_blocks.specs.Refusal.{IsOfReading};
-    ghost use Rattle.home_blocks.specs.Superblock.{HasOtherVersion, IsNoSuperblock, IsSpelling, IsSuperblock, Superblock as Said, marked, superblock_spelling};
+    ghost use Rattle.home_blocks.specs.Superblock.{HasOtherVersion, IsNoSuperblock, IsEncoding, IsSuperblock, Superblock as Said, marked, superblock_encoding};
 
-    /// The bytes of its spelling.
+    /// The bytes of its encoding.
     pub const SIZE: usize = 43;
 
     /// The superblock that says this. The incarnation and the front are at most 2^63 - 1.
@@ -128,8 +128,8 @@ impl Superblock {
     }
 
     /// The bytes that record it.
-    pub fn spelled(&self) -> [u8; 43]
-        ensures spelling { result ≡ superblock_spelling self.now }
+    pub fn encoded(&self) -> [u8; 43]
+        ensures encoding { result ≡ superblock_encoding self.now }
         ensures is { IsSuperblock self.now }
     {
         let mut bytes = [0; Superblock::SIZE];
@@ -146,11 +146,11 @@ impl Superblock {
         bytes
     }
 
-    /// The superblock that these bytes spell: else 132 `OtherVersion` where the magic and the number of another version
+    /// The superblock that these bytes encode: else 132 `OtherVersion` where the magic and the number of another version
     /// stand in front, and 131 `NotAVolume` for all others.
     pub fn read(bytes: &[u8]) -> Result<Superblock, Refusal>
-        ensures found { IfOk result (IsSpelling bytes.now) }
-        ensures exact { (sb : Said) → IsSpelling bytes.now sb → result ≡ Ok sb }
+        ensures found { IfOk result (IsEncoding bytes.now) }
+        ensures exact { (sb : Said) → IsEncoding bytes.now sb → result ≡ Ok sb }
         ensures other_version { IsErrOf result Refusal.OtherVersion ↔ HasOtherVersion bytes.now }
         ensures not_a_volume { IsErrOf result Refusal.NotAVolume ↔ IsNoSuperblock bytes.now }
         ensures told { IfErr result IsOfReading }

@@ -19,7 +19,7 @@ fn superblock(progress: Progress) -> Result<Superblock, Fail> {
 #[test]
 fn a_superblock(rt: HostRuntime) -> Result<(), Fail> {
     let row = superblock(Progress::Whole)?;
-    assert_eq!(rt; row.spelled(), ROW);
+    assert_eq!(rt; row.encoded(), ROW);
     assert_eq!(rt; Superblock::read(&ROW)?, row);
     assert_eq!(rt;
         (row.progress(), row.slot().number(), row.incarnation()),

@@ -29,7 +29,7 @@ use Rattle.clients.specs.Laws.{FirstHasNone, IsLawfulFor, OutputsAreLawful}
 use Rattle.clients.proofs.Places.{same_id}
 use Rattle.world.specs.World.{IsJoined, IsOfOneVolume, Seen, Shows, sent_in}
 use Rattle.life.specs.Begun.{BeginsWith, export_of}
-use Rattle.life.specs.Headline.{IsLawfulEra, IsLawfulSession, IsOneLife, RestartsBetween, Told, fed_in, handed_in, told_in}
+use Rattle.life.specs.Headline.{IsLawfulEra, IsLawfulSession, IsOneLife, RestartsBetween, Trace, fed_in, handed_in, told_in}
 use Rattle.life.specs.Lived.{Continues, IsFresh, Lives}
 use Rattle.life.specs.Passing.{AreAmong, PassAsOne, Passes}
 use Rattle.life.specs.declared.era.Answers.{Answers}
@@ -101,7 +101,7 @@ none_kept (c ∷ cs) kept none are = absurd (cc)
 
 module _ {S : Type 0} (about : S → About) (keeps : S → List ℕ → Type 0) (may_leave_now : S → List ℕ → Type 0) where
   -- an era of sessions that all began in it
-  pub era_lawful : (old new : Seen S) (told : Told) (v : View) (one : Passes about keeps may_leave_now old new (fed_in told) (handed_in told) v) → FirstHasNone → OutputsAreLawful
+  pub era_lawful : (old new : Seen S) (told : Trace) (v : View) (one : Passes about keeps may_leave_now old new (fed_in told) (handed_in told) v) → FirstHasNone → OutputsAreLawful
       → old.sessions.clients ≡ [] → v.kept ≡ [] → AreSessions new.sessions → IsLawfulEra new.sessions.export told one.events
   era_lawful old new told v one first lawful none kept are = record {
     asked = one.asked;
@@ -180,7 +180,7 @@ module _ {S : Type 0} (about : S → About) (keeps : S → List ℕ → Type 0) 
 
   pub era_continues : HappeningsAreOfOneVolume → RestartsChain → FirstHasNone → OutputsAreLawful
       → ((one other : Meaning) (bytes : List ℕ) → Means one bytes → Means other bytes → one ≡ other)
-      → (old mid new : Seen S) (told : Told) (at : ℕ) (m : Linked S) (c : List ℕ) (meaning : Meaning) → IsJoined old → IsJoined mid → AreSessions mid.sessions
+      → (old mid new : Seen S) (told : Trace) (at : ℕ) (m : Linked S) (c : List ℕ) (meaning : Meaning) → IsJoined old → IsJoined mid → AreSessions mid.sessions
       → PassAsOne about keeps may_leave_now (fed_in told) (handed_in told) old mid
       → slice_get mid.chain.members at ≡ Some m → may_leave_now m.node.store c → Means meaning c
       → export_of meaning.geometry ≡ export_of mid.chain.geometry
@@ -210,7 +210,7 @@ module _ {S : Type 0} (about : S → About) (keeps : S → List ℕ → Type 0) 
       }
 
   -- one deed more
-  pub pass_more : HappeningsAreOfOneVolume → (old mid new : Seen S) → IsJoined old → IsJoined mid → (told : Told) (deed : Deed) (answer : Answer)
+  pub pass_more : HappeningsAreOfOneVolume → (old mid new : Seen S) → IsJoined old → IsJoined mid → (told : Trace) (deed : Deed) (answer : Answer)
       → PassAsOne about keeps may_leave_now (fed_in told) (handed_in told) old mid → IsOfOneVolume about keeps may_leave_now (fed_by deed answer) (handed_by deed answer) mid new
       → PassAsOne about keeps may_leave_now (fed_in (told ++ (deed, answer) ∷ [])) (handed_in (told ++ (deed, answer) ∷ [])) old new
   pass_more law old mid new joined joined_then told deed answer first one =
@@ -236,7 +236,7 @@ module _ {S : Type 0} (about : S → About) (keeps : S → List ℕ → Type 0) 
     fresh = record { view = begun.view; shows = begun.shows; stands = first (4096 * geometry.blocks) begun.view begun.begins; no_clients = begun.no_clients; has = begun.export };
   }
 
-  pub lives_on : (export : Export) (eras : List Told) (told : Told) (old new : Seen S) → Lives about keeps may_leave_now export.size export eras old → Continues about keeps may_leave_now told old new
+  pub lives_on : (export : Export) (eras : List Trace) (told : Trace) (old new : Seen S) → Lives about keeps may_leave_now export.size export eras old → Continues about keeps may_leave_now told old new
       → Lives about keeps may_leave_now export.size export (eras ++ told ∷ []) new
   lives_on export eras told old new was continues =
       let did = continues export was.end was.fresh in
@@ -248,7 +248,7 @@ module _ {S : Type 0} (about : S → About) (keeps : S → List ℕ → Type 0) 
         fresh = did.fresh;
       }
 
-  pub one_life : (size : ℕ) (export : Export) (eras : List Told) (w : Seen S) → Lives about keeps may_leave_now size export eras w
+  pub one_life : (size : ℕ) (export : Export) (eras : List Trace) (w : Seen S) → Lives about keeps may_leave_now size export eras w
       → IsOneLife size export eras (λ end. (v : View) × Shows about keeps may_leave_now w v × StandsFor size v end)
   one_life size export eras w lives = record {
     events = lives.events;

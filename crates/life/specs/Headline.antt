@@ -22,20 +22,20 @@ use Rattle.life.specs.declared.era.Era.{Era}
 -- ---- bytes
 
 -- the deeds of an era, each with its answer
-abbrev pub Told : Type 0
-Told = List (Deed × Answer)
+abbrev pub Trace : Type 0
+Trace = List (Deed × Answer)
 
 -- each era with its answers
-abbrev pub told_in : List Era → List Answers → List Told
+abbrev pub told_in : List Era → List Answers → List Trace
 told_in [] answers = []
 told_in (era ∷ eras) [] = []
 told_in (era ∷ eras) (these ∷ answers) = zip era.deeds.items these.items.items ∷ told_in eras answers
 
 -- what a session was fed in them, and what went out to it
-abbrev pub fed_in : Told → SessionId → List ℕ
+abbrev pub fed_in : Trace → SessionId → List ℕ
 fed_in told id = flat_map (λ one. fed_by one.0 one.1 id) told
 
-abbrev pub handed_in : Told → SessionId → List ℕ
+abbrev pub handed_in : Trace → SessionId → List ℕ
 handed_in told id = flat_map (λ one. handed_by one.0 one.1 id) told
 
 -- What went out to a session is the beginning of what is lawful for what came in and for its replies; or nothing came, and nothing
@@ -47,7 +47,7 @@ IsLawfulSession export fed handed asked replies =
 
 -- An era whose clients saw these events: each session was lawful, with the replies that the events show, and what it asked is what the
 -- events show as sent by its client, in that order, each once.
-pub record IsLawfulEra (export : Export) (told : Told) (events : List ClientEvent) : Type 0 where
+pub record IsLawfulEra (export : Export) (told : Trace) (events : List ClientEvent) : Type 0 where
   pub asked : SessionId → List Asked
   pub lawful : (id : SessionId) → IsLawfulSession export (fed_in told id) (handed_in told id) (asked id) (replies_in id events)
   pub sent : (id : SessionId) → AreAmong (map (held_under id) (asked id)) (sent_in id events)
@@ -62,7 +62,7 @@ RestartsBetween size s (era ∷ eras) t =
     (moves : List Move) × (end : State) × (front : ℕ) × RunsOn s moves end × (shown size s moves ≡ era) × May end (Restart front) × RestartsBetween size (after end (Restart front)) eras t
 
 -- A life of eras, bytes to bytes, is one of the one volume: and then the machine is in a state for which this holds.
-pub record IsOneLife (size : ℕ) (export : Export) (eras : List Told) (IsSo : State → Type 0) : Type 0 where
+pub record IsOneLife (size : ℕ) (export : Export) (eras : List Trace) (IsSo : State → Type 0) : Type 0 where
   pub events : List (List ClientEvent)
   pub lawful : AllZip (IsLawfulEra export) eras events
   pub end : State

@@ -7,7 +7,7 @@ use Rattle.world_model.specs.Chain.{StandsFor, View}
 use Rattle.world_model.specs.Event.{ClientEvent}
 use Rattle.world_model.specs.Machine.{May, Move, Restart, RunsOn, State, after, shown, start}
 use Rattle.world.specs.World.{Seen, Shows}
-use Rattle.life.specs.Headline.{IsLawfulEra, RestartsBetween, Told}
+use Rattle.life.specs.Headline.{IsLawfulEra, RestartsBetween, Trace}
 
 -- The world stands for this state of the machine, and has no clients.
 pub record IsFresh {S : Type 0} (about : S → About) (keeps : S → List ℕ → Type 0) (may_leave_now : S → List ℕ → Type 0) (size : ℕ) (export : Export) (w : Seen S) (s : State) : Type 0 where
@@ -18,7 +18,7 @@ pub record IsFresh {S : Type 0} (about : S → About) (keeps : S → List ℕ �
   pub has : w.sessions.export ≡ export
 
 -- an era was lawful, one run of the machine without a restart shows it, and then the machine restarts
-pub record Continued {S : Type 0} (about : S → About) (keeps : S → List ℕ → Type 0) (may_leave_now : S → List ℕ → Type 0) (size : ℕ) (export : Export) (told : Told) (s : State) (new : Seen S) : Type 0 where
+pub record Continued {S : Type 0} (about : S → About) (keeps : S → List ℕ → Type 0) (may_leave_now : S → List ℕ → Type 0) (size : ℕ) (export : Export) (told : Trace) (s : State) (new : Seen S) : Type 0 where
   pub events : List ClientEvent
   pub lawful : IsLawfulEra export told events
   pub moves : List Move
@@ -30,12 +30,12 @@ pub record Continued {S : Type 0} (about : S → About) (keeps : S → List ℕ 
   pub fresh : IsFresh about keeps may_leave_now size export new (after end (Restart front))
 
 -- whatever the world stood for, it went on so
-abbrev pub Continues : {S : Type 0} → (S → About) → (S → List ℕ → Type 0) → (S → List ℕ → Type 0) → Told → Seen S → Seen S → Type 0
+abbrev pub Continues : {S : Type 0} → (S → About) → (S → List ℕ → Type 0) → (S → List ℕ → Type 0) → Trace → Seen S → Seen S → Type 0
 Continues about keeps may_leave_now told old new =
     (export : Export) (s : State) → IsFresh about keeps may_leave_now export.size export old s → Continued about keeps may_leave_now export.size export told s new
 
 -- these eras were, and the world goes on
-pub record Lives {S : Type 0} (about : S → About) (keeps : S → List ℕ → Type 0) (may_leave_now : S → List ℕ → Type 0) (size : ℕ) (export : Export) (eras : List Told) (w : Seen S) : Type 0 where
+pub record Lives {S : Type 0} (about : S → About) (keeps : S → List ℕ → Type 0) (may_leave_now : S → List ℕ → Type 0) (size : ℕ) (export : Export) (eras : List Trace) (w : Seen S) : Type 0 where
   pub events : List (List ClientEvent)
   pub lawful : AllZip (IsLawfulEra export) eras events
   pub end : State

@@ -33,7 +33,7 @@ use volume::Geometry;
 use world::{Told, World};
 use world_model::{chains_begin_again, lives_are_of_one_volume};
 
-/// The number of the refusal for want of memory.
+/// The number of the refusal where memory runs out.
 const MEMORY: u16 = 100;
 
 /// What became of a life.

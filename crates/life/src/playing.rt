@@ -13,7 +13,7 @@ use local_store::StoreLike;
 use std::alloc::Global;
 use world::{Told, World};
 
-/// The number of the refusal for want of memory.
+/// The number of the refusal where memory runs out.
 const MEMORY: u16 = 100;
 
 /// Plays one step: the call of the world that it names. Where there is no member at its place, no such session, or no such step now,

@@ -21,7 +21,7 @@ pub fn disks_mean_one()
     readings_are_one();
 }
 
-/// A disk that means something, and is as long as it has to be, is one that `open` refuses for want of memory or by its
+/// A disk that means something, and is as long as it has to be, is one that `open` refuses where memory runs out or by its
 /// device alone: it isn't no volume's, nor of another version, nor unfinished, and its area isn't damaged.
 pub fn meanings_are_opened()
     ensures { (meaning : Meaning) (bytes : List ℕ) → Means meaning bytes → disk_size_of meaning.geometry ≤ length bytes → IsOpenable bytes }

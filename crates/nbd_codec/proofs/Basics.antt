@@ -8,7 +8,7 @@ use Rattle.nbd_codec.specs.declared.findings.Fault.{Fault}
 use Rattle.nbd_codec.specs.declared.fields.Ending.{Ending}
 use Rattle.nbd_codec.specs.declared.fields.Ending.TheVariants as endings
 use Rattle.nbd_codec.specs.Fields.{number_at, limited_at, bytes_at}
-use Rattle.nbd_codec.specs.Findings.{AreBytes, IsProperFront}
+use Rattle.nbd_codec.specs.Findings.{AreBytes, IsProperPrefix}
 use Rattle.nbd_codec.proofs.Parts.{IsField}
 use Rattle.nbd_codec.proofs.BigNumbers.{AreBytes-zeros, AreBytes-take, IsWidth, big_from-grows, big_bytes-number, big_bytes-short}
 
@@ -86,7 +86,7 @@ module _ (n : ℕ) (width : IsWidth n) where
       let len : length bytes + length rest ≡ n = sym (length-append bytes rest) ∙ ap length whole ∙ length-bytes_high_first n x in
       guarded _ endings.Short (done (big_number n bytes, drop n bytes)) (lt-ltb _ _ (omega arith))
 
-  number_proper : (bytes : List ℕ) → AreBytes bytes → length bytes < n → IsProperFront (big_bytes n) (λ x. x < 256 ^ n) bytes
+  number_proper : (bytes : List ℕ) → AreBytes bytes → length bytes < n → IsProperPrefix (big_bytes n) (λ x. x < 256 ^ n) bytes
   number_proper bytes is_bytes short = record {
     value = big_number n bytes;
     rest = replicate (n - length bytes) 0;
@@ -122,7 +122,7 @@ module _ (limit : ℕ) (fault : Fault) (width : IsWidth 4) (small : limit < 2 ^ 
       let within : ltb limit (big_number 4 (big_bytes 4 x ++ rest)) ≡ false = le-ltb _ _ (subst (λ (y : ℕ). y ≤ limit) (sym same) le) in
       passed _ (endings.Fault fault) (number_at 4 (big_bytes 4 x ++ rest)) within ∙ number_again 4 width x rest (omega arith)
 
-  limited_short : (bytes : List ℕ) → AreBytes bytes → limited_at limit fault bytes ≡ Err endings.Short → IsProperFront (big_bytes 4) (λ x. x ≤ limit) bytes
+  limited_short : (bytes : List ℕ) → AreBytes bytes → limited_at limit fault bytes ≡ Err endings.Short → IsProperPrefix (big_bytes 4) (λ x. x ≤ limit) bytes
   unfolding limited_at
   limited_short bytes is_bytes e =
       elim (guard_err (ltb limit (big_number 4 bytes)) (endings.Fault fault) endings.Short (number_at 4 bytes) e) [
@@ -207,7 +207,7 @@ module _ (len : ℕ) where
       ∙ ap (λ (b : List ℕ). done (b, drop len (content ++ rest))) (take_at content rest len fits.0)
       ∙ ap (λ (b : List ℕ). done (content, b)) (drop_at content rest len fits.0)
 
-  bytes_short : (bytes : List ℕ) → AreBytes bytes → bytes_at len bytes ≡ Err endings.Short → IsProperFront (λ content. content) AreSome bytes
+  bytes_short : (bytes : List ℕ) → AreBytes bytes → bytes_at len bytes ≡ Err endings.Short → IsProperPrefix (λ content. content) AreSome bytes
   unfolding bytes_at
   bytes_short bytes is_bytes e =
       elim (guard_err (ltb (length bytes) len) endings.Short endings.Short (done (take len bytes, drop len bytes)) e) [
@@ -243,7 +243,7 @@ module _ (len : ℕ) where
 
 -- ---- the value that all fields before it make
 
-module _ {A : Type 0} (c : A) (s : A → List ℕ) (F : A → Type 0) (fits : F c) (only : (x : A) → F x → x ≡ c) (spelled : (x : A) → F x → s x ≡ []) where
+module _ {A : Type 0} (c : A) (s : A → List ℕ) (F : A → Type 0) (fits : F c) (only : (x : A) → F x → x ≡ c) (encoded : (x : A) → F x → s x ≡ []) where
   made : List ℕ → Result (A × List ℕ) Ending
   made bytes = Ok (c, bytes)
 
@@ -254,19 +254,19 @@ module _ {A : Type 0} (c : A) (s : A → List ℕ) (F : A → Type 0) (fits : F 
       let x-is : c ≡ x = ap (λ (p : A × List ℕ). p.0) same in
       let rest-is : bytes ≡ rest = ap (λ (p : A × List ℕ). p.1) same in
       let x-fits : F x = subst F x-is fits in
-      (x-fits, rest-is ∙ ap (λ (b : List ℕ). b ++ rest) (sym (spelled x x-fits)))
+      (x-fits, rest-is ∙ ap (λ (b : List ℕ). b ++ rest) (sym (encoded x x-fits)))
 
   made_again : (x : A) (rest : List ℕ) → F x → made (s x ++ rest) ≡ Ok (x, rest)
   unfolding made
   made_again x rest x-fits =
-      ap (λ (b : List ℕ). done (c, b ++ rest)) (spelled x x-fits) ∙ ap (λ (y : A). done (y, rest)) (sym (only x x-fits))
+      ap (λ (b : List ℕ). done (c, b ++ rest)) (encoded x x-fits) ∙ ap (λ (y : A). done (y, rest)) (sym (only x x-fits))
 
   made_short : (bytes : List ℕ) (e : Ending) → made bytes ≡ Err e → length bytes < 0
   unfolding made
   made_short bytes d e = absurd cc
 
   made_front : (x : A) (bytes rest : List ℕ) → F x → 0 < length rest → bytes ++ rest ≡ s x → length bytes < 0
-  made_front x bytes rest x-fits some whole = omega (arith, length-append bytes rest, ap length whole, ap length (spelled x x-fits), some)
+  made_front x bytes rest x-fits some whole = omega (arith, length-append bytes rest, ap length whole, ap length (encoded x x-fits), some)
 
   pub IsField-made : IsField (λ bytes. Ok (c, bytes)) s F
   unfolding made

@@ -1,4 +1,4 @@
--- What a reader finds where its function of the bytes reads what is spelled.
+-- What a reader finds where its function of the bytes reads what is encoded.
 use Rattle.std.proofs.Common.{◌≡◌, ℕ, ◌-◌, ◌≤◌, ◌↔◌, List, [], ◌++◌, length, length-append, drop, Result, Ok, Err, refl, sym, ap, subst, ◌∙◌, append_assoc, arith}
 use Rattle.std.proofs.lemmas.List.{append-nil, drop_at}
 use Rattle.nbd_codec.specs.declared.findings.Fault.{Fault}
@@ -6,8 +6,8 @@ use Rattle.nbd_codec.specs.declared.findings.Reading.{Reading}
 use Rattle.nbd_codec.specs.declared.findings.Reading.TheVariants as readings
 use Rattle.nbd_codec.specs.declared.fields.Ending.{Ending}
 use Rattle.nbd_codec.specs.declared.fields.Ending.TheVariants as endings
-use Rattle.nbd_codec.specs.Findings.{AreBytes, IfValue, IsFault, IsImpossible, IsProperFront, Takes, finding, seen_by}
-use Rattle.nbd_codec.specs.Laws.{IsSpelled}
+use Rattle.nbd_codec.specs.Findings.{AreBytes, IfValue, IsFault, IsImpossible, IsProperPrefix, Takes, finding, seen_by}
+use Rattle.nbd_codec.specs.Laws.{IsEncoded}
 use Rattle.nbd_codec.proofs.Parts.{IsField}
 use Rattle.nbd_codec.proofs.Basics.{done, done_is}
 
@@ -37,7 +37,7 @@ module _ {A X : Type 0} (f : List ℕ → Result (A × List ℕ) Ending) (s : A 
   found_by bytes (Err (endings.Fault c)) readings.More is_bytes e same = tt
   found_by bytes (Err (endings.Fault c)) (readings.Fault d) is_bytes e same = tt
 
-  -- a value is spelled so
+  -- a value is encoded so
   pub is_found : (bytes : List ℕ) (r : Reading X) → AreBytes bytes → seen_by view r ≡ finding bytes (f bytes) → IfValue r (λ v n. Takes s F bytes (view v) n)
   is_found bytes r is_bytes same = found_by bytes (f bytes) r is_bytes refl same
 
@@ -49,7 +49,7 @@ module _ {A X : Type 0} (f : List ℕ → Result (A × List ℕ) Ending) (s : A 
   within_by least long bytes readings.More w = tt
   within_by least long bytes (readings.Fault d) w = tt
 
-  -- a value takes at least as many bytes as each spelling has, and no more than came
+  -- a value takes at least as many bytes as each encoding has, and no more than came
   pub is_within : (least : ℕ) → ((x : A) → F x → least ≤ length (s x)) → (bytes : List ℕ) (r : Reading X) → AreBytes bytes → seen_by view r ≡ finding bytes (f bytes) → IfValue r (λ v n. (least ≤ n) × (n ≤ length bytes))
   is_within least long bytes r is_bytes same = within_by least long bytes r (is_found bytes r is_bytes same)
 
@@ -58,11 +58,11 @@ module _ {A X : Type 0} (f : List ℕ → Result (A × List ℕ) Ending) (s : A 
   exactly_by count all bytes readings.More w = tt
   exactly_by count all bytes (readings.Fault d) w = tt
 
-  -- a value takes as many bytes as all spellings have, and no more than came
+  -- a value takes as many bytes as all encodings have, and no more than came
   pub is_exactly : (count : ℕ) → ((x : A) → F x → length (s x) ≡ count) → (bytes : List ℕ) (r : Reading X) → AreBytes bytes → seen_by view r ≡ finding bytes (f bytes) → IfValue r (λ v n. (n ≡ count) × (n ≤ length bytes))
   is_exactly count all bytes r is_bytes same = exactly_by count all bytes r (is_found bytes r is_bytes same)
 
-  -- what is spelled so is found
+  -- what is encoded so is found
   pub is_only : (bytes : List ℕ) (r : Reading X) (x : A) (rest : List ℕ) → seen_by view r ≡ finding bytes (f bytes) → F x → bytes ≡ s x ++ rest → seen_by view r ≡ readings.Value x (length (s x))
   is_only bytes r x rest same fits whole =
       let at : f bytes ≡ Ok (x, rest) = ap f whole ∙ field.again x rest fits in
@@ -79,8 +79,8 @@ module _ {A X : Type 0} (f : List ℕ → Result (A × List ℕ) Ending) (s : A 
   more_from readings.More e = refl
   more_from (readings.Fault d) e = absurd cc
 
-  -- more is needed exactly at a proper front
-  pub is_more : (bytes : List ℕ) (r : Reading X) → AreBytes bytes → seen_by view r ≡ finding bytes (f bytes) → (r ≡ readings.More) ↔ IsProperFront s F bytes
+  -- more is needed exactly at a proper prefix
+  pub is_more : (bytes : List ℕ) (r : Reading X) → AreBytes bytes → seen_by view r ≡ finding bytes (f bytes) → (r ≡ readings.More) ↔ IsProperPrefix s F bytes
   is_more bytes r is_bytes same = (
     λ e. field.short bytes is_bytes (short_from bytes (f bytes) (sym same ∙ ap (seen_by view) e)),
     λ w. more_from r (same ∙ ap (finding bytes) (field.front w.value bytes w.rest w.fits w.some w.whole)),
@@ -100,7 +100,7 @@ module _ {A X : Type 0} (f : List ℕ → Result (A × List ℕ) Ending) (s : A 
   pub is_kept : (bytes more : List ℕ) → AreBytes bytes → (finding bytes (f bytes) ≡ readings.More → ⊥) → finding (bytes ++ more) (f (bytes ++ more)) ≡ finding bytes (f bytes)
   is_kept bytes more is_bytes not_more = stays_by bytes more (f bytes) is_bytes refl not_more
 
-  -- no spelling begins another
+  -- no encoding begins another
   pub is_one : (x y : A) (a b : List ℕ) → F x → F y → s x ++ a ≡ s y ++ b → (x ≡ y) × (a ≡ b)
   is_one x y a b x-fits y-fits e =
       let same : done (x, a) ≡ done (y, b) = sym (field.again x a x-fits) ∙ ap f e ∙ field.again y b y-fits in
@@ -137,13 +137,13 @@ module _ {A X : Type 0} (f : List ℕ → Result (A × List ℕ) Ending) (s : A 
   impossible_by bytes (readings.Fault d) is_bytes same =
       (λ _. no_value bytes d is_bytes (fault_of bytes (f bytes) d (sym same)), λ _. tt)
 
-  -- a fault is found exactly where nothing that is spelled can come
+  -- a fault is found exactly where nothing that is encoded can come
   pub is_impossible : (bytes : List ℕ) (r : Reading X) → AreBytes bytes → seen_by view r ≡ finding bytes (f bytes) → IsFault r ↔ IsImpossible s F bytes
   is_impossible bytes r is_bytes same = impossible_by bytes r is_bytes same
 
--- what is found is what is spelled
-pub is_spelled : {A : Type 0} (f : List ℕ → Result (A × List ℕ) Ending) (s : A → List ℕ) (F : A → Type 0) → IsField f s F → IsSpelled s F (λ bytes. finding bytes (f bytes))
-is_spelled {A = A} f s F field = record {
+-- what is found is what is encoded
+pub is_encoded : {A : Type 0} (f : List ℕ → Result (A × List ℕ) Ending) (s : A → List ℕ) (F : A → Type 0) → IsField f s F → IsEncoded s F (λ bytes. finding bytes (f bytes))
+is_encoded {A = A} f s F field = record {
   value = λ bytes x taken is_bytes is. is_found f s F (λ (x : A). x) field bytes (readings.Value x taken) is_bytes (sym is);
   more = λ bytes is_bytes is. (is_more f s F (λ (x : A). x) field bytes readings.More is_bytes (sym is)).0 refl;
   fault = λ bytes fault is_bytes is. (is_impossible f s F (λ (x : A). x) field bytes (readings.Fault fault) is_bytes (sym is)).0 tt;

@@ -1,4 +1,4 @@
--- The data of INFO and GO: what is read is spelled so, and what is spelled so is read.
+-- The data of INFO and GO: what is read is encoded so, and what is encoded so is read.
 use Rattle.std.proofs.Common.{◌≡◌, ℕ, zero, suc, ◌+◌, ◌*◌, ◌/◌, ◌%◌, ◌^◌, ◌<◌, cond, eqb, List, [], ◌∷◌, ◌++◌, length, get_or, replicate, Result, Ok, Err, refl, sym, ap, subst, ◌∙◌, arith, inl, inr}
 use Rattle.std.specs.List.{flat_map}
 use Rattle.std.proofs.lemmas.Bool.{eqb-true, cases_Bool, cond-true, cond-false}
@@ -8,7 +8,7 @@ use Rattle.nbd_codec.specs.declared.fields.Ending.{Ending}
 use Rattle.nbd_codec.specs.declared.fields.Ending.TheVariants as endings
 use Rattle.nbd_codec.specs.Fields.{◌>>=◌, number_at, bytes_at}
 use Rattle.nbd_codec.specs.Findings.{AreBytes}
-use Rattle.nbd_codec.specs.ClientOption.{PlainInfo, Asks, Malformed, AreAsked, InfoFits, info_spelling, numbers_in, asks_at, asks_or, info_of}
+use Rattle.nbd_codec.specs.ClientOption.{PlainInfo, Asks, Malformed, AreAsked, InfoFits, info_encoding, numbers_in, asks_at, asks_or, info_of}
 use Rattle.nbd_codec.proofs.Parts.{IsField, IsField-both, bind_ok}
 use Rattle.nbd_codec.proofs.BigNumbers.{AreBytes-zeros, width2, width4}
 use Rattle.nbd_codec.proofs.Basics.{done, done_is, AreSome, IsField-number, IsField-bytes}
@@ -157,34 +157,34 @@ whole_ok p info e =
       | inr t ↦ let wrong : done info ≡ Err endings.Short = sym e ∙ cond-false _ (done (Asks p.0.0 p.0.1)) (Err endings.Short) t in absurd cc
     ]
 
--- what was asked is spelled so
-asks_found : (bytes : List ℕ) (info : PlainInfo) → AreBytes bytes → asks_at bytes ≡ Ok info → (p : Asking) × AreAsked p.0 p.1 × (info ≡ Asks p.0 p.1) × (bytes ≡ info_spelling (Asks p.0 p.1))
-unfolding info_spelling
+-- what was asked is encoded so
+asks_found : (bytes : List ℕ) (info : PlainInfo) → AreBytes bytes → asks_at bytes ≡ Ok info → (p : Asking) × AreAsked p.0 p.1 × (info ≡ Asks p.0 p.1) × (bytes ≡ info_encoding (Asks p.0 p.1))
+unfolding info_encoding
 asks_found bytes info is_bytes e =
     let b = bind_ok (pair_at bytes) whole_of info (sym (asks_reads bytes) ∙ e) in
     let w = pair_field.found bytes b.0.0 b.0.1 is_bytes b.1 in
     let v = whole_ok b.0 info b.2 in
     (b.0.0, record { name_len = w.0.0.0; name_bytes = w.0.0.1; type_count = w.0.1.0; each_type = w.0.1.1 }, v.1, w.1 ∙ ap (λ (r : List ℕ). pair_text b.0.0 ++ r) v.0 ∙ append-nil (pair_text b.0.0))
 
--- what is spelled so was asked
-asks_again : (name types : List ℕ) → AreAsked name types → asks_at (info_spelling (Asks name types)) ≡ Ok (Asks name types)
-unfolding info_spelling
+-- what is encoded so was asked
+asks_again : (name types : List ℕ) → AreAsked name types → asks_at (info_encoding (Asks name types)) ≡ Ok (Asks name types)
+unfolding info_encoding
 asks_again name types fits =
     let p : Asking = (name, types) in
     let at : pair_at (pair_text p) ≡ Ok (p, []) = ap pair_at (sym (append-nil (pair_text p))) ∙ pair_field.again p [] ((fits.name_len, fits.name_bytes), (fits.type_count, fits.each_type)) in
     asks_reads (pair_text p) ∙ ap (λ r. r >>= whole_of) at
 
-into_by : (bytes : List ℕ) (q : Result PlainInfo Ending) → AreBytes bytes → asks_at bytes ≡ q → InfoFits (asks_or bytes q) × (info_spelling (asks_or bytes q) ≡ bytes)
-unfolding info_spelling
+into_by : (bytes : List ℕ) (q : Result PlainInfo Ending) → AreBytes bytes → asks_at bytes ≡ q → InfoFits (asks_or bytes q) × (info_encoding (asks_or bytes q) ≡ bytes)
+unfolding info_encoding
 into_by bytes (Ok info) is_bytes e =
     let w = asks_found bytes info is_bytes e in
-    let got : InfoFits (Asks w.0.0 w.0.1) × (info_spelling (Asks w.0.0 w.0.1) ≡ bytes) = (w.1, sym w.3) in
-    subst (λ (i : PlainInfo). InfoFits i × (info_spelling i ≡ bytes)) (sym w.2) got
+    let got : InfoFits (Asks w.0.0 w.0.1) × (info_encoding (Asks w.0.0 w.0.1) ≡ bytes) = (w.1, sym w.3) in
+    subst (λ (i : PlainInfo). InfoFits i × (info_encoding i ≡ bytes)) (sym w.2) got
 into_by bytes (Err d) is_bytes e =
     (λ name types fits whole. let again = sym e ∙ ap asks_at whole ∙ asks_again name types fits in absurd cc, refl)
 
--- what data holds spells the data
-pub info_into : (bytes : List ℕ) → AreBytes bytes → InfoFits (info_of bytes) × (info_spelling (info_of bytes) ≡ bytes)
+-- what data holds encodes the data
+pub info_into : (bytes : List ℕ) → AreBytes bytes → InfoFits (info_of bytes) × (info_encoding (info_of bytes) ≡ bytes)
 info_into bytes is_bytes = into_by bytes (asks_at bytes) is_bytes refl
 
 malformed_by : (bytes : List ℕ) (q : Result PlainInfo Ending) → AreBytes bytes → InfoFits (Malformed bytes) → asks_at bytes ≡ q → asks_or bytes q ≡ Malformed bytes
@@ -193,8 +193,8 @@ malformed_by bytes (Ok info) is_bytes fits e =
     absurd (fits w.0.0 w.0.1 w.1 w.3)
 malformed_by bytes (Err d) is_bytes fits e = refl
 
--- what spells data is what it holds
-pub info_back : (info : PlainInfo) → InfoFits info → AreBytes (info_spelling info) → info_of (info_spelling info) ≡ info
-unfolding info_spelling
-info_back (Asks name types) fits is_bytes = ap (asks_or (info_spelling (Asks name types))) (asks_again name types fits)
+-- what encodes data is what it holds
+pub info_back : (info : PlainInfo) → InfoFits info → AreBytes (info_encoding info) → info_of (info_encoding info) ≡ info
+unfolding info_encoding
+info_back (Asks name types) fits is_bytes = ap (asks_or (info_encoding (Asks name types))) (asks_again name types fits)
 info_back (Malformed bytes) fits is_bytes = malformed_by bytes (asks_at bytes) is_bytes fits refl

@@ -7,10 +7,10 @@ use Rattle.nbd_codec.specs.declared.findings.Fault.{Fault}
 use Rattle.nbd_codec.specs.declared.fields.Ending.{Ending}
 use Rattle.nbd_codec.specs.declared.fields.Ending.TheVariants as endings
 use Rattle.nbd_codec.specs.Fields.{◌>>=◌, agrees, magic_at}
-use Rattle.nbd_codec.specs.Findings.{IsProperFront}
+use Rattle.nbd_codec.specs.Findings.{IsProperPrefix}
 use Rattle.nbd_codec.proofs.Parts.{IsField, IsField-both, bind_ok, bind_err}
 use Rattle.nbd_codec.proofs.Basics.{done, done_is}
-use Rattle.nbd_codec.proofs.Maps.{IsField-respelled}
+use Rattle.nbd_codec.proofs.Maps.{IsField-reencoded}
 
 -- what the test of a magic says
 agrees_is : (magic bytes : List ℕ) → agrees magic bytes ≡ true → take (min (length magic) (length bytes)) magic ≡ take (min (length magic) (length bytes)) bytes
@@ -154,7 +154,7 @@ module _ (magic : List ℕ) (fault : Fault) where
         | inr a ↦ absurd cc
       ]
 
-  start_short : (bytes : List ℕ) → start_at bytes ≡ Err endings.Short → IsProperFront start_text (λ u. Unit {0}) bytes
+  start_short : (bytes : List ℕ) → start_at bytes ≡ Err endings.Short → IsProperPrefix start_text (λ u. Unit {0}) bytes
   start_short bytes e =
       let w = magic_short magic fault bytes (start_err bytes endings.Short e) in
       record { value = tt; rest = w.0; fits = tt; some = w.1; whole = w.2 }
@@ -177,6 +177,6 @@ pub IsField-behind : {C : Type 0} (magic : List ℕ) (fault : Fault) (g : List �
     → IsField (λ bytes. magic_at magic fault bytes >>= λ rest. g rest) (λ c. magic ++ t c) H
 IsField-behind {C = C} magic fault g t H second some =
     let behind = IsField-both (start_at magic fault) (start_text magic fault) (λ u. Unit {0}) (λ (u : Unit {0}) bytes. g bytes) t H (λ (c : C). tt) (IsField-start magic fault)
-    (λ u fits. IsField-respelled g g t t H (λ (c : C). H c × (tt ≡ u)) second (λ bytes. refl) (λ c w. w.0) (λ c w. (w, refl)) (λ c w. refl))
+    (λ u fits. IsField-reencoded g g t t H (λ (c : C). H c × (tt ≡ u)) second (λ bytes. refl) (λ c w. w.0) (λ c w. (w, refl)) (λ c w. refl))
     (λ c h. tt) (λ u fits. (some.0, some.1, refl)) in
-    IsField-respelled (λ bytes. start_at magic fault bytes >>= λ a. g a.1) (λ bytes. magic_at magic fault bytes >>= λ rest. g rest) (λ (c : C). magic ++ t c) (λ (c : C). magic ++ t c) H H behind (λ bytes. start_then (magic_at magic fault bytes) g) (λ c w. w) (λ c w. w) (λ c w. refl)
+    IsField-reencoded (λ bytes. start_at magic fault bytes >>= λ a. g a.1) (λ bytes. magic_at magic fault bytes >>= λ rest. g rest) (λ (c : C). magic ++ t c) (λ (c : C). magic ++ t c) H H behind (λ bytes. start_then (magic_at magic fault bytes) g) (λ c w. w) (λ c w. w) (λ c w. refl)

@@ -1,4 +1,4 @@
--- A field in another form: read by an equal function, spelled alike, or seen as another value.
+-- A field in another form: read by an equal function, encoded alike, or seen as another value.
 use Rattle.std.proofs.Common.{◌≡◌, ℕ, ◌<◌, List, [], ◌++◌, length, replicate, Result, Ok, Err, refl, sym, ap, subst, ◌∙◌, arith, inl, inr}
 use Rattle.nbd_codec.specs.declared.findings.Fault.{Fault}
 use Rattle.nbd_codec.specs.declared.fields.Ending.{Ending}
@@ -6,7 +6,7 @@ use Rattle.nbd_codec.specs.declared.fields.Ending.TheVariants as endings
 use Rattle.std.proofs.lemmas.List.{length-replicate}
 use Rattle.byteorder.specs.Endian.{big_bytes}
 use Rattle.nbd_codec.specs.Fields.{◌>>=◌, bytes_at}
-use Rattle.nbd_codec.specs.Findings.{AreBytes, IsProperFront}
+use Rattle.nbd_codec.specs.Findings.{AreBytes, IsProperPrefix}
 use Rattle.nbd_codec.proofs.Parts.{IsField, IsField-both, bind_ok, bind_err}
 use Rattle.nbd_codec.proofs.BigNumbers.{AreBytes-zeros}
 use Rattle.nbd_codec.proofs.Basics.{done, done_is, AreSome, IsField-bytes}
@@ -16,25 +16,25 @@ pub bind_assoc : {A B C : Type 0} (r : Result A Ending) (f : A → Result B Endi
 bind_assoc (Ok x) f g = refl
 bind_assoc (Err e) f g = refl
 
--- the same field, read and spelled in other words
+-- the same field, read and encoded in other words
 module _ {A : Type 0} (f f' : List ℕ → Result (A × List ℕ) Ending) (s s' : A → List ℕ) (F F' : A → Type 0)
-    (field : IsField f s F) (reads : (bytes : List ℕ) → f' bytes ≡ f bytes) (narrow : (x : A) → F' x → F x) (wide : (x : A) → F x → F' x) (spells : (x : A) → F x → s' x ≡ s x) where
-  respelled_short : (bytes : List ℕ) → AreBytes bytes → f' bytes ≡ Err endings.Short → IsProperFront s' F' bytes
-  respelled_short bytes is_bytes e =
+    (field : IsField f s F) (reads : (bytes : List ℕ) → f' bytes ≡ f bytes) (narrow : (x : A) → F' x → F x) (wide : (x : A) → F x → F' x) (encodes : (x : A) → F x → s' x ≡ s x) where
+  reencoded_short : (bytes : List ℕ) → AreBytes bytes → f' bytes ≡ Err endings.Short → IsProperPrefix s' F' bytes
+  reencoded_short bytes is_bytes e =
       let w = field.short bytes is_bytes (sym (reads bytes) ∙ e) in
-      record { value = w.value; rest = w.rest; fits = wide w.value w.fits; some = w.some; whole = w.whole ∙ sym (spells w.value w.fits) }
+      record { value = w.value; rest = w.rest; fits = wide w.value w.fits; some = w.some; whole = w.whole ∙ sym (encodes w.value w.fits) }
 
-  respelled_found : (bytes : List ℕ) (x : A) (rest : List ℕ) → AreBytes bytes → f' bytes ≡ Ok (x, rest) → F' x × (bytes ≡ s' x ++ rest)
-  respelled_found bytes x rest is_bytes e =
+  reencoded_found : (bytes : List ℕ) (x : A) (rest : List ℕ) → AreBytes bytes → f' bytes ≡ Ok (x, rest) → F' x × (bytes ≡ s' x ++ rest)
+  reencoded_found bytes x rest is_bytes e =
       let w = field.found bytes x rest is_bytes (sym (reads bytes) ∙ e) in
-      (wide x w.0, w.1 ∙ ap (λ (b : List ℕ). b ++ rest) (sym (spells x w.0)))
+      (wide x w.0, w.1 ∙ ap (λ (b : List ℕ). b ++ rest) (sym (encodes x w.0)))
 
-  pub IsField-respelled : IsField f' s' F'
-  IsField-respelled = record {
-    found = respelled_found;
-    again = λ x rest fits. reads (s' x ++ rest) ∙ ap (λ (b : List ℕ). f (b ++ rest)) (spells x (narrow x fits)) ∙ field.again x rest (narrow x fits);
-    short = respelled_short;
-    front = λ x bytes rest fits some whole. reads bytes ∙ field.front x bytes rest (narrow x fits) some (whole ∙ spells x (narrow x fits));
+  pub IsField-reencoded : IsField f' s' F'
+  IsField-reencoded = record {
+    found = reencoded_found;
+    again = λ x rest fits. reads (s' x ++ rest) ∙ ap (λ (b : List ℕ). f (b ++ rest)) (encodes x (narrow x fits)) ∙ field.again x rest (narrow x fits);
+    short = reencoded_short;
+    front = λ x bytes rest fits some whole. reads bytes ∙ field.front x bytes rest (narrow x fits) some (whole ∙ encodes x (narrow x fits));
     stays = λ bytes more d is_bytes e. reads (bytes ++ more) ∙ field.stays bytes more d is_bytes (sym (reads bytes) ∙ e);
   }
 
@@ -53,7 +53,7 @@ module _ {A C : Type 0} (f : List ℕ → Result (A × List ℕ) Ending) (s : A 
       let got : H (h a.0.0) × (bytes ≡ t (h a.0.0) ++ a.0.1) = (i.0, w.1 ∙ ap (λ (b : List ℕ). b ++ a.0.1) (sym i.1)) in
       subst (λ (p : C × List ℕ). H p.0 × (bytes ≡ t p.0 ++ p.1)) same got
 
-  -- a value that is seen is seen of one that spells it
+  -- a value that is seen is seen of one that encodes it
   from : (c : C) → H c → (x : A) × F x × (h x ≡ c) × (t c ≡ s x)
   from c fits =
       let b = back c fits in
@@ -65,7 +65,7 @@ module _ {A C : Type 0} (f : List ℕ → Result (A × List ℕ) Ending) (s : A 
       let at : f (t c ++ rest) ≡ Ok (b.0, rest) = ap (λ (x : List ℕ). f (x ++ rest)) b.3 ∙ field.again b.0 rest b.1 in
       ap (λ r. r >>= λ a. Ok (h a.0, a.1)) at ∙ ap (λ (x : C). done (x, rest)) b.2
 
-  seen_short : (bytes : List ℕ) → AreBytes bytes → seen bytes ≡ Err endings.Short → IsProperFront t H bytes
+  seen_short : (bytes : List ℕ) → AreBytes bytes → seen bytes ≡ Err endings.Short → IsProperPrefix t H bytes
   seen_short bytes is_bytes e =
       elim (bind_err (f bytes) (λ a. Ok (h a.0, a.1)) endings.Short e) [
         | inl short ↦
@@ -103,7 +103,7 @@ IsString F content = F (length content) × AreBytes content
 module _ (f : List ℕ → Result (ℕ × List ℕ) Ending) (F : ℕ → Type 0) (field : IsField f (big_bytes 4) F) where
   content_field : (len : ℕ) → F len → IsField (bytes_at len) (λ (x : List ℕ). x) (λ x. IsString F x × (length x ≡ len))
   content_field len fits =
-      IsField-respelled (bytes_at len) (bytes_at len) (λ (x : List ℕ). x) (λ (x : List ℕ). x) (AreSome len) (λ x. IsString F x × (length x ≡ len)) (IsField-bytes len) (λ bytes. refl) (λ x w. (w.1, w.0.1)) (λ x w. ((subst F (sym w.0) fits, w.1), w.0)) (λ x w. refl)
+      IsField-reencoded (bytes_at len) (bytes_at len) (λ (x : List ℕ). x) (λ (x : List ℕ). x) (AreSome len) (λ x. IsString F x × (length x ≡ len)) (IsField-bytes len) (λ bytes. refl) (λ x w. (w.1, w.0.1)) (λ x w. ((subst F (sym w.0) fits, w.1), w.0)) (λ x w. refl)
 
   zeros : (len : ℕ) → F len → (x : List ℕ) × IsString F x × (length x ≡ len)
   zeros len fits =

@@ -1,4 +1,4 @@
--- Options: what is read is spelled so, and what is spelled so is read.
+-- Options: what is read is encoded so, and what is encoded so is read.
 use Rattle.std.proofs.Common.{◌+◌, ◌≡◌, ℕ, ◌^◌, ◌<◌, ◌≤◌, true, false, cond, eqb, ltb, List, [], ◌++◌, length, replicate, Result, Ok, refl, sym, ap, subst, ◌∙◌, arith, inl, inr}
 use Rattle.std.proofs.lemmas.Bool.{eqb-true, eqb-false, ne_eqb, cases_Bool, cond-true, cond-false, cond_both, ltb-true, ltb-false}
 use Rattle.std.proofs.lemmas.List.{length-replicate, nil_from_length}
@@ -7,12 +7,12 @@ use Rattle.nbd_codec.specs.declared.constants.TheConstants.{OPTION_HEADER, OPTIO
 use Rattle.nbd_codec.specs.declared.findings.Fault.TheVariants as faults
 use Rattle.nbd_codec.specs.declared.fields.Ending.{Ending}
 use Rattle.nbd_codec.specs.Fields.{◌>>=◌, magic_at, number_at, limited_at, bytes_at}
-use Rattle.nbd_codec.specs.ClientOption.{PlainOption, ExportName, Abort, Lists, Info, Go, Other, Oversized, number_of, content_of, length_of, spelling, IsKnown, IsData, InfoFits, ContentFits, IsOption, info_spelling, info_of, option_of, length_at, option_at}
+use Rattle.nbd_codec.specs.ClientOption.{PlainOption, ExportName, Abort, Lists, Info, Go, Other, Oversized, number_of, content_of, length_of, encoding, IsKnown, IsData, InfoFits, ContentFits, IsOption, info_encoding, info_of, option_of, length_at, option_at}
 use Rattle.nbd_codec.proofs.Parts.{IsField, IsField-both}
 use Rattle.nbd_codec.proofs.BigNumbers.{AreBytes-zeros, width4}
 use Rattle.nbd_codec.proofs.Basics.{AreSome, IsField-number, IsField-limited, IsField-bytes, IsField-made}
 use Rattle.nbd_codec.proofs.Magics.{IsField-behind}
-use Rattle.nbd_codec.proofs.Maps.{IsField-respelled, IsField-seen}
+use Rattle.nbd_codec.proofs.Maps.{IsField-reencoded, IsField-seen}
 use Rattle.nbd_codec.proofs.InfoLaws.{info_into, info_back}
 
 -- ---- the data
@@ -24,12 +24,12 @@ record Holds (number : ℕ) (bytes : List ℕ) (option : PlainOption) : Type 0 w
   is_length : length_of option ≡ length bytes
   fits : ContentFits option
 
-info_fits : (bytes : List ℕ) → IsData bytes → InfoFits (info_of bytes) × IsData (info_spelling (info_of bytes))
+info_fits : (bytes : List ℕ) → IsData bytes → InfoFits (info_of bytes) × IsData (info_encoding (info_of bytes))
 info_fits bytes fits =
     let w = info_into bytes fits.1 in
     (w.0, subst IsData (sym w.1) fits)
 
-info_length : (bytes : List ℕ) → IsData bytes → length (info_spelling (info_of bytes)) ≡ length bytes
+info_length : (bytes : List ℕ) → IsData bytes → length (info_encoding (info_of bytes)) ≡ length bytes
 info_length bytes fits = ap length (info_into bytes fits.1).1
 
 unknown : (n : ℕ) → (n ≡ OPTION_EXPORT_NAME → ⊥) → (n ≡ OPTION_ABORT → ⊥) → (n ≡ OPTION_LIST → ⊥) → (n ≡ OPTION_INFO → ⊥) → (n ≡ OPTION_GO → ⊥) → IsKnown n → ⊥
@@ -114,8 +114,8 @@ number_reads number e bytes = cond-false (eqb number OPTION_EXPORT_NAME) _ _ e
 length_field : (number : ℕ) → IsField (length_at number) (big_bytes 4) (IsLength number)
 length_field number =
     elim (cases_Bool (eqb number OPTION_EXPORT_NAME)) [
-      | inl e ↦ IsField-respelled (limited_at 0 faults.ExportName) (length_at number) (big_bytes 4) (big_bytes 4) (λ len. len ≤ 0) (IsLength number) (IsField-limited 0 faults.ExportName width4 (omega arith)) (limited_reads number e) (λ len w. omega (arith, w.1 (eqb-true _ _ e))) (λ len w. (omega arith, λ same. omega arith)) (λ len w. refl)
-      | inr e ↦ IsField-respelled (number_at 4) (length_at number) (big_bytes 4) (big_bytes 4) (λ len. len < 256 ^ 4) (IsLength number) (IsField-number 4 width4) (number_reads number e) (λ len w. w.0) (λ len w. (w, λ same. absurd (eqb-false _ _ e same))) (λ len w. refl)
+      | inl e ↦ IsField-reencoded (limited_at 0 faults.ExportName) (length_at number) (big_bytes 4) (big_bytes 4) (λ len. len ≤ 0) (IsLength number) (IsField-limited 0 faults.ExportName width4 (omega arith)) (limited_reads number e) (λ len w. omega (arith, w.1 (eqb-true _ _ e))) (λ len w. (omega arith, λ same. omega arith)) (λ len w. refl)
+      | inr e ↦ IsField-reencoded (number_at 4) (length_at number) (big_bytes 4) (big_bytes 4) (λ len. len < 256 ^ 4) (IsLength number) (IsField-number 4 width4) (number_reads number e) (λ len w. w.0) (λ len w. (w, λ same. absurd (eqb-false _ _ e same))) (λ len w. refl)
     ]
 
 -- ---- the data behind its length
@@ -168,8 +168,8 @@ skipped_field number len small lt fits =
 content_field : (number len : ℕ) → number < 2 ^ 32 → IsLength number len → IsField (content_at number len) content_of (With2 number len)
 content_field number len small fits =
     elim (cases_Bool (ltb MAX_OPTION_DATA len)) [
-      | inl e ↦ IsField-respelled (skipped_at number len) (content_at number len) content_of content_of (With2 number len) (With2 number len) (skipped_field number len small (ltb-true _ _ e) fits) (λ bytes. cond-true (ltb MAX_OPTION_DATA len) _ _ e) (λ x w. w) (λ x w. w) (λ x w. refl)
-      | inr e ↦ IsField-respelled (whole_at number len) (content_at number len) content_of content_of (With2 number len) (With2 number len) (whole_field number len small (ltb-false _ _ e) fits) (λ bytes. cond-false (ltb MAX_OPTION_DATA len) _ _ e) (λ x w. w) (λ x w. w) (λ x w. refl)
+      | inl e ↦ IsField-reencoded (skipped_at number len) (content_at number len) content_of content_of (With2 number len) (With2 number len) (skipped_field number len small (ltb-true _ _ e) fits) (λ bytes. cond-true (ltb MAX_OPTION_DATA len) _ _ e) (λ x w. w) (λ x w. w) (λ x w. refl)
+      | inr e ↦ IsField-reencoded (whole_at number len) (content_at number len) content_of content_of (With2 number len) (With2 number len) (whole_field number len small (ltb-false _ _ e) fits) (λ bytes. cond-false (ltb MAX_OPTION_DATA len) _ _ e) (λ x w. w) (λ x w. w) (λ x w. refl)
     ]
 
 some_with : (number len : ℕ) → number < 2 ^ 32 → IsLength number len → (option : PlainOption) × With1 number option × (length_of option ≡ len)
@@ -212,24 +212,24 @@ field1 =
 some_option : (option : PlainOption) × IsOption option
 some_option = (Abort [], record { number = omega arith; content = (omega arith, λ i. omega arith) })
 
-option_text : (option : PlainOption) → spelling option ≡ big_bytes 8 OPTION_MAGIC ++ text1 option
-unfolding spelling
+option_text : (option : PlainOption) → encoding option ≡ big_bytes 8 OPTION_MAGIC ++ text1 option
+unfolding encoding
 option_text option = refl
 
 pub option_reads : (bytes : List ℕ) → option_at bytes ≡ (magic_at (big_bytes 8 OPTION_MAGIC) faults.OptionMagic bytes >>= λ rest. at1 rest)
 unfolding option_at
 option_reads bytes = refl
 
-pub IsField-option : IsField option_at spelling IsOption
+pub IsField-option : IsField option_at encoding IsOption
 IsField-option =
-    IsField-respelled (λ bytes. magic_at (big_bytes 8 OPTION_MAGIC) faults.OptionMagic bytes >>= λ rest. at1 rest) option_at (λ option. big_bytes 8 OPTION_MAGIC ++ text1 option) spelling IsOption IsOption
+    IsField-reencoded (λ bytes. magic_at (big_bytes 8 OPTION_MAGIC) faults.OptionMagic bytes >>= λ rest. at1 rest) option_at (λ option. big_bytes 8 OPTION_MAGIC ++ text1 option) encoding IsOption IsOption
     (IsField-behind (big_bytes 8 OPTION_MAGIC) faults.OptionMagic at1 text1 IsOption field1 some_option) option_reads (λ x w. w) (λ x w. w) (λ x w. option_text x)
 
 -- ---- its length
 
-pub spelling_len : (option : PlainOption) → OPTION_HEADER ≤ length (spelling option)
-unfolding spelling
-spelling_len option = omega arith
+pub encoding_len : (option : PlainOption) → OPTION_HEADER ≤ length (encoding option)
+unfolding encoding
+encoding_len option = omega arith
 
 content_short : (option : PlainOption) → ContentFits option → length (content_of option) ≤ MAX_OPTION_DATA
 content_short ExportName fits = omega arith
@@ -241,6 +241,6 @@ content_short (Other number bytes) fits = fits.1.0
 content_short (Oversized number len) fits = omega arith
 
 -- and at most its header and the most data
-pub spelling_short : (option : PlainOption) → IsOption option → length (spelling option) ≤ OPTION_HEADER + MAX_OPTION_DATA
-unfolding spelling
-spelling_short option fits = omega (arith, content_short option fits.content)
+pub encoding_short : (option : PlainOption) → IsOption option → length (encoding option) ≤ OPTION_HEADER + MAX_OPTION_DATA
+unfolding encoding
+encoding_short option fits = omega (arith, content_short option fits.content)

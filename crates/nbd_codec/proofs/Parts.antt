@@ -5,16 +5,16 @@ use Rattle.nbd_codec.specs.declared.findings.Fault.{Fault}
 use Rattle.nbd_codec.specs.declared.fields.Ending.{Ending}
 use Rattle.nbd_codec.specs.declared.fields.Ending.TheVariants as endings
 use Rattle.nbd_codec.specs.Fields.{◌>>=◌}
-use Rattle.nbd_codec.specs.Findings.{AreBytes, IsProperFront}
+use Rattle.nbd_codec.specs.Findings.{AreBytes, IsProperPrefix}
 
 pub AreBytes-right : (front back : List ℕ) → AreBytes (front ++ back) → AreBytes back
 AreBytes-right front back fits i = subst (λ (n : ℕ). n < 256) (get_or-append-add front back i 0) (fits (length front + i))
 
--- f reads what s spells, of the values that F lets through
+-- f reads what s encodes, of the values that F lets through
 pub record IsField {A : Type 0} (f : List ℕ → Result (A × List ℕ) Ending) (s : A → List ℕ) (F : A → Type 0) : Type 0 where
   pub found : (bytes : List ℕ) (x : A) (rest : List ℕ) → AreBytes bytes → f bytes ≡ Ok (x, rest) → F x × (bytes ≡ s x ++ rest)
   pub again : (x : A) (rest : List ℕ) → F x → f (s x ++ rest) ≡ Ok (x, rest)
-  pub short : (bytes : List ℕ) → AreBytes bytes → f bytes ≡ Err endings.Short → IsProperFront s F bytes
+  pub short : (bytes : List ℕ) → AreBytes bytes → f bytes ≡ Err endings.Short → IsProperPrefix s F bytes
   pub front : (x : A) (bytes rest : List ℕ) → F x → 0 < length rest → bytes ++ rest ≡ s x → f bytes ≡ Err endings.Short
   pub stays : (bytes more : List ℕ) (e : Fault) → AreBytes bytes → f bytes ≡ Err (endings.Fault e) → f (bytes ++ more) ≡ Err (endings.Fault e)
 
@@ -71,7 +71,7 @@ module _ {A C : Type 0} (f : List ℕ → Result (A × List ℕ) Ending) (s : A 
       let regrouped : f (text c ++ rest) ≡ Ok (p c, t c ++ rest) = ap f (append_assoc (s (p c)) (t c) rest) ∙ first.again (p c) (t c ++ rest) (fits c h) in
       ap (λ r. r >>= λ a. g a.0 a.1) regrouped ∙ (second (p c) (fits c h)).again c rest (h, refl)
 
-  both_short : (bytes : List ℕ) → AreBytes bytes → both bytes ≡ Err endings.Short → IsProperFront text H bytes
+  both_short : (bytes : List ℕ) → AreBytes bytes → both bytes ≡ Err endings.Short → IsProperPrefix text H bytes
   both_short bytes is_bytes e =
       elim (bind_err (f bytes) (λ a. g a.0 a.1) endings.Short e) [
         | inl short ↦

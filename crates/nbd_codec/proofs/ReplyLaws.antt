@@ -1,4 +1,4 @@
--- Replies: no spelling of one begins another.
+-- Replies: no encoding of one begins another.
 use Rattle.std.proofs.Common.{◌≡◌, ℕ, ◌^◌, ◌<◌, Bool, cond, List, [], ◌++◌, length, take, drop, replicate, refl, sym, ap, ◌∙◌, append_assoc, arith}
 use Rattle.std.proofs.lemmas.List.{append_cancel_left, take_at, drop_at}
 use Rattle.byteorder.specs.Endian.{big_bytes}
@@ -8,9 +8,9 @@ use Rattle.nbd_codec.specs.declared.option_replies.OptionReply.TheVariants.{Ack,
 use Rattle.nbd_codec.specs.declared.replies.NbdError.{NbdError}
 use Rattle.nbd_codec.specs.declared.replies.NbdError.TheVariants.{Io, NoMemory, Invalid, NoSpace}
 use Rattle.nbd_codec.specs.Fields.{number_at}
-use Rattle.nbd_codec.specs.OptionReply.{type_of, reply_data, option_reply_spelling, export_spelling}
-use Rattle.nbd_codec.specs.Reply.{Done, Refused, error_number, spelling}
-use Rattle.nbd_codec.specs.Laws.{AreApart, IsReplyOf, NumberedFits, OptionReplyFits, numbered_spelling}
+use Rattle.nbd_codec.specs.OptionReply.{type_of, reply_data, option_reply_encoding, export_encoding}
+use Rattle.nbd_codec.specs.Reply.{Done, Refused, error_number, encoding}
+use Rattle.nbd_codec.specs.Laws.{AreApart, IsReplyOf, NumberedFits, OptionReplyFits, numbered_encoding}
 use Rattle.nbd_codec.proofs.BigNumbers.{IsWidth, width4, width8}
 use Rattle.nbd_codec.proofs.Basics.{done, done_is, number_again}
 
@@ -28,7 +28,7 @@ cut_content x y a b len e = (
   sym (drop_at x a (length x) refl) ∙ ap (drop (length x)) e ∙ drop_at y b (length x) (sym len),
 )
 
--- a number, what is spelled behind it, and what follows
+-- a number, what is encoded behind it, and what follows
 cut_both : (n : ℕ) (width : IsWidth n) (x y : ℕ) (s t a b : List ℕ) → x < 256 ^ n → y < 256 ^ n → (big_bytes n x ++ s) ++ a ≡ (big_bytes n y ++ t) ++ b → (x ≡ y) × (s ++ a ≡ t ++ b)
 cut_both n width x y s t a b p q e =
     cut_number n width x y (s ++ a) (t ++ b) p q (sym (append_assoc (big_bytes n x) s a) ∙ e ∙ append_assoc (big_bytes n y) t b)
@@ -38,8 +38,8 @@ cut_same p s t a b e = append_cancel_left p (s ++ a) (t ++ b) (sym (append_assoc
 
 -- ---- the answer to EXPORT_NAME
 
-pub exports_apart : (no_zeroes : Bool) → AreApart (λ size. export_spelling size no_zeroes) (λ size. size < 2 ^ 64)
-unfolding export_spelling
+pub exports_apart : (no_zeroes : Bool) → AreApart (λ size. export_encoding size no_zeroes) (λ size. size < 2 ^ 64)
+unfolding export_encoding
 exports_apart no_zeroes x y a b p q e =
     let tail : List ℕ = big_bytes 2 TRANSMISSION_FLAGS ++ cond no_zeroes [] (replicate EXPORT_ZEROS 0) in
     let w = cut_both 8 width8 x y tail tail a b p q e in
@@ -130,8 +130,8 @@ type_fits ErrInvalid = omega arith
 type_fits ErrUnknown = omega arith
 type_fits ErrTooBig = omega arith
 
-pub option_replies_apart : AreApart numbered_spelling NumberedFits
-unfolding option_reply_spelling
+pub option_replies_apart : AreApart numbered_encoding NumberedFits
+unfolding option_reply_encoding
 option_replies_apart x y a b p q e =
     let x2 : List ℕ = big_bytes 4 (type_of x.1) ++ reply_data x.1 in
     let y2 : List ℕ = big_bytes 4 (type_of y.1) ++ reply_data y.1 in
@@ -184,7 +184,7 @@ cut_reply number number' cookie cookie' payload payload' a b p p' q q' e =
     let second = cut_both 8 width8 cookie cookie' payload payload' a b q q' first.1 in
     (first.0, second.0, second.1)
 
-pub replies_apart : (len : ℕ) → AreApart spelling (IsReplyOf len)
+pub replies_apart : (len : ℕ) → AreApart encoding (IsReplyOf len)
 replies_apart len (Done cookie payload) (Done cookie' payload') a b p q e =
     let w = cut_reply 0 0 cookie cookie' payload payload' a b (omega arith) (omega arith) p.0 q.0 e in
     let v = cut_content payload payload' a b (p.1 ∙ sym q.1) w.2 in

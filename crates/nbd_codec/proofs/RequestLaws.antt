@@ -1,4 +1,4 @@
--- Requests: what is read is spelled so, and what is spelled so is read.
+-- Requests: what is read is encoded so, and what is encoded so is read.
 use Rattle.std.proofs.Common.{◌+◌, cond, ◌≡◌, ℕ, ◌^◌, ◌<◌, ◌≤◌, true, false, eqb, List, [], ◌++◌, length, length-append, Result, Ok, refl, sym, ap, subst, ◌∙◌, arith, inl, inr}
 use Rattle.std.proofs.lemmas.Bool.{eqb-true, eqb-false, ne_eqb, cases_Bool, cond-true, cond-false, cond_both}
 use Rattle.std.proofs.lemmas.List.{append-nil}
@@ -9,12 +9,12 @@ use Rattle.nbd_codec.specs.declared.fields.Ending.{Ending}
 use Rattle.nbd_codec.specs.declared.requests.Head.{Head}
 use Rattle.nbd_codec.specs.Fields.{◌>>=◌, magic_at, number_at, limited_at, bytes_at}
 use Rattle.nbd_codec.specs.Findings.{AreBytes}
-use Rattle.nbd_codec.specs.Request.{PlainRequest, Read, Write, Disc, Flush, Other, head_of, head_at, body_at, request_at, plain, head_spelling, body_spelling, spelling, IsKnown, HeadFits, BodyFits, IsRequest}
+use Rattle.nbd_codec.specs.Request.{PlainRequest, Read, Write, Disc, Flush, Other, head_of, head_at, body_at, request_at, plain, head_encoding, body_encoding, encoding, IsKnown, HeadFits, BodyFits, IsRequest}
 use Rattle.nbd_codec.proofs.Parts.{IsField, IsField-both}
 use Rattle.nbd_codec.proofs.BigNumbers.{width2, width4, width8}
 use Rattle.nbd_codec.proofs.Basics.{IsField-limited, IsField-number, IsField-made}
 use Rattle.nbd_codec.proofs.Magics.{IsField-behind}
-use Rattle.nbd_codec.proofs.Maps.{bind_assoc, IsField-respelled, IsField-seen, IsField-string, IsString, string_of, string_text}
+use Rattle.nbd_codec.proofs.Maps.{bind_assoc, IsField-reencoded, IsField-seen, IsField-string, IsString, string_of, string_text}
 
 -- ---- the head
 
@@ -101,17 +101,17 @@ some_head = (made_head 0 0 0 0, fitting 0 0 0 0 (omega arith) (omega arith) (ome
 head_behind : IsField (λ bytes. magic_at (big_bytes 4 REQUEST_MAGIC) RequestMagic bytes >>= λ rest. at1 rest) (λ h. big_bytes 4 REQUEST_MAGIC ++ text1 h) HeadFits
 head_behind = IsField-behind (big_bytes 4 REQUEST_MAGIC) RequestMagic at1 text1 HeadFits field1 some_head
 
-head_text : (h : Head) → head_spelling h ≡ big_bytes 4 REQUEST_MAGIC ++ text1 h
-unfolding head_spelling
+head_text : (h : Head) → head_encoding h ≡ big_bytes 4 REQUEST_MAGIC ++ text1 h
+unfolding head_encoding
 head_text h = ap (λ (x : List ℕ). big_bytes 4 REQUEST_MAGIC ++ (big_bytes 2 h.flags ++ (big_bytes 2 h.kind ++ (big_bytes 8 h.cookie ++ x)))) (sym (append-nil (big_bytes 8 h.offset)))
 
 pub head_reads : (bytes : List ℕ) → head_at bytes ≡ (magic_at (big_bytes 4 REQUEST_MAGIC) RequestMagic bytes >>= λ rest. at1 rest)
 unfolding head_at
 head_reads bytes = refl
 
-pub IsField-head : IsField head_at head_spelling HeadFits
+pub IsField-head : IsField head_at head_encoding HeadFits
 IsField-head =
-    IsField-respelled (λ bytes. magic_at (big_bytes 4 REQUEST_MAGIC) RequestMagic bytes >>= λ rest. at1 rest) head_at (λ h. big_bytes 4 REQUEST_MAGIC ++ text1 h) head_spelling HeadFits HeadFits head_behind head_reads (λ h w. w) (λ h w. w) (λ h w. head_text h)
+    IsField-reencoded (λ bytes. magic_at (big_bytes 4 REQUEST_MAGIC) RequestMagic bytes >>= λ rest. at1 rest) head_at (λ h. big_bytes 4 REQUEST_MAGIC ++ text1 h) head_encoding HeadFits HeadFits head_behind head_reads (λ h w. w) (λ h w. w) (λ h w. head_text h)
 
 -- ---- the body
 
@@ -122,8 +122,8 @@ Has limit h request = BodyFits limit request × (head_of request ≡ h)
 abbrev pub write_of : Head → List ℕ → PlainRequest
 write_of h payload = Write h.flags h.cookie h.offset payload
 
-write_into : (limit : ℕ) (h : Head) (payload : List ℕ) → h.kind ≡ REQUEST_WRITE → (length payload ≤ limit) × AreBytes payload → Has limit h (write_of h payload) × (body_spelling (write_of h payload) ≡ big_bytes 4 (length payload) ++ payload)
-unfolding body_spelling
+write_into : (limit : ℕ) (h : Head) (payload : List ℕ) → h.kind ≡ REQUEST_WRITE → (length payload ≤ limit) × AreBytes payload → Has limit h (write_of h payload) × (body_encoding (write_of h payload) ≡ big_bytes 4 (length payload) ++ payload)
+unfolding body_encoding
 write_into limit h payload e fits = ((fits, ap (λ (k : ℕ). made_head h.flags k h.cookie h.offset) (sym e)), refl)
 
 write_back : (limit : ℕ) (h : Head) (request : PlainRequest) → h.kind ≡ REQUEST_WRITE → Has limit h request → (payload : List ℕ) × ((length payload ≤ limit) × AreBytes payload) × (write_of h payload ≡ request)
@@ -133,9 +133,9 @@ write_back limit h (Disc flags cookie offset len) e fits = let k : REQUEST_DISC 
 write_back limit h (Flush flags cookie offset len) e fits = let k : REQUEST_FLUSH ≡ h.kind = ap (λ (x : Head). x.kind) fits.1 in absurd (omega arith)
 write_back limit h (Other kind flags cookie offset len) e fits = let k : kind ≡ h.kind = ap (λ (x : Head). x.kind) fits.1 in absurd (fits.0.1 (inr (inl (k ∙ e))))
 
-write_field : (limit : ℕ) (h : Head) → limit < 2 ^ 32 → h.kind ≡ REQUEST_WRITE → IsField (λ bytes. string_of (limited_at limit PayloadTooLong) bytes >>= λ a. Ok (write_of h a.0, a.1)) body_spelling (Has limit h)
+write_field : (limit : ℕ) (h : Head) → limit < 2 ^ 32 → h.kind ≡ REQUEST_WRITE → IsField (λ bytes. string_of (limited_at limit PayloadTooLong) bytes >>= λ a. Ok (write_of h a.0, a.1)) body_encoding (Has limit h)
 write_field limit h small e =
-    IsField-seen (string_of (limited_at limit PayloadTooLong)) string_text (IsString (λ n. n ≤ limit)) (write_of h) body_spelling (Has limit h) (IsField-string (limited_at limit PayloadTooLong) (λ n. n ≤ limit) (IsField-limited limit PayloadTooLong width4 small)) (λ payload fits. write_into limit h payload e fits) (λ request fits. write_back limit h request e fits)
+    IsField-seen (string_of (limited_at limit PayloadTooLong)) string_text (IsString (λ n. n ≤ limit)) (write_of h) body_encoding (Has limit h) (IsField-string (limited_at limit PayloadTooLong) (λ n. n ≤ limit) (IsField-limited limit PayloadTooLong width4 small)) (λ payload fits. write_into limit h payload e fits) (λ request fits. write_back limit h request e fits)
 
 -- ---- a request with no payload
 
@@ -145,16 +145,16 @@ unknown k n0 n1 n2 n3 (inr (inl e)) = n1 e
 unknown k n0 n1 n2 n3 (inr (inr (inl e))) = n2 e
 unknown k n0 n1 n2 n3 (inr (inr (inr e))) = n3 e
 
--- the request with no payload, and what spells its body
+-- the request with no payload, and what encodes its body
 abbrev Into : ℕ → Head → ℕ → PlainRequest → Type 0
-Into limit h len request = Has limit h request × (body_spelling request ≡ big_bytes 4 len)
+Into limit h len request = Has limit h request × (body_encoding request ≡ big_bytes 4 len)
 
 step : (limit : ℕ) (h : Head) (len own : ℕ) (x y : PlainRequest) → (made_head h.flags own h.cookie h.offset ≡ h → Into limit h len x) → ((h.kind ≡ own → ⊥) → Into limit h len y) → Into limit h len (cond (eqb h.kind own) x y)
 step limit h len own x y is isnt =
     cond_both (eqb h.kind own) x y (Into limit h len) (λ e. is (ap (λ (k : ℕ). made_head h.flags k h.cookie h.offset) (sym (eqb-true _ _ e)))) (λ e. isnt (eqb-false _ _ e))
 
 plain_into : (limit : ℕ) (h : Head) (len : ℕ) → (h.kind ≡ REQUEST_WRITE → ⊥) → len < 2 ^ 32 → Into limit h len (plain h len)
-unfolding body_spelling
+unfolding body_encoding
 plain_into limit h len n1 fits =
     step limit h len REQUEST_READ _ _ (λ e. ((fits, e), refl)) (λ n0.
     step limit h len REQUEST_DISC _ _ (λ e. ((fits, e), refl)) (λ n2.
@@ -185,9 +185,9 @@ plain_back limit h request other fits =
     let own = plain_back_own limit request (λ k. other (ap (λ (x : Head). x.kind) (sym fits.1) ∙ k)) fits.0 in
     (len_of request, own.0, ap (λ (x : Head). plain x (len_of request)) (sym fits.1) ∙ own.1)
 
-plain_field : (limit : ℕ) (h : Head) → (h.kind ≡ REQUEST_WRITE → ⊥) → IsField (λ bytes. number_at 4 bytes >>= λ a. Ok (plain h a.0, a.1)) body_spelling (Has limit h)
+plain_field : (limit : ℕ) (h : Head) → (h.kind ≡ REQUEST_WRITE → ⊥) → IsField (λ bytes. number_at 4 bytes >>= λ a. Ok (plain h a.0, a.1)) body_encoding (Has limit h)
 plain_field limit h other =
-    IsField-seen (number_at 4) (big_bytes 4) (λ x. x < 256 ^ 4) (plain h) body_spelling (Has limit h) (IsField-number 4 width4) (λ len fits. plain_into limit h len other fits) (λ request fits. plain_back limit h request other fits)
+    IsField-seen (number_at 4) (big_bytes 4) (λ x. x < 256 ^ 4) (plain h) body_encoding (Has limit h) (IsField-number 4 width4) (λ len fits. plain_into limit h len other fits) (λ request fits. plain_back limit h request other fits)
 
 -- ---- either body
 
@@ -199,11 +199,11 @@ pub plain_reads : (limit : ℕ) (h : Head) → eqb h.kind REQUEST_WRITE ≡ fals
 unfolding body_at
 plain_reads limit h e bytes = cond-false (eqb h.kind REQUEST_WRITE) _ _ e
 
-IsField-body : (limit : ℕ) (h : Head) → limit < 2 ^ 32 → IsField (body_at limit h) body_spelling (Has limit h)
+IsField-body : (limit : ℕ) (h : Head) → limit < 2 ^ 32 → IsField (body_at limit h) body_encoding (Has limit h)
 IsField-body limit h small =
     elim (cases_Bool (eqb h.kind REQUEST_WRITE)) [
-      | inl e ↦ IsField-respelled (λ bytes. string_of (limited_at limit PayloadTooLong) bytes >>= λ a. Ok (write_of h a.0, a.1)) (body_at limit h) body_spelling body_spelling (Has limit h) (Has limit h) (write_field limit h small (eqb-true _ _ e)) (write_reads limit h e) (λ x w. w) (λ x w. w) (λ x w. refl)
-      | inr e ↦ IsField-respelled (λ bytes. number_at 4 bytes >>= λ a. Ok (plain h a.0, a.1)) (body_at limit h) body_spelling body_spelling (Has limit h) (Has limit h) (plain_field limit h (eqb-false _ _ e)) (plain_reads limit h e) (λ x w. w) (λ x w. w) (λ x w. refl)
+      | inl e ↦ IsField-reencoded (λ bytes. string_of (limited_at limit PayloadTooLong) bytes >>= λ a. Ok (write_of h a.0, a.1)) (body_at limit h) body_encoding body_encoding (Has limit h) (Has limit h) (write_field limit h small (eqb-true _ _ e)) (write_reads limit h e) (λ x w. w) (λ x w. w) (λ x w. refl)
+      | inr e ↦ IsField-reencoded (λ bytes. number_at 4 bytes >>= λ a. Ok (plain h a.0, a.1)) (body_at limit h) body_encoding body_encoding (Has limit h) (Has limit h) (plain_field limit h (eqb-false _ _ e)) (plain_reads limit h e) (λ x w. w) (λ x w. w) (λ x w. refl)
     ]
 
 -- ---- the request
@@ -219,49 +219,49 @@ some_with limit h fits =
           (plain h 0, record { head = subst HeadFits (sym w.0.1) fits; body = w.0.0 }, w.0.1)
     ]
 
-body_of_head : (limit : ℕ) (h : Head) → limit < 2 ^ 32 → HeadFits h → IsField (body_at limit h) body_spelling (λ request. IsRequest limit request × (head_of request ≡ h))
+body_of_head : (limit : ℕ) (h : Head) → limit < 2 ^ 32 → HeadFits h → IsField (body_at limit h) body_encoding (λ request. IsRequest limit request × (head_of request ≡ h))
 body_of_head limit h small fits =
-    IsField-respelled (body_at limit h) (body_at limit h) body_spelling body_spelling (Has limit h) (λ request. IsRequest limit request × (head_of request ≡ h)) (IsField-body limit h small) (λ bytes. refl)
+    IsField-reencoded (body_at limit h) (body_at limit h) body_encoding body_encoding (Has limit h) (λ request. IsRequest limit request × (head_of request ≡ h)) (IsField-body limit h small) (λ bytes. refl)
     (λ request w. (w.0.body, w.1))
     (λ request w. (record { head = subst HeadFits (sym w.1) fits; body = w.0 }, w.1))
     (λ request w. refl)
 
-request_field : (limit : ℕ) → limit < 2 ^ 32 → IsField (λ bytes. head_at bytes >>= λ h. body_at limit h.0 h.1) (λ request. head_spelling (head_of request) ++ body_spelling request) (IsRequest limit)
+request_field : (limit : ℕ) → limit < 2 ^ 32 → IsField (λ bytes. head_at bytes >>= λ h. body_at limit h.0 h.1) (λ request. head_encoding (head_of request) ++ body_encoding request) (IsRequest limit)
 request_field limit small =
-    IsField-both head_at head_spelling HeadFits (λ h bytes. body_at limit h bytes) body_spelling (IsRequest limit) head_of IsField-head (λ h fits. body_of_head limit h small fits) (λ request w. w.head) (λ h fits. some_with limit h fits)
+    IsField-both head_at head_encoding HeadFits (λ h bytes. body_at limit h bytes) body_encoding (IsRequest limit) head_of IsField-head (λ h fits. body_of_head limit h small fits) (λ request w. w.head) (λ h fits. some_with limit h fits)
 
 request_reads : (limit : ℕ) (bytes : List ℕ) → request_at limit bytes ≡ (head_at bytes >>= λ h. body_at limit h.0 h.1)
 unfolding request_at
 request_reads limit bytes = refl
 
-request_text : (request : PlainRequest) → spelling request ≡ head_spelling (head_of request) ++ body_spelling request
-unfolding spelling
+request_text : (request : PlainRequest) → encoding request ≡ head_encoding (head_of request) ++ body_encoding request
+unfolding encoding
 request_text request = refl
 
-pub IsField-request : (limit : ℕ) → limit < 2 ^ 32 → IsField (request_at limit) spelling (IsRequest limit)
+pub IsField-request : (limit : ℕ) → limit < 2 ^ 32 → IsField (request_at limit) encoding (IsRequest limit)
 IsField-request limit small =
-    IsField-respelled (λ bytes. head_at bytes >>= λ h. body_at limit h.0 h.1) (request_at limit) (λ request. head_spelling (head_of request) ++ body_spelling request) spelling (IsRequest limit) (IsRequest limit) (request_field limit small) (request_reads limit) (λ x w. w) (λ x w. w) (λ x w. request_text x)
+    IsField-reencoded (λ bytes. head_at bytes >>= λ h. body_at limit h.0 h.1) (request_at limit) (λ request. head_encoding (head_of request) ++ body_encoding request) encoding (IsRequest limit) (IsRequest limit) (request_field limit small) (request_reads limit) (λ x w. w) (λ x w. w) (λ x w. request_text x)
 
 -- ---- its length
 
-pub head_len : (h : Head) → length (head_spelling h) ≡ 24
-unfolding head_spelling
+pub head_len : (h : Head) → length (head_encoding h) ≡ 24
+unfolding head_encoding
 head_len h = refl
 
-body_len : (request : PlainRequest) → 4 ≤ length (body_spelling request)
-unfolding body_spelling
+body_len : (request : PlainRequest) → 4 ≤ length (body_encoding request)
+unfolding body_encoding
 body_len (Read flags cookie offset len) = omega arith
 body_len (Write flags cookie offset payload) = omega arith
 body_len (Disc flags cookie offset len) = omega arith
 body_len (Flush flags cookie offset len) = omega arith
 body_len (Other kind flags cookie offset len) = omega arith
 
-pub spelling_len : (request : PlainRequest) → REQUEST_HEADER ≤ length (spelling request)
-unfolding spelling
-spelling_len request = omega (arith, length-append (head_spelling (head_of request)) (body_spelling request), head_len (head_of request), body_len request)
+pub encoding_len : (request : PlainRequest) → REQUEST_HEADER ≤ length (encoding request)
+unfolding encoding
+encoding_len request = omega (arith, length-append (head_encoding (head_of request)) (body_encoding request), head_len (head_of request), body_len request)
 
-body_short : (max_payload : ℕ) (request : PlainRequest) → BodyFits max_payload request → length (body_spelling request) ≤ 4 + max_payload
-unfolding body_spelling
+body_short : (max_payload : ℕ) (request : PlainRequest) → BodyFits max_payload request → length (body_encoding request) ≤ 4 + max_payload
+unfolding body_encoding
 body_short max_payload (Read flags cookie offset len) fits = omega arith
 body_short max_payload (Write flags cookie offset payload) fits = omega (arith, fits.0)
 body_short max_payload (Disc flags cookie offset len) fits = omega arith
@@ -269,6 +269,6 @@ body_short max_payload (Flush flags cookie offset len) fits = omega arith
 body_short max_payload (Other kind flags cookie offset len) fits = omega arith
 
 -- and at most its header and the longest payload
-pub spelling_short : (max_payload : ℕ) (request : PlainRequest) → IsRequest max_payload request → length (spelling request) ≤ REQUEST_HEADER + max_payload
-unfolding spelling
-spelling_short max_payload request fits = omega (arith, length-append (head_spelling (head_of request)) (body_spelling request), head_len (head_of request), body_short max_payload request fits.body)
+pub encoding_short : (max_payload : ℕ) (request : PlainRequest) → IsRequest max_payload request → length (encoding request) ≤ REQUEST_HEADER + max_payload
+unfolding encoding
+encoding_short max_payload request fits = omega (arith, length-append (head_encoding (head_of request)) (body_encoding request), head_len (head_of request), body_short max_payload request fits.body)

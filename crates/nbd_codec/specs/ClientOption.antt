@@ -1,4 +1,4 @@
--- The spelling of options, and how they are read from left to right.
+-- The encoding of options, and how they are read from left to right.
 use Rattle.std.specs.Prelude.{◌≡◌, ◌≢◌, ℕ, ◌+◌, ◌*◌, ◌<◌, ◌≤◌, ◌^◌, ◌⊎◌, List, [], ◌∷◌, ◌++◌, length, slice_index, not, nat_lt, Result, Ok, Err, ◌==◌, if◌then◌else◌}
 use Rattle.std.specs.List.{flat_map, list_any}
 use Rattle.byteorder.specs.Endian.{big_bytes, big_number}
@@ -44,10 +44,10 @@ told_of (Go info) = options.Go (information_of info)
 told_of (Other number bytes) = options.Other number
 told_of (Oversized number len) = options.Oversized number len
 
--- the name behind its length, and the types behind their count; or bytes that don't spell that
-unfoldable pub info_spelling : PlainInfo → List ℕ
-info_spelling (Asks name types) = (big_bytes 4 (length name) ++ name) ++ (big_bytes 2 (length types) ++ flat_map (big_bytes 2) types)
-info_spelling (Malformed bytes) = bytes
+-- the name behind its length, and the types behind their count; or bytes that don't encode that
+unfoldable pub info_encoding : PlainInfo → List ℕ
+info_encoding (Asks name types) = (big_bytes 4 (length name) ++ name) ++ (big_bytes 2 (length types) ++ flat_map (big_bytes 2) types)
+info_encoding (Malformed bytes) = bytes
 
 -- the number of an option
 abbrev pub number_of : PlainOption → ℕ
@@ -59,13 +59,13 @@ number_of (Go info) = OPTION_GO
 number_of (Other number bytes) = number
 number_of (Oversized number len) = number
 
--- the data of an option, as far as it belongs to the spelling
+-- the data of an option, as far as it belongs to the encoding
 abbrev pub content_of : PlainOption → List ℕ
 content_of ExportName = []
 content_of (Abort bytes) = bytes
 content_of (Lists bytes) = bytes
-content_of (Info info) = info_spelling info
-content_of (Go info) = info_spelling info
+content_of (Info info) = info_encoding info
+content_of (Go info) = info_encoding info
 content_of (Other number bytes) = bytes
 content_of (Oversized number len) = []
 
@@ -74,14 +74,14 @@ abbrev pub length_of : PlainOption → ℕ
 length_of ExportName = 0
 length_of (Abort bytes) = length bytes
 length_of (Lists bytes) = length bytes
-length_of (Info info) = length (info_spelling info)
-length_of (Go info) = length (info_spelling info)
+length_of (Info info) = length (info_encoding info)
+length_of (Go info) = length (info_encoding info)
 length_of (Other number bytes) = length bytes
 length_of (Oversized number len) = len
 
--- the one spelling of an option: an oversized one is spelled by its header alone
-unfoldable pub spelling : PlainOption → List ℕ
-spelling option = big_bytes 8 OPTION_MAGIC ++ (big_bytes 4 (number_of option) ++ (big_bytes 4 (length_of option) ++ content_of option))
+-- the one encoding of an option: an oversized one is encoded by its header alone
+unfoldable pub encoding : PlainOption → List ℕ
+encoding option = big_bytes 8 OPTION_MAGIC ++ (big_bytes 4 (number_of option) ++ (big_bytes 4 (length_of option) ++ content_of option))
 
 -- a number of an option that has a variant of its own
 abbrev pub IsKnown : ℕ → Type 0
@@ -98,22 +98,22 @@ pub record AreAsked (name types : List ℕ) : Type 0 where
   pub type_count : length types < 2 ^ 16
   pub each_type : (i : ℕ) → slice_index types i < 2 ^ 16
 
--- a name and types, or data that doesn't spell any
+-- a name and types, or data that doesn't encode any
 abbrev pub InfoFits : PlainInfo → Type 0
 InfoFits (Asks name types) = AreAsked name types
-InfoFits (Malformed bytes) = (name types : List ℕ) → AreAsked name types → bytes ≡ info_spelling (Asks name types) → ⊥
+InfoFits (Malformed bytes) = (name types : List ℕ) → AreAsked name types → bytes ≡ info_encoding (Asks name types) → ⊥
 
 -- EXPORT_NAME, which has no data; data that is taken, under a number of its own; or an oversized option, which isn't EXPORT_NAME
 abbrev pub ContentFits : PlainOption → Type 0
 ContentFits ExportName = Unit {0}
 ContentFits (Abort bytes) = IsData bytes
 ContentFits (Lists bytes) = IsData bytes
-ContentFits (Info info) = InfoFits info × IsData (info_spelling info)
-ContentFits (Go info) = InfoFits info × IsData (info_spelling info)
+ContentFits (Info info) = InfoFits info × IsData (info_encoding info)
+ContentFits (Go info) = InfoFits info × IsData (info_encoding info)
 ContentFits (Other number bytes) = (¬ IsKnown number) × IsData bytes
 ContentFits (Oversized number len) = (MAX_OPTION_DATA < len) × (len < 2 ^ 32) × (number ≢ OPTION_EXPORT_NAME)
 
--- what has a spelling that is taken
+-- what has an encoding that is taken
 pub record IsOption (option : PlainOption) : Type 0 where
   pub number : number_of option < 2 ^ 32
   pub content : ContentFits option

@@ -28,22 +28,22 @@ finding bytes (Err endings.Short) = More
 finding bytes (Err (endings.Fault fault)) = Fault fault
 
 -- a value that fits stands at the front of the bytes, and takes this many of them
-pub record Takes {A : Type 0} (spelling : A → List ℕ) (Fits : A → Type 0) (bytes : List ℕ) (value : A) (taken : ℕ) : Type 0 where
+pub record Takes {A : Type 0} (encoding : A → List ℕ) (Fits : A → Type 0) (bytes : List ℕ) (value : A) (taken : ℕ) : Type 0 where
   pub fits : Fits value
-  pub len : taken ≡ length (spelling value)
-  pub whole : bytes ≡ spelling value ++ drop taken bytes
+  pub len : taken ≡ length (encoding value)
+  pub whole : bytes ≡ encoding value ++ drop taken bytes
 
--- the bytes are a proper front of the spelling of a value that fits
-pub record IsProperFront {A : Type 0} (spelling : A → List ℕ) (Fits : A → Type 0) (bytes : List ℕ) : Type 0 where
+-- the bytes are a proper prefix of the encoding of a value that fits
+pub record IsProperPrefix {A : Type 0} (encoding : A → List ℕ) (Fits : A → Type 0) (bytes : List ℕ) : Type 0 where
   pub value : A
   pub rest : List ℕ
   pub fits : Fits value
   pub some : 0 < length rest
-  pub whole : bytes ++ rest ≡ spelling value
+  pub whole : bytes ++ rest ≡ encoding value
 
 -- the bytes can't become a text with a value that fits at its front, however they go on
 abbrev pub IsImpossible : {A : Type 0} → (A → List ℕ) → (A → Type 0) → List ℕ → Type 0
-IsImpossible {A = A} spelling Fits bytes = (value : A) (more rest : List ℕ) → Fits value → bytes ++ more ≡ spelling value ++ rest → ⊥
+IsImpossible {A = A} encoding Fits bytes = (value : A) (more rest : List ℕ) → Fits value → bytes ++ more ≡ encoding value ++ rest → ⊥
 
 -- a fault was found
 abbrev pub IsFault : {A : Type 0} → Reading A → Type 0

@@ -1,4 +1,4 @@
--- The spellings of the greeting and of the client flags.
+-- The encodings of the greeting and of the client flags.
 use Rattle.std.specs.Prelude.{ℕ, true, false, List, ◌++◌, Result, Ok, Err, ◌==◌, if◌then◌else◌}
 use Rattle.byteorder.specs.Endian.{big_bytes}
 use Rattle.nbd_codec.specs.declared.constants.TheConstants.{INIT_MAGIC, OPTION_MAGIC, HANDSHAKE_FLAGS, FIXED_NEWSTYLE, FIXED_NEWSTYLE_NO_ZEROES}
@@ -11,12 +11,12 @@ use Rattle.nbd_codec.specs.Fields.{◌>>=◌, limited_at}
 use Rattle.nbd_codec.specs.Findings.{finding}
 
 -- the first bytes from the server
-abbrev pub greeting_spelling : List ℕ
-greeting_spelling = big_bytes 8 INIT_MAGIC ++ (big_bytes 8 OPTION_MAGIC ++ big_bytes 2 HANDSHAKE_FLAGS)
+abbrev pub greeting_encoding : List ℕ
+greeting_encoding = big_bytes 8 INIT_MAGIC ++ (big_bytes 8 OPTION_MAGIC ++ big_bytes 2 HANDSHAKE_FLAGS)
 
 -- the four bytes of client flags
-abbrev pub flags_spelling : Flags → List ℕ
-flags_spelling flags = big_bytes 4 (if flags.no_zeroes then FIXED_NEWSTYLE_NO_ZEROES else FIXED_NEWSTYLE)
+abbrev pub flags_encoding : Flags → List ℕ
+flags_encoding flags = big_bytes 4 (if flags.no_zeroes then FIXED_NEWSTYLE_NO_ZEROES else FIXED_NEWSTYLE)
 
 -- the client flags that a number is, and the bytes after it
 abbrev pub flags_of : ℕ → List ℕ → Result (Flags × List ℕ) Ending
@@ -34,6 +34,6 @@ flags_at bytes = do
 abbrev pub flags_in : List ℕ → Reading Flags
 flags_in bytes = finding bytes (flags_at bytes)
 
--- each client flags that there are have a spelling
+-- each client flags that there are have an encoding
 abbrev pub AreFlags : Flags → Type 0
 AreFlags flags = Unit {0}

@@ -1,4 +1,4 @@
--- What holds of all spellings of a kind.
+-- What holds of all encodings of a kind.
 use Rattle.std.specs.Prelude.{◌≡◌, ◌≢◌, ℕ, ◌<◌, ◌≤◌, ◌^◌, List, [], ◌++◌, length}
 use Rattle.nbd_codec.specs.declared.findings.Reading.{Reading}
 use Rattle.nbd_codec.specs.declared.findings.Fault.{Fault}
@@ -6,13 +6,13 @@ use Rattle.nbd_codec.specs.declared.findings.Reading.TheVariants as reading
 use Rattle.nbd_codec.specs.declared.findings.Reading.TheVariants.{Value, More}
 use Rattle.nbd_codec.specs.declared.option_replies.OptionReply.{OptionReply}
 use Rattle.nbd_codec.specs.declared.option_replies.OptionReply.TheVariants as replies
-use Rattle.nbd_codec.specs.Findings.{AreBytes, IsImpossible, IsProperFront, Takes}
-use Rattle.nbd_codec.specs.OptionReply.{option_reply_spelling}
+use Rattle.nbd_codec.specs.Findings.{AreBytes, IsImpossible, IsProperPrefix, Takes}
+use Rattle.nbd_codec.specs.OptionReply.{option_reply_encoding}
 use Rattle.nbd_codec.specs.Reply.{PlainReply, Done, Refused}
 
--- no spelling is another's or begins it: texts that are equal begin with one value, and go on alike
+-- no encoding is another's or begins it: texts that are equal begin with one value, and go on alike
 abbrev pub AreApart : {A : Type 0} → (A → List ℕ) → (A → Type 0) → Type 0
-AreApart {A = A} spelling Fits = (x y : A) (a b : List ℕ) → Fits x → Fits y → spelling x ++ a ≡ spelling y ++ b → (x ≡ y) × (a ≡ b)
+AreApart {A = A} encoding Fits = (x y : A) (a b : List ℕ) → Fits x → Fits y → encoding x ++ a ≡ encoding y ++ b → (x ≡ y) × (a ≡ b)
 
 -- what was found at the front of the bytes is found whatever follows them
 abbrev pub IsKept : {A : Type 0} → (List ℕ → Reading A) → Type 0
@@ -22,19 +22,19 @@ IsKept find = (bytes more : List ℕ) → AreBytes bytes → find bytes ≢ More
 abbrev pub NeedsSome : {A : Type 0} → (List ℕ → Reading A) → Type 0
 NeedsSome find = find [] ≡ More
 
--- no spelling has more bytes
+-- no encoding has more bytes
 abbrev pub IsAtMost : {A : Type 0} → ℕ → (A → List ℕ) → (A → Type 0) → Type 0
-IsAtMost {A = A} len spelling Fits = (x : A) → Fits x → length (spelling x) ≤ len
+IsAtMost {A = A} len encoding Fits = (x : A) → Fits x → length (encoding x) ≤ len
 
--- no spelling has fewer bytes
+-- no encoding has fewer bytes
 abbrev pub IsAtLeast : {A : Type 0} → ℕ → (A → List ℕ) → (A → Type 0) → Type 0
-IsAtLeast {A = A} len spelling Fits = (x : A) → Fits x → len ≤ length (spelling x)
+IsAtLeast {A = A} len encoding Fits = (x : A) → Fits x → len ≤ length (encoding x)
 
--- what is found is what is spelled at the front of the bytes: a value, a proper front of one, or what no value begins with
-pub record IsSpelled {A : Type 0} (spelling : A → List ℕ) (Fits : A → Type 0) (find : List ℕ → Reading A) : Type 0 where
-  pub value : (bytes : List ℕ) (x : A) (taken : ℕ) → AreBytes bytes → find bytes ≡ Value x taken → Takes spelling Fits bytes x taken
-  pub more : (bytes : List ℕ) → AreBytes bytes → find bytes ≡ More → IsProperFront spelling Fits bytes
-  pub fault : (bytes : List ℕ) (fault : Fault) → AreBytes bytes → find bytes ≡ reading.Fault fault → IsImpossible spelling Fits bytes
+-- what is found is what is encoded at the front of the bytes: a value, a proper prefix of one, or what no value begins with
+pub record IsEncoded {A : Type 0} (encoding : A → List ℕ) (Fits : A → Type 0) (find : List ℕ → Reading A) : Type 0 where
+  pub value : (bytes : List ℕ) (x : A) (taken : ℕ) → AreBytes bytes → find bytes ≡ Value x taken → Takes encoding Fits bytes x taken
+  pub more : (bytes : List ℕ) → AreBytes bytes → find bytes ≡ More → IsProperPrefix encoding Fits bytes
+  pub fault : (bytes : List ℕ) (fault : Fault) → AreBytes bytes → find bytes ≡ reading.Fault fault → IsImpossible encoding Fits bytes
 
 -- the numbers of a reply to an option fit their bytes
 abbrev pub OptionReplyFits : OptionReply → Type 0
@@ -48,8 +48,8 @@ OptionReplyFits replies.ErrUnknown = Unit {0}
 OptionReplyFits replies.ErrTooBig = Unit {0}
 
 -- a reply to the option of that number
-abbrev pub numbered_spelling : ℕ × OptionReply → List ℕ
-numbered_spelling reply = option_reply_spelling reply.0 reply.1
+abbrev pub numbered_encoding : ℕ × OptionReply → List ℕ
+numbered_encoding reply = option_reply_encoding reply.0 reply.1
 
 abbrev pub NumberedFits : ℕ × OptionReply → Type 0
 NumberedFits reply = (reply.0 < 2 ^ 32) × OptionReplyFits reply.1

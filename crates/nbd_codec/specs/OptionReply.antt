@@ -1,4 +1,4 @@
--- The spelling of replies to options.
+-- The encoding of replies to options.
 use Rattle.std.specs.Prelude.{ℕ, Bool, List, [], ◌++◌, replicate, if◌then◌else◌}
 use Rattle.byteorder.specs.Endian.{big_bytes}
 use Rattle.nbd_codec.specs.declared.constants.TheConstants.{OPTION_REPLY_MAGIC, REPLY_ACK, REPLY_SERVER, REPLY_INFO, REPLY_ERR_UNSUP, REPLY_ERR_INVALID, REPLY_ERR_UNKNOWN, REPLY_ERR_TOO_BIG, INFO_EXPORT, INFO_BLOCK_SIZE, MINIMUM_BLOCK, PREFERRED_BLOCK, TRANSMISSION_FLAGS, EXPORT_ZEROS, NO_DATA_LEN, SERVER_LEN, SERVER_NAME_LEN, INFO_EXPORT_LEN, INFO_BLOCK_SIZE_LEN}
@@ -28,9 +28,9 @@ reply_data ErrUnknown = big_bytes 4 NO_DATA_LEN
 reply_data ErrTooBig = big_bytes 4 NO_DATA_LEN
 
 -- the magic, the option's number, the reply type, and the data behind its length
-unfoldable pub option_reply_spelling : ℕ → OptionReply → List ℕ
-option_reply_spelling option reply = big_bytes 8 OPTION_REPLY_MAGIC ++ (big_bytes 4 option ++ (big_bytes 4 (type_of reply) ++ reply_data reply))
+unfoldable pub option_reply_encoding : ℕ → OptionReply → List ℕ
+option_reply_encoding option reply = big_bytes 8 OPTION_REPLY_MAGIC ++ (big_bytes 4 option ++ (big_bytes 4 (type_of reply) ++ reply_data reply))
 
 -- the answer to EXPORT_NAME
-unfoldable pub export_spelling : ℕ → Bool → List ℕ
-export_spelling size no_zeroes = big_bytes 8 size ++ (big_bytes 2 TRANSMISSION_FLAGS ++ (if no_zeroes then [] else replicate EXPORT_ZEROS 0))
+unfoldable pub export_encoding : ℕ → Bool → List ℕ
+export_encoding size no_zeroes = big_bytes 8 size ++ (big_bytes 2 TRANSMISSION_FLAGS ++ (if no_zeroes then [] else replicate EXPORT_ZEROS 0))

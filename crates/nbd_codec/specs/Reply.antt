@@ -1,4 +1,4 @@
--- The spelling of simple replies.
+-- The encoding of simple replies.
 use Rattle.std.specs.Prelude.{ℕ, List, [], ◌++◌, Result, Ok, Err}
 use Rattle.std.specs.Borrow.{Bor}
 use Rattle.byteorder.specs.Endian.{big_bytes}
@@ -29,10 +29,10 @@ abbrev pub reply_view : SimpleReply → PlainReply
 reply_view reply = outcome_view reply.cookie reply.outcome
 
 -- sixteen bytes, and what stands behind them
-abbrev pub reply_spelling : (number cookie : ℕ) → List ℕ → List ℕ
-reply_spelling number cookie payload = big_bytes 4 SIMPLE_REPLY_MAGIC ++ (big_bytes 4 number ++ (big_bytes 8 cookie ++ payload))
+abbrev pub reply_encoding : (number cookie : ℕ) → List ℕ → List ℕ
+reply_encoding number cookie payload = big_bytes 4 SIMPLE_REPLY_MAGIC ++ (big_bytes 4 number ++ (big_bytes 8 cookie ++ payload))
 
 -- a payload goes out behind error 0 alone
-abbrev pub spelling : PlainReply → List ℕ
-spelling (Done cookie payload) = reply_spelling NO_ERROR cookie payload
-spelling (Refused cookie error) = reply_spelling (error_number error) cookie []
+abbrev pub encoding : PlainReply → List ℕ
+encoding (Done cookie payload) = reply_encoding NO_ERROR cookie payload
+encoding (Refused cookie error) = reply_encoding (error_number error) cookie []

@@ -1,4 +1,4 @@
--- The spelling of requests, and how they are read from left to right.
+-- The encoding of requests, and how they are read from left to right.
 use Rattle.std.specs.Prelude.{◌≡◌, ℕ, ◌<◌, ◌≤◌, ◌^◌, ◌⊎◌, List, [], ◌++◌, length, Result, Ok, ◌==◌, if◌then◌else◌}
 use Rattle.byteorder.specs.Endian.{big_bytes, big_number}
 use Rattle.nbd_codec.specs.declared.constants.TheConstants.{REQUEST_MAGIC, REQUEST_READ, REQUEST_WRITE, REQUEST_DISC, REQUEST_FLUSH}
@@ -44,20 +44,20 @@ head_of (Flush flags cookie offset len) = record { flags = flags; kind = REQUEST
 head_of (Other kind flags cookie offset len) = record { flags = flags; kind = kind; cookie = cookie; offset = offset }
 
 -- the magic, and the numbers of a request before its length
-unfoldable pub head_spelling : Head → List ℕ
-head_spelling head = big_bytes 4 REQUEST_MAGIC ++ (big_bytes 2 head.flags ++ (big_bytes 2 head.kind ++ (big_bytes 8 head.cookie ++ big_bytes 8 head.offset)))
+unfoldable pub head_encoding : Head → List ℕ
+head_encoding head = big_bytes 4 REQUEST_MAGIC ++ (big_bytes 2 head.flags ++ (big_bytes 2 head.kind ++ (big_bytes 8 head.cookie ++ big_bytes 8 head.offset)))
 
 -- the length, and behind that of a WRITE the payload
-unfoldable pub body_spelling : PlainRequest → List ℕ
-body_spelling (Read flags cookie offset len) = big_bytes 4 len
-body_spelling (Write flags cookie offset payload) = big_bytes 4 (length payload) ++ payload
-body_spelling (Disc flags cookie offset len) = big_bytes 4 len
-body_spelling (Flush flags cookie offset len) = big_bytes 4 len
-body_spelling (Other kind flags cookie offset len) = big_bytes 4 len
+unfoldable pub body_encoding : PlainRequest → List ℕ
+body_encoding (Read flags cookie offset len) = big_bytes 4 len
+body_encoding (Write flags cookie offset payload) = big_bytes 4 (length payload) ++ payload
+body_encoding (Disc flags cookie offset len) = big_bytes 4 len
+body_encoding (Flush flags cookie offset len) = big_bytes 4 len
+body_encoding (Other kind flags cookie offset len) = big_bytes 4 len
 
--- the one spelling of a request
-unfoldable pub spelling : PlainRequest → List ℕ
-spelling request = head_spelling (head_of request) ++ body_spelling request
+-- the one encoding of a request
+unfoldable pub encoding : PlainRequest → List ℕ
+encoding request = head_encoding (head_of request) ++ body_encoding request
 
 -- a number of a type that has a variant of its own
 abbrev pub IsKnown : ℕ → Type 0
@@ -78,7 +78,7 @@ BodyFits max_payload (Disc flags cookie offset len) = len < 2 ^ 32
 BodyFits max_payload (Flush flags cookie offset len) = len < 2 ^ 32
 BodyFits max_payload (Other kind flags cookie offset len) = (len < 2 ^ 32) × ¬ IsKnown kind
 
--- what has a spelling that is taken
+-- what has an encoding that is taken
 pub record IsRequest (max_payload : ℕ) (request : PlainRequest) : Type 0 where
   pub head : HeadFits (head_of request)
   pub body : BodyFits max_payload request
@@ -128,5 +128,5 @@ pub record HasLongPayload (max_payload : ℕ) (bytes : List ℕ) : Type 0 where
   pub rest : List ℕ
   pub fits : HeadFits head
   pub is_write : head.kind ≡ REQUEST_WRITE
-  pub whole : bytes ≡ head_spelling head ++ rest
+  pub whole : bytes ≡ head_encoding head ++ rest
   pub long : max_payload < big_number 4 rest

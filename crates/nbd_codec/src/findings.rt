@@ -5,7 +5,7 @@
 pub enum Reading<T> {
     /// A value, and how many bytes it takes.
     Value(T, usize),
-    /// The bytes are a proper front of a value: more is needed.
+    /// The bytes are a proper prefix of a value: more is needed.
     More,
     /// The bytes can't become a value: the session ends.
     Fault(Fault),

@@ -2,8 +2,8 @@
 
 ghost use Rattle.std.specs.Prelude.{◌≡◌, ◌≤◌, ◌++◌, ◌↔◌, List, ℕ, length};
 ghost use Rattle.nbd_codec.specs.declared.handshake.ClientFlags.{ClientFlags as Flags};
-ghost use Rattle.nbd_codec.specs.Findings.{IfValue, IsImpossible, IsProperFront, Takes};
-ghost use Rattle.nbd_codec.specs.Handshake.{AreFlags, greeting_spelling, flags_spelling, flags_in};
+ghost use Rattle.nbd_codec.specs.Findings.{IfValue, IsImpossible, IsProperPrefix, Takes};
+ghost use Rattle.nbd_codec.specs.Handshake.{AreFlags, greeting_encoding, flags_encoding, flags_in};
 
 use crate::constants::*;
 use crate::fields::least_u32;
@@ -19,7 +19,7 @@ pub struct ClientFlags {
 
 /// The first bytes from the server.
 pub fn greeting() -> [u8; GREETING_LEN]
-    ensures { result ≡ greeting_spelling }
+    ensures { result ≡ greeting_encoding }
 {
     let mut bytes = [0; GREETING_LEN];
     BigEndian::write_u64(&mut bytes, INIT_MAGIC);
@@ -52,19 +52,19 @@ fn find_flags(input: &[u8]) -> Reading<ClientFlags>
 /// Reads the client flags, four bytes. The session ends at the first byte that can't be of flags
 /// that are taken.
 pub fn read_client_flags(input: &[u8]) -> Reading<ClientFlags>
-    // Flags stand at the front, spelled so.
-    ensures found { IfValue result (λ flags len. Takes flags_spelling AreFlags input.now flags len) }
+    // Flags stand at the front, encoded so.
+    ensures found { IfValue result (λ flags len. Takes flags_encoding AreFlags input.now flags len) }
     // They have four bytes, and no more than came.
     ensures within { IfValue result (λ flags len.
         (len ≡ CLIENT_FLAGS_LEN) × (len ≤ length input.now)) }
     // Flags that stand at the front are read.
-    ensures only { (flags : Flags) (rest : List ℕ) → input.now ≡ flags_spelling flags ++ rest →
+    ensures only { (flags : Flags) (rest : List ℕ) → input.now ≡ flags_encoding flags ++ rest →
         result ≡ Reading.Value flags CLIENT_FLAGS_LEN }
     // More is needed exactly where flags have begun and are not whole.
-    ensures more { (result ≡ Reading.More) ↔ IsProperFront flags_spelling AreFlags input.now }
+    ensures more { (result ≡ Reading.More) ↔ IsProperPrefix flags_encoding AreFlags input.now }
     // A fault is found exactly where no flags can come, however the bytes go on.
     ensures fault { (result ≡ Reading.Fault Fault.ClientFlags)
-        ↔ IsImpossible flags_spelling AreFlags input.now }
+        ↔ IsImpossible flags_encoding AreFlags input.now }
     // All of this at once: what reading from left to right gives.
     ensures exact { result ≡ flags_in input.now }
 {

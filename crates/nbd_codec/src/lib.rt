@@ -1,10 +1,10 @@
 //! The bytes of the NBD protocol, server side: fixed newstyle negotiation and transmission with
 //! simple replies, after doc/proto.md of the NBD project.
 //!
-//! For the layer above: each writer puts the one spelling of its value at the end of a buffer, or
+//! For the layer above: each writer puts the one encoding of its value at the end of a buffer, or
 //! leaves the buffer as it was, and each reader answers the value and its length exactly where a
-//! spelling stands at the front of the bytes that came, that more is needed exactly where they are a
-//! proper front of a spelling, and otherwise the fault that ends the session. A reader takes no
+//! encoding stands at the front of the bytes that came, that more is needed exactly where they are a
+//! proper prefix of an encoding, and otherwise the fault that ends the session. A reader takes no
 //! memory: a payload is a part of the bytes that came.
 //!
 //! It leaves to others what a session does with what was read: phases, what was kept of earlier

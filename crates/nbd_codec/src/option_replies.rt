@@ -2,7 +2,7 @@
 
 ghost use Rattle.std.specs.Prelude.{◌≡◌, ◌+◌, ◌<◌, ◌≤◌, ◌++◌, length, OnErr, OnOk};
 ghost use Rattle.byteorder.specs.Endian.{big_bytes};
-ghost use Rattle.nbd_codec.specs.OptionReply.{type_of, reply_data, option_reply_spelling, export_spelling};
+ghost use Rattle.nbd_codec.specs.OptionReply.{type_of, reply_data, option_reply_encoding, export_encoding};
 
 use crate::constants::*;
 use crate::numbers::{put_u16, put_u32, put_u64};
@@ -117,20 +117,20 @@ fn put_data(out: &mut BytesMut, reply: OptionReply)
     }
 }
 
-/// Puts the one spelling of a reply to the option of that number at the end, with one growth at most.
-/// It fails only for want of memory.
-#[tactic(auto, unfolding(crate::specs::OptionReply::option_reply_spelling))]
+/// Puts the one encoding of a reply to the option of that number at the end, with one growth at most.
+/// It fails only where memory runs out.
+#[tactic(auto, unfolding(crate::specs::OptionReply::option_reply_encoding))]
 pub fn write_option_reply(
     out: &mut BytesMut,
     option: u32,
     reply: OptionReply,
 ) -> Result<(), AllocError>
     ensures ok { OnOk result (out.new.items
-        ≡ out.old.items ++ option_reply_spelling option reply) }
+        ≡ out.old.items ++ option_reply_encoding option reply) }
     // A refused growth leaves what was there.
     ensures err { OnErr result (out.new.items ≡ out.old.items) }
     // It is asked for only where the room is too small.
-    ensures short { OnErr result (out.old.spare < length (option_reply_spelling option reply)) }
+    ensures short { OnErr result (out.old.spare < length (option_reply_encoding option reply)) }
 {
     out.reserve(OPTION_REPLY_HEAD + reply.data_len())?;
     put_head(out, option, reply);
@@ -141,13 +141,13 @@ pub fn write_option_reply(
 /// Puts the answer to EXPORT_NAME at the end, with one growth at most: the size in bytes, the
 /// transmission flags, and 124 zeros unless both sides set NO_ZEROES. It fails only for want of
 /// memory.
-#[tactic(auto, unfolding(crate::specs::OptionReply::export_spelling))]
+#[tactic(auto, unfolding(crate::specs::OptionReply::export_encoding))]
 pub fn write_export(out: &mut BytesMut, size: u64, no_zeroes: bool) -> Result<(), AllocError>
-    ensures ok { OnOk result (out.new.items ≡ out.old.items ++ export_spelling size no_zeroes) }
+    ensures ok { OnOk result (out.new.items ≡ out.old.items ++ export_encoding size no_zeroes) }
     // A refused growth leaves what was there.
     ensures err { OnErr result (out.new.items ≡ out.old.items) }
     // It is asked for only where the room is too small.
-    ensures short { OnErr result (out.old.spare < length (export_spelling size no_zeroes)) }
+    ensures short { OnErr result (out.old.spare < length (export_encoding size no_zeroes)) }
 {
     let zeros: &[u8] = if no_zeroes { &[] } else { &[0; EXPORT_ZEROS] };
     out.reserve(EXPORT_LEN + zeros.len())?;

@@ -4,8 +4,8 @@ ghost use Rattle.std.specs.Prelude.{false, ◌≡◌, ◌≤◌, ◌==◌, ◌++
 ghost use Rattle.std.specs.List.{list_any};
 ghost use Rattle.byteorder.specs.Endian.{big_bytes};
 ghost use Rattle.nbd_codec.specs.Fields.{Gives, agrees, read_as};
-ghost use Rattle.nbd_codec.specs.Findings.{IfValue, IsFault, IsImpossible, IsProperFront, Takes, seen_by};
-ghost use Rattle.nbd_codec.specs.ClientOption.{HasName, PlainOption, IsOption, spelling, told_of, information_of, numbers_in, asks_at, info_of, option_of, length_at, option_at, option_in};
+ghost use Rattle.nbd_codec.specs.Findings.{IfValue, IsFault, IsImpossible, IsProperPrefix, Takes, seen_by};
+ghost use Rattle.nbd_codec.specs.ClientOption.{HasName, PlainOption, IsOption, encoding, told_of, information_of, numbers_in, asks_at, info_of, option_of, length_at, option_at, option_in};
 
 use crate::constants::*;
 use crate::fields::{Ending, limited_u32, magic, taken, u16_at, u32_at};
@@ -140,20 +140,20 @@ fn find_option(input: &[u8]) -> Reading<ClientOption>
 /// one export has the empty name, so EXPORT_NAME has no data: the first byte of its length that isn't
 /// 0 ends the session. The session ends at the first byte that can't be of an option that is taken.
 pub fn read_option(input: &[u8]) -> Reading<ClientOption>
-    // An option stands at the front, spelled so, and this is told of it.
+    // An option stands at the front, encoded so, and this is told of it.
     ensures found { IfValue result (λ told len. (option : PlainOption)
-        × (told ≡ told_of option) × Takes spelling IsOption input.now option len) }
+        × (told ≡ told_of option) × Takes encoding IsOption input.now option len) }
     // It has a whole header, and no more bytes than came.
     ensures within { IfValue result (λ told len.
         (OPTION_HEADER ≤ len) × (len ≤ length input.now)) }
     // An option that stands at the front is read.
     ensures only { (option : PlainOption) (rest : List ℕ) →
-        IsOption option → input.now ≡ spelling option ++ rest →
-        result ≡ Reading.Value (told_of option) (length (spelling option)) }
+        IsOption option → input.now ≡ encoding option ++ rest →
+        result ≡ Reading.Value (told_of option) (length (encoding option)) }
     // More is needed exactly where an option has begun and is not whole.
-    ensures more { (result ≡ Reading.More) ↔ IsProperFront spelling IsOption input.now }
+    ensures more { (result ≡ Reading.More) ↔ IsProperPrefix encoding IsOption input.now }
     // A fault is found exactly where no option can come, however the bytes go on.
-    ensures fault { IsFault result ↔ IsImpossible spelling IsOption input.now }
+    ensures fault { IsFault result ↔ IsImpossible encoding IsOption input.now }
     // The magic is wrong exactly where the bytes differ from it as far as they go.
     ensures magic { (result ≡ Reading.Fault Fault.OptionMagic)
         ↔ (agrees (big_bytes 8 OPTION_MAGIC) input.now ≡ false) }

@@ -1,7 +1,7 @@
 //! Simple replies: doc/proto.md, "Simple reply message".
 
 ghost use Rattle.std.specs.Prelude.{◌≡◌, ◌+◌, ◌<◌, ◌++◌, length, OnErr, OnOk};
-ghost use Rattle.nbd_codec.specs.Reply.{error_number, reply_spelling, reply_view, spelling};
+ghost use Rattle.nbd_codec.specs.Reply.{error_number, reply_encoding, reply_view, encoding};
 
 use crate::constants::*;
 use crate::numbers::{put_u32, put_u64};
@@ -48,7 +48,7 @@ pub struct SimpleReply<'a> {
 /// Puts a reply with this error's number at the end, and the payload behind it.
 fn put_reply(out: &mut BytesMut, cookie: u64, number: u32, payload: &[u8]) -> Result<(), AllocError>
     ensures ok { OnOk result (out.new.items ≡ out.old.items
-        ++ reply_spelling number cookie payload.now) }
+        ++ reply_encoding number cookie payload.now) }
     ensures err { OnErr result (out.new.items ≡ out.old.items) }
     ensures short { OnErr result (out.old.spare < REPLY_HEADER + length payload.now) }
 {
@@ -60,14 +60,14 @@ fn put_reply(out: &mut BytesMut, cookie: u64, number: u32, payload: &[u8]) -> Re
     Ok(())
 }
 
-/// Puts the one spelling of the reply at the end, with one growth at most. It fails only for want of
+/// Puts the one encoding of the reply at the end, with one growth at most. It fails only for want of
 /// memory.
 pub fn write_reply(out: &mut BytesMut, reply: &SimpleReply) -> Result<(), AllocError>
-    ensures ok { OnOk result (out.new.items ≡ out.old.items ++ spelling (reply_view reply.now)) }
+    ensures ok { OnOk result (out.new.items ≡ out.old.items ++ encoding (reply_view reply.now)) }
     // A refused growth leaves what was there.
     ensures err { OnErr result (out.new.items ≡ out.old.items) }
     // It is asked for only where the room is too small.
-    ensures short { OnErr result (out.old.spare < length (spelling (reply_view reply.now))) }
+    ensures short { OnErr result (out.old.spare < length (encoding (reply_view reply.now))) }
 {
     match reply.outcome {
         Ok(payload) => put_reply(out, reply.cookie, NO_ERROR, payload),

@@ -3,14 +3,14 @@
 ghost use Rattle.std.specs.Prelude.{false, ◌≡◌, ◌≤◌, ◌++◌, ◌↔◌, List, ℕ, length, slice_range};
 ghost use Rattle.byteorder.specs.Endian.{big_bytes};
 ghost use Rattle.nbd_codec.specs.Fields.{Gives, agrees};
-ghost use Rattle.nbd_codec.specs.Findings.{IfValue, IsFault, IsImpossible, IsProperFront, Takes, seen_by};
-ghost use Rattle.nbd_codec.specs.Request.{HasLongPayload, PlainRequest, IsRequest, spelling, request_view, payload_of, head_of, head_at, body_at, request_at, request_in, plain};
+ghost use Rattle.nbd_codec.specs.Findings.{IfValue, IsFault, IsImpossible, IsProperPrefix, Takes, seen_by};
+ghost use Rattle.nbd_codec.specs.Request.{HasLongPayload, PlainRequest, IsRequest, encoding, request_view, payload_of, head_of, head_at, body_at, request_at, request_in, plain};
 
 use crate::constants::*;
 use crate::fields::{Ending, limited_u32, magic, taken, u16_at, u32_at, u64_at};
 use crate::findings::{Fault, Reading};
 
-/// A request, with what its spelling holds. Offsets and lengths are in bytes.
+/// A request, with what its encoding holds. Offsets and lengths are in bytes.
 #[derive(Clone, Copy, Debug, PartialEq, Eq)]
 pub enum Request<'a> {
     /// READ.
@@ -177,9 +177,9 @@ fn find_request(input: &[u8], max_payload: u32) -> Reading<Request<'_>>
 /// Reads the request at the front. A WRITE is whole with its payload, of at most `max_payload` bytes.
 /// The session ends at the first byte that can't be of a request that is taken.
 pub fn read_request(input: &[u8], max_payload: u32) -> Reading<Request<'_>>
-    // A request stands at the front, spelled so.
+    // A request stands at the front, encoded so.
     ensures found { IfValue result (λ request len.
-        Takes spelling (IsRequest max_payload) input.now (request_view request) len) }
+        Takes encoding (IsRequest max_payload) input.now (request_view request) len) }
     // It has a whole header, and no more bytes than came.
     ensures within { IfValue result (λ request len.
         (REQUEST_HEADER ≤ len) × (len ≤ length input.now)) }
@@ -188,13 +188,13 @@ pub fn read_request(input: &[u8], max_payload: u32) -> Reading<Request<'_>>
         slice_range input.now REQUEST_HEADER len ≡ payload_of (request_view request)) }
     // A request that stands at the front is read.
     ensures only { (request : PlainRequest) (rest : List ℕ) →
-        IsRequest max_payload request → input.now ≡ spelling request ++ rest →
-        seen_by request_view result ≡ Reading.Value request (length (spelling request)) }
+        IsRequest max_payload request → input.now ≡ encoding request ++ rest →
+        seen_by request_view result ≡ Reading.Value request (length (encoding request)) }
     // More is needed exactly where a request has begun and is not whole.
     ensures more { (result ≡ Reading.More)
-        ↔ IsProperFront spelling (IsRequest max_payload) input.now }
+        ↔ IsProperPrefix encoding (IsRequest max_payload) input.now }
     // A fault is found exactly where no request can come, however the bytes go on.
-    ensures fault { IsFault result ↔ IsImpossible spelling (IsRequest max_payload) input.now }
+    ensures fault { IsFault result ↔ IsImpossible encoding (IsRequest max_payload) input.now }
     // The magic is wrong exactly where the bytes differ from it as far as they go.
     ensures magic { (result ≡ Reading.Fault Fault.RequestMagic)
         ↔ (agrees (big_bytes 4 REQUEST_MAGIC) input.now ≡ false) }

@@ -11,12 +11,12 @@ use Rattle.nbd_codec.specs.declared.findings.Reading.{Reading}
 use Rattle.nbd_codec.specs.declared.findings.Reading.TheVariants.{Value, More, Fault}
 use Rattle.nbd_codec.specs.declared.handshake.ClientFlags.{ClientFlags as Flags}
 use Rattle.nbd_codec.specs.Checked.{checked}
-use Rattle.nbd_codec.specs.ClientOption.{IsOption, PlainOption, option_in, spelling as option_spelling}
+use Rattle.nbd_codec.specs.ClientOption.{IsOption, PlainOption, option_in, encoding as option_encoding}
 use Rattle.nbd_codec.specs.Findings.{AreBytes, Takes}
-use Rattle.nbd_codec.specs.Handshake.{AreFlags, flags_in, flags_spelling}
-use Rattle.nbd_codec.specs.Laws.{IsKept, IsSpelled}
-use Rattle.nbd_codec.specs.OptionReply.{option_reply_spelling}
-use Rattle.nbd_codec.specs.Request.{IsRequest, PlainRequest, request_in, spelling as request_spelling}
+use Rattle.nbd_codec.specs.Handshake.{AreFlags, flags_in, flags_encoding}
+use Rattle.nbd_codec.specs.Laws.{IsKept, IsEncoded}
+use Rattle.nbd_codec.specs.OptionReply.{option_reply_encoding}
+use Rattle.nbd_codec.specs.Request.{IsRequest, PlainRequest, request_in, encoding as request_encoding}
 use Rattle.nbd_session.specs.declared.answer.Export.{Export}
 use Rattle.nbd_session.specs.declared.phase.Phase.{Phase}
 use Rattle.nbd_session.specs.declared.phase.Phase.TheVariants.{Greeted, Negotiating, Skipping, Transmitting, Leaving, Over}
@@ -36,33 +36,33 @@ record Stays (export : Export) (phase : Phase) (input : List ℕ) (progress : Pr
   same : (text : List ℕ) → progress_in export phase (input ++ text) ≡ Some progress
   within : progress.used ≤ length input
 
-used_within : {A : Type 0} (spelling : A → List ℕ) (Fits : A → Type 0) (bytes : List ℕ) (x : A) (n : ℕ) → Takes spelling Fits bytes x n → n ≤ length bytes
-used_within spelling Fits bytes x n w = omega (arith, w.len, ap length w.whole, length-append (spelling x) (drop n bytes))
+used_within : {A : Type 0} (encoding : A → List ℕ) (Fits : A → Type 0) (bytes : List ℕ) (x : A) (n : ℕ) → Takes encoding Fits bytes x n → n ≤ length bytes
+used_within encoding Fits bytes x n w = omega (arith, w.len, ap length w.whole, length-append (encoding x) (drop n bytes))
 
 pub some_is : {A : Type 0} {x y : A} → Some x ≡ Some y → x ≡ y
 some_is is = cc
 
-flags_stay : (export : Export) (input : List ℕ) (progress : Progress) → IsKept flags_in → IsSpelled flags_spelling AreFlags flags_in → AreBytes input → flags_progress (length input) (flags_in input) ≡ Some progress → is_over progress.phase ≡ false → Stays export Greeted input progress
+flags_stay : (export : Export) (input : List ℕ) (progress : Progress) → IsKept flags_in → IsEncoded flags_encoding AreFlags flags_in → AreBytes input → flags_progress (length input) (flags_in input) ≡ Some progress → is_over progress.phase ≡ false → Stays export Greeted input progress
 unfolding progress_in
-flags_stay export input progress kept spelled bytes is open_still = go (flags_in input) refl is
+flags_stay export input progress kept encoded bytes is open_still = go (flags_in input) refl is
   where
     go : (reading : Reading Flags) → flags_in input ≡ reading → flags_progress (length input) reading ≡ Some progress → Stays export Greeted input progress
     go (Value flags len) found is = record {
       same = λ text. ap (flags_progress (length (input ++ text))) (kept input text bytes (λ none. let wrong = sym found ∙ none in absurd cc) ∙ found) ∙ is;
-      within = subst (λ n. n ≤ length input) (ap (λ t. t.used) (some_is is)) (used_within flags_spelling AreFlags input flags len (spelled.value input flags len bytes found));
+      within = subst (λ n. n ≤ length input) (ap (λ t. t.used) (some_is is)) (used_within flags_encoding AreFlags input flags len (encoded.value input flags len bytes found));
     }
     go More found is = absurd cc
     go (Fault fault) found is = let over : true ≡ is_over progress.phase = ap (λ t. is_over t.phase) (some_is is) in absurd cc
 
-option_stays : (export : Export) (no_zeroes : Bool) (input : List ℕ) (progress : Progress) → IsKept option_in → IsSpelled option_spelling IsOption option_in → AreBytes input → option_progress export no_zeroes (length input) (option_in input) ≡ Some progress → is_over progress.phase ≡ false
+option_stays : (export : Export) (no_zeroes : Bool) (input : List ℕ) (progress : Progress) → IsKept option_in → IsEncoded option_encoding IsOption option_in → AreBytes input → option_progress export no_zeroes (length input) (option_in input) ≡ Some progress → is_over progress.phase ≡ false
     → Stays export (Negotiating no_zeroes) input progress
 unfolding progress_in
-option_stays export no_zeroes input progress kept spelled bytes is open_still = go (option_in input) refl is
+option_stays export no_zeroes input progress kept encoded bytes is open_still = go (option_in input) refl is
   where
     go : (reading : Reading PlainOption) → option_in input ≡ reading → option_progress export no_zeroes (length input) reading ≡ Some progress → Stays export (Negotiating no_zeroes) input progress
     go (Value option len) found is = record {
       same = λ text. ap (option_progress export no_zeroes (length (input ++ text))) (kept input text bytes (λ none. let wrong = sym found ∙ none in absurd cc) ∙ found) ∙ is;
-      within = subst (λ n. n ≤ length input) (ap (λ t. t.used) (some_is is)) (used_within option_spelling IsOption input option len (spelled.value input option len bytes found));
+      within = subst (λ n. n ≤ length input) (ap (λ t. t.used) (some_is is)) (used_within option_encoding IsOption input option len (encoded.value input option len bytes found));
     }
     go More found is = absurd cc
     go (Fault fault) found is = let over : true ≡ is_over progress.phase = ap (λ t. is_over t.phase) (some_is is) in absurd cc
@@ -73,22 +73,22 @@ checked_used request len checks.Done = refl
 checked_used request len (checks.Refused error) = refl
 checked_used request len checks.Disconnect = refl
 
-request_stays : (export : Export) (input : List ℕ) (progress : Progress) → IsKept (request_in export.max_payload) → IsSpelled request_spelling (IsRequest export.max_payload) (request_in export.max_payload) → AreBytes input → request_progress export (length input) (request_in export.max_payload input) ≡ Some progress → is_over progress.phase ≡ false
+request_stays : (export : Export) (input : List ℕ) (progress : Progress) → IsKept (request_in export.max_payload) → IsEncoded request_encoding (IsRequest export.max_payload) (request_in export.max_payload) → AreBytes input → request_progress export (length input) (request_in export.max_payload input) ≡ Some progress → is_over progress.phase ≡ false
     → Stays export Transmitting input progress
 unfolding progress_in
-request_stays export input progress kept spelled bytes is open_still = go (request_in export.max_payload input) refl is
+request_stays export input progress kept encoded bytes is open_still = go (request_in export.max_payload input) refl is
   where
     go : (reading : Reading PlainRequest) → request_in export.max_payload input ≡ reading → request_progress export (length input) reading ≡ Some progress → Stays export Transmitting input progress
     go (Value request len) found is = record {
       same = λ text. ap (request_progress export (length (input ++ text))) (kept input text bytes (λ none. let wrong = sym found ∙ none in absurd cc) ∙ found) ∙ is;
-      within = subst (λ n. n ≤ length input) (sym (checked_used request len (checked export.size export.max_payload request)) ∙ ap (λ t. t.used) (some_is is)) (used_within request_spelling (IsRequest export.max_payload) input request len (spelled.value input request len bytes found));
+      within = subst (λ n. n ≤ length input) (sym (checked_used request len (checked export.size export.max_payload request)) ∙ ap (λ t. t.used) (some_is is)) (used_within request_encoding (IsRequest export.max_payload) input request len (encoded.value input request len bytes found));
     }
     go More found is = absurd cc
     go (Fault fault) found is = let over : true ≡ is_over progress.phase = ap (λ t. is_over t.phase) (some_is is) in absurd cc
 
 -- the end of the data that is passed over came, or less than that
 abbrev pub passed : Bool → ℕ → ℕ → Progress
-passed no_zeroes option left = record { phase = Negotiating no_zeroes; used = left; output = option_reply_spelling option ErrTooBig; asked = None }
+passed no_zeroes option left = record { phase = Negotiating no_zeroes; used = left; output = option_reply_encoding option ErrTooBig; asked = None }
 
 abbrev pub passing : Bool → ℕ → ℕ → ℕ → Progress
 passing no_zeroes option left came = record { phase = Skipping no_zeroes option (left - came); used = came; output = []; asked = None }
@@ -187,7 +187,7 @@ module _ (limit : Option ℕ) where
         ∙ ap (λ (a : List Asked). record { session = record c.session { phase = progress.phase; kept = [] }; asked = a }) (append-nil c.asked)
 
     step_passed : 0 < length c.session.kept → left ≤ length c.session.kept
-        → step limit c ≡ placed c (Negotiating no_zeroes) (drop left c.session.kept) (c.session.output ++ option_reply_spelling option ErrTooBig)
+        → step limit c ≡ placed c (Negotiating no_zeroes) (drop left c.session.kept) (c.session.output ++ option_reply_encoding option ErrTooBig)
     step_passed some enough =
         let progress = passed no_zeroes option left in
         is_moved c progress free (at_progress (Some progress) (skip_passed no_zeroes option left _ some enough)) refl
@@ -215,7 +215,7 @@ module _ (limit : Option ℕ) where
           | inr enough ↦
               let split : left ≡ came + (left - came) = omega arith in
               step_passed (more text c) no_zeroes option left phase free (omega arith) (omega arith)
-              ∙ ap (λ (k : List ℕ). placed c (Negotiating no_zeroes) k (c.session.output ++ option_reply_spelling option ErrTooBig)) (ap (λ n. drop n (c.session.kept ++ text)) split ∙ drop-append-add c.session.kept text (left - came))
+              ∙ ap (λ (k : List ℕ). placed c (Negotiating no_zeroes) k (c.session.output ++ option_reply_encoding option ErrTooBig)) (ap (λ n. drop n (c.session.kept ++ text)) split ∙ drop-append-add c.session.kept text (left - came))
               ∙ sym (step_passed (more text rest) no_zeroes option (left - came) refl free (omega arith) (omega arith))
         ]
       ] in
@@ -276,10 +276,10 @@ module _ (limit : Option ℕ) where
 
   -- ---- pieces
 
-  module _ (flags_kept : IsKept flags_in) (flags_spelled : IsSpelled flags_spelling AreFlags flags_in)
-      (options_kept : IsKept option_in) (options_spelled : IsSpelled option_spelling IsOption option_in)
+  module _ (flags_kept : IsKept flags_in) (flags_encoded : IsEncoded flags_encoding AreFlags flags_in)
+      (options_kept : IsKept option_in) (options_encoded : IsEncoded option_encoding IsOption option_in)
       (requests_kept : (max_payload : ℕ) → max_payload < 2 ^ 32 → IsKept (request_in max_payload))
-      (requests_spelled : (max_payload : ℕ) → max_payload < 2 ^ 32 → IsSpelled request_spelling (IsRequest max_payload) (request_in max_payload)) where
+      (requests_encoded : (max_payload : ℕ) → max_payload < 2 ^ 32 → IsEncoded request_encoding (IsRequest max_payload) (request_in max_payload)) where
     module _ (c d : Course) (text : List ℕ) (bytes : AreBytes c.session.kept) (small : c.session.export.max_payload < 2 ^ 32) (free : is_free limit c.session.in_flight ≡ true) (progress : Progress)
         (is : progress_in c.session.export c.session.phase c.session.kept ≡ Some progress) (open_still : is_over progress.phase ≡ false) (settles : Settles limit (more text (step limit c)) d) where
       with_stays : Stays c.session.export c.session.phase c.session.kept progress → Settles limit (more text c) d
@@ -293,8 +293,8 @@ module _ (limit : Option ℕ) where
 
       by_phase : (phase : Phase) → c.session.phase ≡ phase → Settles limit (more text c) d
       unfolding progress_in
-      by_phase Greeted at = from Greeted at (flags_stay c.session.export c.session.kept progress flags_kept flags_spelled bytes (there Greeted at) open_still)
-      by_phase (Negotiating no_zeroes) at = from (Negotiating no_zeroes) at (option_stays c.session.export no_zeroes c.session.kept progress options_kept options_spelled bytes (there (Negotiating no_zeroes) at) open_still)
+      by_phase Greeted at = from Greeted at (flags_stay c.session.export c.session.kept progress flags_kept flags_encoded bytes (there Greeted at) open_still)
+      by_phase (Negotiating no_zeroes) at = from (Negotiating no_zeroes) at (option_stays c.session.export no_zeroes c.session.kept progress options_kept options_encoded bytes (there (Negotiating no_zeroes) at) open_still)
       by_phase (Skipping no_zeroes option left) at =
           let came = length c.session.kept in
           elim (cases_eq came 0) [
@@ -310,7 +310,7 @@ module _ (limit : Option ℕ) where
             ]
           ]
       by_phase Transmitting at =
-          from Transmitting at (request_stays c.session.export c.session.kept progress (requests_kept _ small) (requests_spelled _ small) bytes (there Transmitting at) open_still)
+          from Transmitting at (request_stays c.session.export c.session.kept progress (requests_kept _ small) (requests_encoded _ small) bytes (there Transmitting at) open_still)
       by_phase Leaving at = let wrong = there Leaving at in absurd cc
       by_phase Over at = let wrong = there Over at in absurd cc
 
@@ -361,13 +361,13 @@ feeds_one_way old piece one other asked asked_too feeds feeds_too =
     let same : record { session = one; asked = asked } ≡ record { session = other; asked = asked_too } = one_way limit_in_flight (fed old piece) _ _ feeds feeds_too in
     (ap (λ x. x.session) same, ap (λ x. x.asked) same)
 
-module _ (flags_kept : IsKept flags_in) (flags_spelled : IsSpelled flags_spelling AreFlags flags_in)
-    (options_kept : IsKept option_in) (options_spelled : IsSpelled option_spelling IsOption option_in)
+module _ (flags_kept : IsKept flags_in) (flags_encoded : IsEncoded flags_encoding AreFlags flags_in)
+    (options_kept : IsKept option_in) (options_encoded : IsEncoded option_encoding IsOption option_in)
     (requests_kept : (max_payload : ℕ) → max_payload < 2 ^ 32 → IsKept (request_in max_payload))
-    (requests_spelled : (max_payload : ℕ) → max_payload < 2 ^ 32 → IsSpelled request_spelling (IsRequest max_payload) (request_in max_payload)) where
+    (requests_encoded : (max_payload : ℕ) → max_payload < 2 ^ 32 → IsEncoded request_encoding (IsRequest max_payload) (request_in max_payload)) where
   pub cuttings : CuttingsAgree
   cuttings old mid two one first second asked_first asked_second asked bytes small feeds open_still then joint =
       let goal : Course = record { session = two; asked = asked_first ++ asked_second } in
-      let whole = pieces_join limit_in_flight flags_kept flags_spelled options_kept options_spelled requests_kept requests_spelled old mid first second asked_first two asked_second bytes small feeds open_still then in
+      let whole = pieces_join limit_in_flight flags_kept flags_encoded options_kept options_encoded requests_kept requests_encoded old mid first second asked_first two asked_second bytes small feeds open_still then in
       let same : record { session = one; asked = asked } ≡ goal = one_way limit_in_flight (fed old (first ++ second)) _ goal joint whole in
       (ap (λ x. x.session) same, ap (λ x. x.asked) same)

@@ -6,17 +6,17 @@ use Rattle.nbd_codec.specs.declared.constants.TheConstants.{CLIENT_FLAGS_LEN, MA
 use Rattle.nbd_codec.specs.declared.findings.Reading.{Reading}
 use Rattle.nbd_codec.specs.declared.findings.Reading.TheVariants.{Value, More, Fault}
 use Rattle.nbd_codec.specs.declared.handshake.ClientFlags.{ClientFlags as Flags}
-use Rattle.nbd_codec.specs.ClientOption.{PlainOption, IsOption, option_in, spelling as option_spelling}
-use Rattle.nbd_codec.specs.Findings.{AreBytes, IsProperFront}
-use Rattle.nbd_codec.specs.Handshake.{AreFlags, flags_in, flags_spelling}
-use Rattle.nbd_codec.specs.Laws.{IsAtMost, IsSpelled}
-use Rattle.nbd_codec.specs.Reply.{PlainReply, spelling as reply_spelling}
-use Rattle.nbd_codec.specs.Request.{IsRequest, PlainRequest, request_in, spelling as request_spelling}
+use Rattle.nbd_codec.specs.ClientOption.{PlainOption, IsOption, option_in, encoding as option_encoding}
+use Rattle.nbd_codec.specs.Findings.{AreBytes, IsProperPrefix}
+use Rattle.nbd_codec.specs.Handshake.{AreFlags, flags_in, flags_encoding}
+use Rattle.nbd_codec.specs.Laws.{IsAtMost, IsEncoded}
+use Rattle.nbd_codec.specs.Reply.{PlainReply, encoding as reply_encoding}
+use Rattle.nbd_codec.specs.Request.{IsRequest, PlainRequest, request_in, encoding as request_encoding}
 use Rattle.nbd_session.specs.declared.answer.Export.{Export}
 use Rattle.nbd_session.specs.declared.phase.Phase.{Phase}
 use Rattle.nbd_session.specs.declared.phase.Phase.TheVariants.{Greeted, Negotiating, Skipping, Transmitting, Leaving, Over}
 use Rattle.nbd_session.specs.Laws.{FeedsTakeAll, HistoriesAreLawful, NeedyGoOn}
-use Rattle.nbd_session.specs.Lawful.{Ended, GoesOnIn, History, IsLawful, IsQuiet, NeedsMore, Stands, StandsIn, Transmission, handed_out, most_kept, replied, sent_by}
+use Rattle.nbd_session.specs.Lawful.{Ended, GoesOnIn, History, IsLawful, IsQuiet, NeedsMore, HasHistory, HasHistoryIn, Transmission, handed_out, most_kept, replied, sent_by}
 use Rattle.nbd_session.specs.Negotiation.{Haggled, IsOver, Negotiation}
 use Rattle.nbd_session.specs.Replies.{answered, is_owed}
 use Rattle.nbd_session.specs.Session.{Course, State, fed, limit_in_flight, play, step}
@@ -28,7 +28,7 @@ use Rattle.nbd_session.proofs.Lawfulness.{talks_came}
 
 -- ---- it comes to lawful output
 
-lawful_at : (phase : Phase) (s : State) (h : History) → StandsIn phase s h → IsLawful s.export h.fed (sent_by s h) h.asked h.replies
+lawful_at : (phase : Phase) (s : State) (h : History) → HasHistoryIn phase s h → IsLawful s.export h.fed (sent_by s h) h.asked h.replies
 lawful_at Greeted s h (fed_is, went, quiet) = inl (went, quiet.asked, quiet.replies)
 lawful_at (Negotiating no_zeroes) s h (haggled, quiet) = inr (inl (no_zeroes, s.kept, haggled, quiet.asked, quiet.replies))
 lawful_at (Skipping no_zeroes option left) s h (bytes, haggled, passing, quiet) = inr (inl (no_zeroes, bytes ++ s.kept, haggled, quiet.asked, quiet.replies))
@@ -55,7 +55,7 @@ module _ (s : State) (h : History) where
   abbrev talks_too : (rest : List ℕ) → Transmission s.export h.fed (sent_by s h) h.asked h.replies rest → Transmission s.export h.fed (sent_by (record s { output = [] }) (handed_out s h)) h.asked h.replies rest
   talks_too rest talks = subst (λ (l : List ℕ). Transmission s.export h.fed l h.asked h.replies rest) handed_is talks
 
-  handed_at : (phase : Phase) → StandsIn phase s h → StandsIn phase (record s { output = [] }) (handed_out s h)
+  handed_at : (phase : Phase) → HasHistoryIn phase s h → HasHistoryIn phase (record s { output = [] }) (handed_out s h)
   handed_at Greeted (fed_is, went, quiet) = (fed_is, sym handed_is ∙ went, quiet_too quiet)
   handed_at (Negotiating no_zeroes) (haggled, quiet) = (subst (λ (l : List ℕ). Haggled s.export no_zeroes h.fed l s.kept) handed_is haggled, quiet_too quiet)
   handed_at (Skipping no_zeroes option left) (bytes, haggled, passing, quiet) =
@@ -66,7 +66,7 @@ module _ (s : State) (h : History) where
   handed_at Over (inr (inl (rest, talks, ends))) = inr (inl (rest, talks_too rest talks, ends))
   handed_at Over (inr (inr (rest, talks, ends))) = inr (inr (rest, talks_too rest talks, ends))
 
-pub stands_handed : (s : State) (h : History) → Stands s h → Stands (record s { output = [] }) (handed_out s h)
+pub stands_handed : (s : State) (h : History) → HasHistory s h → HasHistory (record s { output = [] }) (handed_out s h)
 stands_handed s h stands = handed_at s h s.phase stands
 
 -- ---- a reply to a demand
@@ -74,13 +74,13 @@ stands_handed s h stands = handed_at s h s.phase stands
 module _ (s : State) (h : History) (reply : PlainReply) where
   -- as it is where none is owed, and where one is
   abbrev with_reply : Phase → Bool → State
-  with_reply phase owed = record s { phase = phase; in_flight = s.in_flight - 1; output = cond owed (s.output ++ reply_spelling reply) s.output }
+  with_reply phase owed = record s { phase = phase; in_flight = s.in_flight - 1; output = cond owed (s.output ++ reply_encoding reply) s.output }
 
   abbrev with_it : Bool → History
   with_it owed = cond owed (record h { replies = h.replies ++ reply ∷ [] }) h
 
-  unowed : (phase : Phase) (owed : Bool) → owed ≡ false → StandsIn phase (record s { phase = phase; in_flight = s.in_flight - 1 }) h → StandsIn phase (with_reply phase owed) (with_it owed)
-  unowed phase owed none stands = subst (λ b. StandsIn phase (with_reply phase b) (with_it b)) (sym none) stands
+  unowed : (phase : Phase) (owed : Bool) → owed ≡ false → HasHistoryIn phase (record s { phase = phase; in_flight = s.in_flight - 1 }) h → HasHistoryIn phase (with_reply phase owed) (with_it owed)
+  unowed phase owed none stands = subst (λ b. HasHistoryIn phase (with_reply phase b) (with_it b)) (sym none) stands
 
   none_owed : s.in_flight ≡ 0 → nat_lt 0 s.in_flight ≡ false
   none_owed none = le-ltb 0 s.in_flight (omega arith)
@@ -89,14 +89,14 @@ module _ (s : State) (h : History) (reply : PlainReply) where
   quiet_still phase quiet = record { asked = quiet.asked; replies = quiet.replies; none_owed = omega (arith, quiet.none_owed) }
 
   came : (rest : List ℕ) (owed : Bool) → Transmission s.export h.fed (sent_by s h) h.asked h.replies rest
-      → Transmission s.export h.fed (h.handed ++ cond owed (s.output ++ reply_spelling reply) s.output) (with_it owed).asked (with_it owed).replies rest
+      → Transmission s.export h.fed (h.handed ++ cond owed (s.output ++ reply_encoding reply) s.output) (with_it owed).asked (with_it owed).replies rest
   came rest false talks = talks
   came rest true talks = record {
     text = talks.text;
     out = talks.out;
-    sent = talks.sent ++ reply_spelling reply;
+    sent = talks.sent ++ reply_encoding reply;
     begun = talks.begun;
-    went = sym (append_assoc h.handed s.output (reply_spelling reply)) ∙ ap (λ (l : List ℕ). l ++ reply_spelling reply) talks.went ∙ append_assoc talks.out talks.sent (reply_spelling reply);
+    went = sym (append_assoc h.handed s.output (reply_encoding reply)) ∙ ap (λ (l : List ℕ). l ++ reply_encoding reply) talks.went ∙ append_assoc talks.out talks.sent (reply_encoding reply);
     talks = talks_came s.export talks.text talks.sent h.asked h.replies reply rest talks.talks;
   }
 
@@ -113,7 +113,7 @@ module _ (s : State) (h : History) (reply : PlainReply) where
   came_too phase rest true talks = came rest true talks
   came_too phase rest false talks = came rest false talks
 
-  replied_at : (phase : Phase) → StandsIn phase s h → StandsIn (phase_after phase (s.in_flight - 1)) (with_reply (phase_after phase (s.in_flight - 1)) (is_owed phase s.in_flight)) (with_it (is_owed phase s.in_flight))
+  replied_at : (phase : Phase) → HasHistoryIn phase s h → HasHistoryIn (phase_after phase (s.in_flight - 1)) (with_reply (phase_after phase (s.in_flight - 1)) (is_owed phase s.in_flight)) (with_it (is_owed phase s.in_flight))
   replied_at Greeted (fed_is, went, quiet) = unowed Greeted (nat_lt 0 s.in_flight) (none_owed quiet.none_owed) (fed_is, went, quiet_still Greeted quiet)
   replied_at (Negotiating no_zeroes) (haggled, quiet) = unowed (Negotiating no_zeroes) (nat_lt 0 s.in_flight) (none_owed quiet.none_owed) (haggled, quiet_still (Negotiating no_zeroes) quiet)
   replied_at (Skipping no_zeroes option left) (bytes, haggled, passing, quiet) =
@@ -123,13 +123,13 @@ module _ (s : State) (h : History) (reply : PlainReply) where
       let owed = nat_lt 0 s.in_flight in
       let left : (phase : Phase) → Ended (with_reply phase owed) (with_it owed) Left = λ phase. (rest, came_too phase rest owed talks, ends) in
       elim (cases_Bool (nat_eq (s.in_flight - 1) 0)) [
-        | inl none ↦ subst (λ phase. StandsIn phase (with_reply phase owed) (with_it owed)) (sym (cond-true (nat_eq (s.in_flight - 1) 0) Over Leaving none)) (inr (inl (left Over)))
-        | inr some ↦ subst (λ phase. StandsIn phase (with_reply phase owed) (with_it owed)) (sym (cond-false (nat_eq (s.in_flight - 1) 0) Over Leaving some)) (left Leaving)
+        | inl none ↦ subst (λ phase. HasHistoryIn phase (with_reply phase owed) (with_it owed)) (sym (cond-true (nat_eq (s.in_flight - 1) 0) Over Leaving none)) (inr (inl (left Over)))
+        | inr some ↦ subst (λ phase. HasHistoryIn phase (with_reply phase owed) (with_it owed)) (sym (cond-false (nat_eq (s.in_flight - 1) 0) Over Leaving some)) (left Leaving)
       ]
   replied_at Over (inl (negotiation, quiet)) = inl (negotiation, quiet_still Over quiet)
   replied_at Over (inr ended) = inr ended
 
-pub stands_replied : (s : State) (h : History) (reply : PlainReply) → Stands s h → Stands (answered s reply) (replied s h reply)
+pub stands_replied : (s : State) (h : History) (reply : PlainReply) → HasHistory s h → HasHistory (answered s reply) (replied s h reply)
 stands_replied s h reply stands = replied_at s h reply s.phase stands
 
 -- ---- what a piece leaves
@@ -141,26 +141,26 @@ play_keeps limit (suc n) c d bytes there =
     let later = play_keeps limit n (step limit c) d one.bytes there in
     record { bytes = later.bytes; export = later.export ∙ one.export }
 
-shorter : {A : Type 0} (spelling : A → List ℕ) (Fits : A → Type 0) (most : ℕ) (bytes : List ℕ) → IsAtMost most spelling Fits → IsProperFront spelling Fits bytes → length bytes < most
-shorter spelling Fits most bytes short front = omega (arith, short front.value front.fits, ap length front.whole, length-append bytes front.rest, front.some)
+shorter : {A : Type 0} (encoding : A → List ℕ) (Fits : A → Type 0) (most : ℕ) (bytes : List ℕ) → IsAtMost most encoding Fits → IsProperPrefix encoding Fits bytes → length bytes < most
+shorter encoding Fits most bytes short front = omega (arith, short front.value front.fits, ap length front.whole, length-append bytes front.rest, front.some)
 
-module _ (flags_spelled : IsSpelled flags_spelling AreFlags flags_in) (flags_short : IsAtMost CLIENT_FLAGS_LEN flags_spelling AreFlags)
-    (options_spelled : IsSpelled option_spelling IsOption option_in) (options_short : IsAtMost (OPTION_HEADER + MAX_OPTION_DATA) option_spelling IsOption)
-    (requests_spelled : (max_payload : ℕ) → max_payload < 2 ^ 32 → IsSpelled request_spelling (IsRequest max_payload) (request_in max_payload))
-    (requests_short : (max_payload : ℕ) → IsAtMost (REQUEST_HEADER + max_payload) request_spelling (IsRequest max_payload)) where
+module _ (flags_encoded : IsEncoded flags_encoding AreFlags flags_in) (flags_short : IsAtMost CLIENT_FLAGS_LEN flags_encoding AreFlags)
+    (options_encoded : IsEncoded option_encoding IsOption option_in) (options_short : IsAtMost (OPTION_HEADER + MAX_OPTION_DATA) option_encoding IsOption)
+    (requests_encoded : (max_payload : ℕ) → max_payload < 2 ^ 32 → IsEncoded request_encoding (IsRequest max_payload) (request_in max_payload))
+    (requests_short : (max_payload : ℕ) → IsAtMost (REQUEST_HEADER + max_payload) request_encoding (IsRequest max_payload)) where
   none_at : (export : Export) (phase : Phase) (kept : List ℕ) → AreBytes kept → export.max_payload < 2 ^ 32 → is_over phase ≡ false → progress_in export phase kept ≡ None → NeedsMore phase export.max_payload kept
   unfolding progress_in
   none_at export Greeted kept bytes small open_still none = go (flags_in kept) refl none
     where
-      go : (reading : Reading Flags) → flags_in kept ≡ reading → flags_progress (length kept) reading ≡ None → IsProperFront flags_spelling AreFlags kept
+      go : (reading : Reading Flags) → flags_in kept ≡ reading → flags_progress (length kept) reading ≡ None → IsProperPrefix flags_encoding AreFlags kept
       go (Value flags len) found is = absurd cc
-      go More found is = flags_spelled.more kept bytes found
+      go More found is = flags_encoded.more kept bytes found
       go (Fault fault) found is = absurd cc
   none_at export (Negotiating no_zeroes) kept bytes small open_still none = go (option_in kept) refl none
     where
-      go : (reading : Reading PlainOption) → option_in kept ≡ reading → option_progress export no_zeroes (length kept) reading ≡ None → IsProperFront option_spelling IsOption kept
+      go : (reading : Reading PlainOption) → option_in kept ≡ reading → option_progress export no_zeroes (length kept) reading ≡ None → IsProperPrefix option_encoding IsOption kept
       go (Value option len) found is = absurd cc
-      go More found is = options_spelled.more kept bytes found
+      go More found is = options_encoded.more kept bytes found
       go (Fault fault) found is = absurd cc
   none_at export (Skipping no_zeroes option left) kept bytes small open_still none = skipped kept none
     where
@@ -172,18 +172,18 @@ module _ (flags_spelled : IsSpelled flags_spelling AreFlags flags_in) (flags_sho
       ]
   none_at export Transmitting kept bytes small open_still none = go (request_in export.max_payload kept) refl none
     where
-      go : (reading : Reading PlainRequest) → request_in export.max_payload kept ≡ reading → request_progress export (length kept) reading ≡ None → IsProperFront request_spelling (IsRequest export.max_payload) kept
+      go : (reading : Reading PlainRequest) → request_in export.max_payload kept ≡ reading → request_progress export (length kept) reading ≡ None → IsProperPrefix request_encoding (IsRequest export.max_payload) kept
       go (Value request len) found is = absurd cc
-      go More found is = (requests_spelled export.max_payload small).more kept bytes found
+      go More found is = (requests_encoded export.max_payload small).more kept bytes found
       go (Fault fault) found is = absurd cc
   none_at export Leaving kept bytes small open_still none = tt
   none_at export Over kept bytes small open_still none = tt
 
   bounded : (phase : Phase) (max_payload : ℕ) (kept : List ℕ) → is_over phase ≡ false → NeedsMore phase max_payload kept → length kept < most_kept phase max_payload
-  bounded Greeted max_payload kept open_still front = shorter flags_spelling AreFlags _ kept flags_short front
-  bounded (Negotiating no_zeroes) max_payload kept open_still front = shorter option_spelling IsOption _ kept options_short front
+  bounded Greeted max_payload kept open_still front = shorter flags_encoding AreFlags _ kept flags_short front
+  bounded (Negotiating no_zeroes) max_payload kept open_still front = shorter option_encoding IsOption _ kept options_short front
   bounded (Skipping no_zeroes option left) max_payload kept open_still none = omega (arith, ap length none)
-  bounded Transmitting max_payload kept open_still front = shorter request_spelling (IsRequest max_payload) _ kept (requests_short max_payload) front
+  bounded Transmitting max_payload kept open_still front = shorter request_encoding (IsRequest max_payload) _ kept (requests_short max_payload) front
   bounded Leaving max_payload kept open_still more = absurd cc
   bounded Over max_payload kept open_still more = absurd cc
 
@@ -206,8 +206,8 @@ bytes_both (x ∷ a) b left right (suc i) = bytes_both a b (λ k. left (suc k)) 
 
 -- ---- where a session that needs more stands
 
-goes_on_at : (phase : Phase) (s : State) (h : History) → StandsIn phase s h → NeedsMore phase s.export.max_payload s.kept → GoesOnIn phase s h
-goes_on_at Greeted s h (fed_is, went, quiet) more = inl (went, subst (IsProperFront flags_spelling AreFlags) (sym fed_is) more)
+goes_on_at : (phase : Phase) (s : State) (h : History) → HasHistoryIn phase s h → NeedsMore phase s.export.max_payload s.kept → GoesOnIn phase s h
+goes_on_at Greeted s h (fed_is, went, quiet) more = inl (went, subst (IsProperPrefix flags_encoding AreFlags) (sym fed_is) more)
 goes_on_at (Negotiating no_zeroes) s h (haggled, quiet) more = inr (no_zeroes, s.kept, haggled, inl more)
 goes_on_at (Skipping no_zeroes option left) s h (bytes, haggled, passing, quiet) more =
     inr (no_zeroes, bytes, subst (λ (l : List ℕ). Haggled s.export no_zeroes h.fed (sent_by s h) l) (ap (λ (l : List ℕ). bytes ++ l) more ∙ append-nil bytes) haggled, inr (option, left, passing))

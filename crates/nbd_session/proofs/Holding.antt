@@ -8,11 +8,11 @@ use Rattle.nbd_codec.specs.declared.findings.Reading.{Reading}
 use Rattle.nbd_codec.specs.declared.findings.Reading.TheVariants.{Value, More, Fault}
 use Rattle.nbd_codec.specs.declared.handshake.ClientFlags.{ClientFlags as Flags}
 use Rattle.nbd_codec.specs.Checked.{checked}
-use Rattle.nbd_codec.specs.ClientOption.{IsOption, PlainOption, option_in, spelling as option_spelling}
+use Rattle.nbd_codec.specs.ClientOption.{IsOption, PlainOption, option_in, encoding as option_encoding}
 use Rattle.nbd_codec.specs.Findings.{AreBytes, Takes}
-use Rattle.nbd_codec.specs.Handshake.{AreFlags, flags_in, flags_spelling}
-use Rattle.nbd_codec.specs.Laws.{IsAtLeast, IsKept, IsSpelled}
-use Rattle.nbd_codec.specs.Request.{IsRequest, PlainRequest, request_in, spelling as request_spelling}
+use Rattle.nbd_codec.specs.Handshake.{AreFlags, flags_in, flags_encoding}
+use Rattle.nbd_codec.specs.Laws.{IsAtLeast, IsKept, IsEncoded}
+use Rattle.nbd_codec.specs.Request.{IsRequest, PlainRequest, request_in, encoding as request_encoding}
 use Rattle.nbd_session.specs.declared.answer.Export.{Export}
 use Rattle.nbd_session.specs.declared.phase.Phase.{Phase}
 use Rattle.nbd_session.specs.declared.phase.Phase.TheVariants.{Greeted, Negotiating, Skipping, Transmitting, Leaving, Over}
@@ -58,8 +58,8 @@ feeds_take_first old new piece asked rest feeds (end, settles) =
 
 -- ---- there is an end to them
 
-used_some : {A : Type 0} (spelling : A → List ℕ) (Fits : A → Type 0) (least : ℕ) (bytes : List ℕ) (x : A) (n : ℕ) → IsAtLeast least spelling Fits → Takes spelling Fits bytes x n → (least ≤ n) × (n ≤ length bytes)
-used_some spelling Fits least bytes x n long takes = (omega (arith, takes.len, long x takes.fits), omega (arith, takes.len, ap length takes.whole, length-append (spelling x) (drop n bytes)))
+used_some : {A : Type 0} (encoding : A → List ℕ) (Fits : A → Type 0) (least : ℕ) (bytes : List ℕ) (x : A) (n : ℕ) → IsAtLeast least encoding Fits → Takes encoding Fits bytes x n → (least ≤ n) × (n ≤ length bytes)
+used_some encoding Fits least bytes x n long takes = (omega (arith, takes.len, long x takes.fits), omega (arith, takes.len, ap length takes.whole, length-append (encoding x) (drop n bytes)))
 
 -- how much a phase and an input can still take
 abbrev weight : Phase → ℕ → ℕ
@@ -78,10 +78,10 @@ weight_most Transmitting came = omega arith
 weight_most Leaving came = omega arith
 weight_most Over came = omega arith
 
-module _ (flags_spelled : IsSpelled flags_spelling AreFlags flags_in) (flags_long : IsAtLeast CLIENT_FLAGS_LEN flags_spelling AreFlags)
-    (options_spelled : IsSpelled option_spelling IsOption option_in) (options_long : IsAtLeast OPTION_HEADER option_spelling IsOption)
-    (requests_spelled : (max_payload : ℕ) → max_payload < 2 ^ 32 → IsSpelled request_spelling (IsRequest max_payload) (request_in max_payload))
-    (requests_long : (max_payload : ℕ) → IsAtLeast REQUEST_HEADER request_spelling (IsRequest max_payload)) where
+module _ (flags_encoded : IsEncoded flags_encoding AreFlags flags_in) (flags_long : IsAtLeast CLIENT_FLAGS_LEN flags_encoding AreFlags)
+    (options_encoded : IsEncoded option_encoding IsOption option_in) (options_long : IsAtLeast OPTION_HEADER option_encoding IsOption)
+    (requests_encoded : (max_payload : ℕ) → max_payload < 2 ^ 32 → IsEncoded request_encoding (IsRequest max_payload) (request_in max_payload))
+    (requests_long : (max_payload : ℕ) → IsAtLeast REQUEST_HEADER request_encoding (IsRequest max_payload)) where
   -- after a step there is less
   lighter : (export : Export) (phase : Phase) (kept : List ℕ) (progress : Progress) → AreBytes kept → export.max_payload < 2 ^ 32 → progress_in export phase kept ≡ Some progress → is_over progress.phase ≡ false
       → (in_flight : ℕ) → weight (phase_after progress.phase in_flight) (length kept - progress.used) < weight phase (length kept)
@@ -90,7 +90,7 @@ module _ (flags_spelled : IsSpelled flags_spelling AreFlags flags_in) (flags_lon
     where
       go : (reading : Reading Flags) → flags_in kept ≡ reading → flags_progress (length kept) reading ≡ Some progress → weight (phase_after progress.phase in_flight) (length kept - progress.used) < length kept + length kept
       go (Value flags len) found one =
-          let w = used_some flags_spelling AreFlags CLIENT_FLAGS_LEN kept flags len flags_long (flags_spelled.value kept flags len bytes found) in
+          let w = used_some flags_encoding AreFlags CLIENT_FLAGS_LEN kept flags len flags_long (flags_encoded.value kept flags len bytes found) in
           let same : len ≡ progress.used = ap (λ t. t.used) (some_is one) in
           omega (arith, weight_most (phase_after progress.phase in_flight) (length kept - progress.used), w.0, w.1, same)
       go More found one = absurd cc
@@ -99,7 +99,7 @@ module _ (flags_spelled : IsSpelled flags_spelling AreFlags flags_in) (flags_lon
     where
       go : (reading : Reading PlainOption) → option_in kept ≡ reading → option_progress export no_zeroes (length kept) reading ≡ Some progress → weight (phase_after progress.phase in_flight) (length kept - progress.used) < length kept + length kept
       go (Value option len) found one =
-          let w = used_some option_spelling IsOption OPTION_HEADER kept option len options_long (options_spelled.value kept option len bytes found) in
+          let w = used_some option_encoding IsOption OPTION_HEADER kept option len options_long (options_encoded.value kept option len bytes found) in
           let same : len ≡ progress.used = ap (λ t. t.used) (some_is one) in
           omega (arith, weight_most (phase_after progress.phase in_flight) (length kept - progress.used), w.0, w.1, same)
       go More found one = absurd cc
@@ -120,7 +120,7 @@ module _ (flags_spelled : IsSpelled flags_spelling AreFlags flags_in) (flags_lon
     where
       go : (reading : Reading PlainRequest) → request_in export.max_payload kept ≡ reading → request_progress export (length kept) reading ≡ Some progress → weight (phase_after progress.phase in_flight) (length kept - progress.used) < length kept + length kept
       go (Value request len) found one =
-          let w = used_some request_spelling (IsRequest export.max_payload) REQUEST_HEADER kept request len (requests_long export.max_payload) ((requests_spelled export.max_payload small).value kept request len bytes found) in
+          let w = used_some request_encoding (IsRequest export.max_payload) REQUEST_HEADER kept request len (requests_long export.max_payload) ((requests_encoded export.max_payload small).value kept request len bytes found) in
           let same : len ≡ progress.used = sym (checked_used request len (checked export.size export.max_payload request)) ∙ ap (λ t. t.used) (some_is one) in
           omega (arith, weight_most (phase_after progress.phase in_flight) (length kept - progress.used), w.0, w.1, same)
       go More found one = absurd cc
@@ -253,8 +253,8 @@ module _ (flags_kept : IsKept flags_in) (options_kept : IsKept option_in) (reque
             absurd cc
       ]
 
-  module _ (flags_spelled : IsSpelled flags_spelling AreFlags flags_in) (options_spelled : IsSpelled option_spelling IsOption option_in)
-      (requests_spelled : (max_payload : ℕ) → max_payload < 2 ^ 32 → IsSpelled request_spelling (IsRequest max_payload) (request_in max_payload)) where
+  module _ (flags_encoded : IsEncoded flags_encoding AreFlags flags_in) (options_encoded : IsEncoded option_encoding IsOption option_in)
+      (requests_encoded : (max_payload : ℕ) → max_payload < 2 ^ 32 → IsEncoded request_encoding (IsRequest max_payload) (request_in max_payload)) where
     -- a course that settles, with more input, settles with more asked
     adds : (n : ℕ) (c d : Course) (text : List ℕ) → AreBytes c.session.kept → c.session.export.max_payload < 2 ^ 32 → play None n c ≡ d → is_over d.session.phase ≡ true → (e : Course) × Settles None (more text c) e × (e.asked ≡ d.asked)
     adds zero c d text bytes small there over =
@@ -267,7 +267,7 @@ module _ (flags_kept : IsKept flags_in) (options_kept : IsKept option_in) (reque
           | inr open_still ↦
               let keeps = step_keeps None c bytes in
               let later = adds n (step None c) d text keeps.bytes (subst (λ e. e.max_payload < 2 ^ 32) (sym keeps.export) small) there over in
-              (later.0, key None flags_kept flags_spelled options_kept options_spelled requests_kept requests_spelled c later.0 text bytes small open_still later.1, later.2)
+              (later.0, key None flags_kept flags_encoded options_kept options_encoded requests_kept requests_encoded c later.0 text bytes small open_still later.1, later.2)
         ]
 
 -- ---- bytes of a front, and behind it
@@ -281,28 +281,28 @@ bytes_right : (a b : List ℕ) → AreBytes (a ++ b) → AreBytes b
 bytes_right [] b bytes i = bytes i
 bytes_right (x ∷ a) b bytes i = bytes_right a b (λ k. bytes (suc k)) i
 
-module _ (flags_kept : IsKept flags_in) (flags_spelled : IsSpelled flags_spelling AreFlags flags_in) (flags_long : IsAtLeast CLIENT_FLAGS_LEN flags_spelling AreFlags)
-    (options_kept : IsKept option_in) (options_spelled : IsSpelled option_spelling IsOption option_in) (options_long : IsAtLeast OPTION_HEADER option_spelling IsOption)
+module _ (flags_kept : IsKept flags_in) (flags_encoded : IsEncoded flags_encoding AreFlags flags_in) (flags_long : IsAtLeast CLIENT_FLAGS_LEN flags_encoding AreFlags)
+    (options_kept : IsKept option_in) (options_encoded : IsEncoded option_encoding IsOption option_in) (options_long : IsAtLeast OPTION_HEADER option_encoding IsOption)
     (requests_kept : (max_payload : ℕ) → max_payload < 2 ^ 32 → IsKept (request_in max_payload))
-    (requests_spelled : (max_payload : ℕ) → max_payload < 2 ^ 32 → IsSpelled request_spelling (IsRequest max_payload) (request_in max_payload))
-    (requests_long : (max_payload : ℕ) → IsAtLeast REQUEST_HEADER request_spelling (IsRequest max_payload)) where
+    (requests_encoded : (max_payload : ℕ) → max_payload < 2 ^ 32 → IsEncoded request_encoding (IsRequest max_payload) (request_in max_payload))
+    (requests_long : (max_payload : ℕ) → IsAtLeast REQUEST_HEADER request_encoding (IsRequest max_payload)) where
   pub pieces_add : PiecesAdd
   pieces_add session piece asked bytes small (mid, settles) =
       let kept : AreBytes session.kept = bytes_left session.kept piece bytes in
       elim (cases_Bool (is_over mid.phase)) [
         | inl over ↦
-            let longer = adds flags_kept options_kept requests_kept flags_spelled options_spelled requests_spelled settles.steps (course_of session) (record { session = mid; asked = asked }) piece kept small settles.there over in
+            let longer = adds flags_kept options_kept requests_kept flags_encoded options_encoded requests_encoded settles.steps (course_of session) (record { session = mid; asked = asked }) piece kept small settles.there over in
             let same : longer.0.asked ≡ asked ++ [] = longer.2 ∙ sym (append-nil asked) in
             ([], (longer.0.session, subst (λ (a : List Asked). Settles None (more piece (course_of session)) (record { session = longer.0.session; asked = a })) same longer.1))
         | inr open_still ↦
             let keeps = play_keeps None settles.steps (course_of session) (record { session = mid; asked = asked }) kept settles.there in
             let small_too : mid.export.max_payload < 2 ^ 32 = subst (λ e. e.max_payload < 2 ^ 32) (sym keeps.export) small in
-            let rest = settles_some flags_spelled flags_long options_spelled options_long requests_spelled requests_long (suc (weight mid.phase (length (mid.kept ++ piece)))) (fed mid piece)
+            let rest = settles_some flags_encoded flags_long options_encoded options_long requests_encoded requests_long (suc (weight mid.phase (length (mid.kept ++ piece)))) (fed mid piece)
             (bytes_both mid.kept piece keeps.bytes (bytes_right session.kept piece bytes)) small_too (omega arith) in
             let goal : Course = record { session = rest.0.session; asked = asked ++ rest.0.asked } in
             let then : Settles None (more piece (record { session = mid; asked = asked })) goal =
             subst (λ (a : List Asked). Settles None (record { session = record mid { kept = mid.kept ++ piece }; asked = a }) goal) (append-nil asked) (settles_asked None asked (fed mid piece) rest.0 rest.1) in
-            (rest.0.asked, (rest.0.session, all_steps None flags_kept flags_spelled options_kept options_spelled requests_kept requests_spelled settles.steps (course_of session) (record { session = mid; asked = asked }) goal piece kept small settles.there open_still then))
+            (rest.0.asked, (rest.0.session, all_steps None flags_kept flags_encoded options_kept options_encoded requests_kept requests_encoded settles.steps (course_of session) (record { session = mid; asked = asked }) goal piece kept small settles.there open_still then))
       ]
 
 -- ---- what a reply and handed out output leave

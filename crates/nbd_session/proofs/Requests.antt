@@ -10,7 +10,7 @@ use Rattle.nbd_codec.specs.declared.constants.TheConstants.{MAX_IN_FLIGHT}
 use Rattle.nbd_session.specs.declared.intake.Intake.{Intake}
 use Rattle.nbd_session.specs.declared.wanted.Loaded.{Loaded}
 use Rattle.nbd_session.specs.declared.wanted.Wanted.{Wanted}
-use Rattle.nbd_session.specs.Answers.{answer_spelling}
+use Rattle.nbd_session.specs.Answers.{answer_encoding}
 use Rattle.nbd_session.specs.Demand.{Asked, IsAskedInside, asked_under}
 use Rattle.nbd_session.specs.Intake.{IsSound, behind, loaded_view, progress_of, wanted_view}
 use Rattle.nbd_session.specs.Progress.{is_over, phase_after, progress_in}
@@ -46,7 +46,7 @@ sound_more size input a b ws more all i d lt =
 
 -- the session after a step, with its input as it was
 abbrev pub stepped : State → Intake → ℕ → State
-stepped s intake owed = record s { phase = phase_after intake.phase owed; output = s.output ++ answer_spelling s.export intake.answer }
+stepped s intake owed = record s { phase = phase_after intake.phase owed; output = s.output ++ answer_encoding s.export intake.answer }
 
 module _ (s : State) (used : ℕ) (ws : List Wanted) (intake : Intake) (free : s.in_flight + length ws < MAX_IN_FLIGHT)
     (found : progress_in s.export s.phase (drop used s.kept) ≡ Some (progress_of s.export (drop used s.kept) intake)) where

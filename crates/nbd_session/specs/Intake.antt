@@ -4,7 +4,7 @@ use Rattle.nbd_session.specs.declared.answer.Export.{Export}
 use Rattle.nbd_session.specs.declared.intake.Intake.{Intake}
 use Rattle.nbd_session.specs.declared.wanted.Wanted.{Wanted}
 use Rattle.nbd_session.specs.declared.wanted.Loaded.{Loaded}
-use Rattle.nbd_session.specs.Answers.{answer_spelling}
+use Rattle.nbd_session.specs.Answers.{answer_encoding}
 use Rattle.nbd_session.specs.Demand.{Asked, IsAskedInside, asked_under}
 use Rattle.nbd_session.specs.Progress.{IsPhase, Progress, is_over}
 
@@ -23,7 +23,7 @@ loaded_view loaded = asked_under loaded.cookie loaded.ask loaded.payload
 -- the step through this input that a session takes by what it found there
 abbrev pub progress_of : Export → List ℕ → Intake → Progress
 progress_of export input intake =
-    record { phase = intake.phase; used = intake.used; output = answer_spelling export intake.answer; asked = option_map (wanted_view input) intake.wanted }
+    record { phase = intake.phase; used = intake.used; output = answer_encoding export intake.answer; asked = option_map (wanted_view input) intake.wanted }
 
 -- a request's payload stands within the first bytes of the input, and its range, if it has one, inside the volume
 pub record IsSound (size : ℕ) (input : List ℕ) (used : ℕ) (wanted : Wanted) : Type 0 where

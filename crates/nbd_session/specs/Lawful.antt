@@ -1,11 +1,11 @@
 -- What a session puts out is lawful: how it stands to all that came in and went out.
 use Rattle.std.specs.Prelude.{◌≡◌, ◌⊎◌, ℕ, ◌+◌, Bool, List, [], ◌∷◌, ◌++◌, ⊤, if◌then◌else◌}
 use Rattle.nbd_codec.specs.declared.constants.TheConstants.{CLIENT_FLAGS_LEN, MAX_OPTION_DATA, OPTION_HEADER, REQUEST_HEADER}
-use Rattle.nbd_codec.specs.Findings.{IsProperFront}
-use Rattle.nbd_codec.specs.ClientOption.{IsOption, spelling as option_spelling}
-use Rattle.nbd_codec.specs.Handshake.{AreFlags, flags_spelling, greeting_spelling}
+use Rattle.nbd_codec.specs.Findings.{IsProperPrefix}
+use Rattle.nbd_codec.specs.ClientOption.{IsOption, encoding as option_encoding}
+use Rattle.nbd_codec.specs.Handshake.{AreFlags, flags_encoding, greeting_encoding}
 use Rattle.nbd_codec.specs.Reply.{PlainReply}
-use Rattle.nbd_codec.specs.Request.{IsRequest, spelling as request_spelling}
+use Rattle.nbd_codec.specs.Request.{IsRequest, encoding as request_encoding}
 use Rattle.nbd_session.specs.declared.answer.Export.{Export}
 use Rattle.nbd_session.specs.declared.phase.Phase.{Phase}
 use Rattle.nbd_session.specs.declared.phase.Phase.TheVariants.{Greeted, Negotiating, Skipping, Transmitting, Leaving, Over}
@@ -65,26 +65,26 @@ Ended session history end =
     × EndsSo session.export.max_payload rest end
 
 -- a session in this phase, its history and the input that it has kept
-abbrev pub StandsIn : Phase → State → History → Type 0
-StandsIn Greeted session history = (history.fed ≡ session.kept) × (sent_by session history ≡ greeting_spelling) × IsQuiet session history
-StandsIn (Negotiating no_zeroes) session history = Haggled session.export no_zeroes history.fed (sent_by session history) session.kept × IsQuiet session history
-StandsIn (Skipping no_zeroes option left) session history =
+abbrev pub HasHistoryIn : Phase → State → History → Type 0
+HasHistoryIn Greeted session history = (history.fed ≡ session.kept) × (sent_by session history ≡ greeting_encoding) × IsQuiet session history
+HasHistoryIn (Negotiating no_zeroes) session history = Haggled session.export no_zeroes history.fed (sent_by session history) session.kept × IsQuiet session history
+HasHistoryIn (Skipping no_zeroes option left) session history =
     (bytes : List ℕ) × Haggled session.export no_zeroes history.fed (sent_by session history) (bytes ++ session.kept) × IsPassing option left bytes × IsQuiet session history
-StandsIn Transmitting session history = Transmission session.export history.fed (sent_by session history) history.asked history.replies session.kept
-StandsIn Leaving session history = Ended session history Left
-StandsIn Over session history =
+HasHistoryIn Transmitting session history = Transmission session.export history.fed (sent_by session history) history.asked history.replies session.kept
+HasHistoryIn Leaving session history = Ended session history Left
+HasHistoryIn Over session history =
     (Negotiation session.export history.fed (sent_by session history) IsOver × IsQuiet session history)
     ⊎ (Ended session history Left ⊎ Ended session history Faulty)
 
 -- a session that has this history
-abbrev pub Stands : State → History → Type 0
-Stands session history = StandsIn session.phase session history
+abbrev pub HasHistory : State → History → Type 0
+HasHistory session history = HasHistoryIn session.phase session history
 
 -- what went out is lawful for what came in: at most the greeting; the answers to options; or these, and then the replies
 -- to requests and demands, each once
 abbrev pub IsLawful : Export → (from to : List ℕ) → List Asked → List PlainReply → Type 0
 IsLawful export from to asked replies =
-    ((to ≡ greeting_spelling) × (asked ≡ []) × (replies ≡ []))
+    ((to ≡ greeting_encoding) × (asked ≡ []) × (replies ≡ []))
     ⊎ (((no_zeroes : Bool) × (rest : List ℕ) × Haggled export no_zeroes from to rest × (asked ≡ []) × (replies ≡ []))
     ⊎ (((rest : List ℕ) × HasLast export Ends from to rest × (asked ≡ []) × (replies ≡ []))
     ⊎ ((rest : List ℕ) × Transmission export from to asked replies rest)))
@@ -101,10 +101,10 @@ GoesOnIn Over session history = ⊤
 
 -- what a session that still takes input keeps of it is no whole thing yet
 abbrev pub NeedsMore : Phase → ℕ → List ℕ → Type 0
-NeedsMore Greeted max_payload kept = IsProperFront flags_spelling AreFlags kept
-NeedsMore (Negotiating no_zeroes) max_payload kept = IsProperFront option_spelling IsOption kept
+NeedsMore Greeted max_payload kept = IsProperPrefix flags_encoding AreFlags kept
+NeedsMore (Negotiating no_zeroes) max_payload kept = IsProperPrefix option_encoding IsOption kept
 NeedsMore (Skipping no_zeroes option left) max_payload kept = kept ≡ []
-NeedsMore Transmitting max_payload kept = IsProperFront request_spelling (IsRequest max_payload) kept
+NeedsMore Transmitting max_payload kept = IsProperPrefix request_encoding (IsRequest max_payload) kept
 NeedsMore Leaving max_payload kept = ⊤
 NeedsMore Over max_payload kept = ⊤
 

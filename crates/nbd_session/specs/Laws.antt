@@ -3,7 +3,7 @@ use Rattle.std.specs.Prelude.{◌≡◌, ◌<◌, ◌^◌, false, List, [], ◌+
 use Rattle.nbd_codec.specs.Findings.{AreBytes}
 use Rattle.nbd_codec.specs.declared.constants.TheConstants.{MAX_IN_FLIGHT}
 use Rattle.nbd_session.specs.Demand.{Asked}
-use Rattle.nbd_session.specs.Lawful.{GoesOnIn, History, IsLawful, NeedsMore, Stands, fed_and_asked, handed_out, most_kept, replied, sent_by}
+use Rattle.nbd_session.specs.Lawful.{GoesOnIn, History, IsLawful, NeedsMore, HasHistory, fed_and_asked, handed_out, most_kept, replied, sent_by}
 use Rattle.nbd_codec.specs.Reply.{PlainReply}
 use Rattle.nbd_session.specs.Replies.{answered}
 use Rattle.nbd_session.specs.Session.{Feeds, Holds, State}
@@ -28,22 +28,22 @@ CuttingsAgree = (old mid two one : State) (first second : List ℕ) (asked_first
 abbrev pub FeedsLawfully : Type 0
 FeedsLawfully = (old new : State) (history : History) (piece : List ℕ) (asked : List Asked)
     → AreBytes (old.kept ++ piece) → old.export.max_payload < 2 ^ 32 → is_over old.phase ≡ false
-    → Stands old history → Feeds old piece new asked → Stands new (fed_and_asked history piece asked)
+    → HasHistory old history → Feeds old piece new asked → HasHistory new (fed_and_asked history piece asked)
 
 -- a reply to a demand leaves the session with its history, and this reply where one is owed
 abbrev pub RepliesAreLawful : Type 0
 RepliesAreLawful = (session : State) (history : History) (reply : PlainReply)
-    → Stands session history → Stands (answered session reply) (replied session history reply)
+    → HasHistory session history → HasHistory (answered session reply) (replied session history reply)
 
 -- output that is handed out leaves the session with its history, and this output
 abbrev pub OutputIsLawful : Type 0
 OutputIsLawful = (session : State) (history : History)
-    → Stands session history → Stands (record session { output = [] }) (handed_out session history)
+    → HasHistory session history → HasHistory (record session { output = [] }) (handed_out session history)
 
 -- whoever has this history put out what is lawful
 abbrev pub HistoriesAreLawful : Type 0
 HistoriesAreLawful = (session : State) (history : History)
-    → Stands session history → IsLawful session.export history.fed (sent_by session history) history.asked history.replies
+    → HasHistory session history → IsLawful session.export history.fed (sent_by session history) history.asked history.replies
 
 -- a piece after which the session still takes input leaves less than a whole thing of it
 abbrev pub FeedsTakeAll : Type 0
@@ -55,7 +55,7 @@ FeedsTakeAll = (old new : State) (piece : List ℕ) (asked : List Asked)
 -- a session that needs more is in the middle of its negotiation, or of its transcript
 abbrev pub NeedyGoOn : Type 0
 NeedyGoOn = (session : State) (history : History)
-    → Stands session history → NeedsMore session.phase session.export.max_payload session.kept → GoesOnIn session.phase session history
+    → HasHistory session history → NeedsMore session.phase session.export.max_payload session.kept → GoesOnIn session.phase session history
 
 -- the requests that stand whole in a session's input are some, and no others
 abbrev pub HoldsInOneWay : Type 0

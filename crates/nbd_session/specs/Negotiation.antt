@@ -1,9 +1,9 @@
 -- Negotiation: how the whole text from a client, the whole text to it and its end belong together.
 use Rattle.std.specs.Prelude.{◌≡◌, ◌⊎◌, ℕ, ◌+◌, ◌<◌, ◌==◌, Bool, List, ◌++◌, length, All, if◌then◌else◌}
 use Rattle.std.specs.List.{flat_map}
-use Rattle.nbd_codec.specs.ClientOption.{PlainInfo, Asks, Malformed, PlainOption, ExportName, Abort, Lists, Info, Go, Other, Oversized, IsOption, spelling}
-use Rattle.nbd_codec.specs.Findings.{IsImpossible, IsProperFront}
-use Rattle.nbd_codec.specs.Handshake.{AreFlags, flags_spelling, greeting_spelling}
+use Rattle.nbd_codec.specs.ClientOption.{PlainInfo, Asks, Malformed, PlainOption, ExportName, Abort, Lists, Info, Go, Other, Oversized, IsOption, encoding}
+use Rattle.nbd_codec.specs.Findings.{IsImpossible, IsProperPrefix}
+use Rattle.nbd_codec.specs.Handshake.{AreFlags, flags_encoding, greeting_encoding}
 use Rattle.nbd_session.specs.declared.answer.Export.{Export}
 use Rattle.nbd_session.specs.Answers.{answer_to}
 
@@ -48,9 +48,9 @@ pub record IsBid (effect : Effect) (bid : Bid) : Type 0 where
   pub passed : length bid.passed ≡ passed_len bid.option
   pub does : effect_of bid.option ≡ effect
 
--- the option's spelling, and what is passed over
-abbrev pub bid_spelling : Bid → List ℕ
-bid_spelling bid = spelling bid.option ++ bid.passed
+-- the option's encoding, and what is passed over
+abbrev pub bid_encoding : Bid → List ℕ
+bid_encoding bid = encoding bid.option ++ bid.passed
 
 -- the answer to it
 abbrev pub bid_answer : Export → Bool → Bid → List ℕ
@@ -60,8 +60,8 @@ bid_answer export no_zeroes bid = answer_to export no_zeroes bid.option
 pub record Haggled (export : Export) (no_zeroes : Bool) (from to rest : List ℕ) : Type 0 where
   pub options : List Bid
   pub each : All (IsBid Haggles) options
-  pub came : from ≡ flags_spelling (record { no_zeroes = no_zeroes }) ++ (flat_map bid_spelling options ++ rest)
-  pub went : to ≡ greeting_spelling ++ flat_map (bid_answer export no_zeroes) options
+  pub came : from ≡ flags_encoding (record { no_zeroes = no_zeroes }) ++ (flat_map bid_encoding options ++ rest)
+  pub went : to ≡ greeting_encoding ++ flat_map (bid_answer export no_zeroes) options
 
 -- behind such options came one that does this, and then this rest; its answer went out last
 pub record HasLast (export : Export) (effect : Effect) (from to rest : List ℕ) : Type 0 where
@@ -69,7 +69,7 @@ pub record HasLast (export : Export) (effect : Effect) (from to rest : List ℕ)
   pub out : List ℕ
   pub last : Bid
   pub is_bid : IsBid effect last
-  pub before : Haggled export no_zeroes from out (bid_spelling last ++ rest)
+  pub before : Haggled export no_zeroes from out (bid_encoding last ++ rest)
   pub went : to ≡ out ++ bid_answer export no_zeroes last
 
 -- an option that is too long, with less of its data than it says
@@ -77,13 +77,13 @@ pub record IsPassing (option left : ℕ) (bytes : List ℕ) : Type 0 where
   pub len : ℕ
   pub passed : List ℕ
   pub is_option : IsOption (Oversized option len)
-  pub whole : bytes ≡ spelling (Oversized option len) ++ passed
+  pub whole : bytes ≡ encoding (Oversized option len) ++ passed
   pub more : length passed + left ≡ len
   pub some : 0 < left
 
 -- what is no whole option yet
 abbrev pub IsUnfinished : List ℕ → Type 0
-IsUnfinished rest = IsProperFront spelling IsOption rest ⊎ ((option : ℕ) × (left : ℕ) × IsPassing option left rest)
+IsUnfinished rest = IsProperPrefix encoding IsOption rest ⊎ ((option : ℕ) × (left : ℕ) × IsPassing option left rest)
 
 -- how a negotiation ends, so far
 pub data End : Type 0 where
@@ -95,10 +95,10 @@ pub data End : Type 0 where
 -- ends it; transmission begins after an option that begins it
 abbrev pub Negotiation : Export → (from to : List ℕ) → End → Type 0
 Negotiation export from to GoesOn =
-    ((to ≡ greeting_spelling) × IsProperFront flags_spelling AreFlags from)
+    ((to ≡ greeting_encoding) × IsProperPrefix flags_encoding AreFlags from)
     ⊎ ((no_zeroes : Bool) × (rest : List ℕ) × Haggled export no_zeroes from to rest × IsUnfinished rest)
 Negotiation export from to IsOver =
-    ((to ≡ greeting_spelling) × IsImpossible flags_spelling AreFlags from)
-    ⊎ (((no_zeroes : Bool) × (rest : List ℕ) × Haggled export no_zeroes from to rest × IsImpossible spelling IsOption rest)
+    ((to ≡ greeting_encoding) × IsImpossible flags_encoding AreFlags from)
+    ⊎ (((no_zeroes : Bool) × (rest : List ℕ) × Haggled export no_zeroes from to rest × IsImpossible encoding IsOption rest)
     ⊎ ((rest : List ℕ) × HasLast export Ends from to rest))
 Negotiation export from to (Transmits rest) = HasLast export Begins from to rest

@@ -13,8 +13,8 @@ use Rattle.nbd_codec.specs.declared.checks.Checked.TheVariants as checks
 use Rattle.nbd_codec.specs.Checked.{checked}
 use Rattle.nbd_codec.specs.ClientOption.{PlainOption, option_in, told_of}
 use Rattle.nbd_codec.specs.Handshake.{flags_in}
-use Rattle.nbd_codec.specs.OptionReply.{option_reply_spelling}
-use Rattle.nbd_codec.specs.Reply.{spelling, Done, Refused}
+use Rattle.nbd_codec.specs.OptionReply.{option_reply_encoding}
+use Rattle.nbd_codec.specs.Reply.{encoding, Done, Refused}
 use Rattle.nbd_codec.specs.Request.{PlainRequest, head_of, payload_of, request_in}
 use Rattle.nbd_session.specs.declared.answer.Export.{Export}
 use Rattle.nbd_session.specs.declared.phase.Phase.{Phase}
@@ -99,15 +99,15 @@ abbrev pub skip_progress : Bool → (option left came : ℕ) → Option Progress
 skip_progress no_zeroes option left came =
     if came == 0 then None
     else (if nat_lt came left then Some (record { phase = Skipping no_zeroes option (left - came); used = came; output = []; asked = None })
-    else Some (record { phase = Negotiating no_zeroes; used = left; output = option_reply_spelling option ErrTooBig; asked = None }))
+    else Some (record { phase = Negotiating no_zeroes; used = left; output = option_reply_encoding option ErrTooBig; asked = None }))
 
 -- at a request of so many bytes, by what the tests of requests say of it: the volume is asked, or the one reply goes
 -- out, or the client has left
 abbrev pub checked_progress : PlainRequest → ℕ → Checked → Progress
 checked_progress request len (checks.Volume ask) =
     record { phase = Transmitting; used = len; output = []; asked = Some (asked_under (head_of request).cookie ask (payload_of request)) }
-checked_progress request len checks.Done = record { phase = Transmitting; used = len; output = spelling (Done (head_of request).cookie []); asked = None }
-checked_progress request len (checks.Refused error) = record { phase = Transmitting; used = len; output = spelling (Refused (head_of request).cookie error); asked = None }
+checked_progress request len checks.Done = record { phase = Transmitting; used = len; output = encoding (Done (head_of request).cookie []); asked = None }
+checked_progress request len (checks.Refused error) = record { phase = Transmitting; used = len; output = encoding (Refused (head_of request).cookie error); asked = None }
 checked_progress request len checks.Disconnect = record { phase = Leaving; used = len; output = []; asked = None }
 
 -- at a request, of so many bytes that came

@@ -5,7 +5,7 @@ use Rattle.flush_barrier.specs.declared.error_code.ErrorCode.TheVariants.{Io, No
 use Rattle.flush_barrier.specs.Reply.{GivenReply}
 use Rattle.nbd_codec.specs.declared.replies.NbdError.{NbdError}
 use Rattle.nbd_codec.specs.declared.replies.NbdError.TheVariants as errors
-use Rattle.nbd_codec.specs.Reply.{PlainReply, Done, Refused, spelling}
+use Rattle.nbd_codec.specs.Reply.{PlainReply, Done, Refused, encoding}
 use Rattle.nbd_session.specs.declared.phase.Phase.{Phase}
 use Rattle.nbd_session.specs.declared.phase.Phase.TheVariants.{Greeted, Negotiating, Skipping, Transmitting, Leaving, Over}
 use Rattle.nbd_session.specs.Session.{State}
@@ -43,5 +43,5 @@ abbrev pub answered : State → PlainReply → State
 answered session reply = record session {
   phase = phase_after session.phase (session.in_flight - 1);
   in_flight = session.in_flight - 1;
-  output = if is_owed session.phase session.in_flight then session.output ++ spelling reply else session.output;
+  output = if is_owed session.phase session.in_flight then session.output ++ encoding reply else session.output;
 }

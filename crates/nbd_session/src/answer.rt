@@ -1,5 +1,5 @@
 ghost use Rattle.std.specs.Prelude.{◌≡◌, ◌++◌, length, take, OnOk};
-ghost use Rattle.nbd_session.specs.Answers.{answer_spelling, information};
+ghost use Rattle.nbd_session.specs.Answers.{answer_encoding, information};
 
 use bytes::BytesMut;
 use nbd_codec::constants::OPTION_LIST;
@@ -39,7 +39,7 @@ pub(crate) enum Answer {
 impl Answer {
     /// Puts its bytes at the end. Where memory runs out, a part of them may be there.
     pub(crate) fn put(self, export: Export, out: &mut BytesMut) -> Result<(), AllocError>
-        ensures ok { OnOk result (out.new.items ≡ out.old.items ++ answer_spelling export self) }
+        ensures ok { OnOk result (out.new.items ≡ out.old.items ++ answer_encoding export self) }
         ensures front { take (length out.old.items) out.new.items ≡ out.old.items }
     {
         match self {

@@ -4,7 +4,7 @@ ghost use Rattle.nbd_codec.specs.ClientOption.{option_in};
 ghost use Rattle.nbd_codec.specs.Handshake.{flags_in};
 ghost use Rattle.nbd_codec.specs.Request.{payload_of, request_in, request_view};
 ghost use Rattle.nbd_codec.specs.Checked.{checked};
-ghost use Rattle.nbd_session.specs.Answers.{answer_spelling, info_answer};
+ghost use Rattle.nbd_session.specs.Answers.{answer_encoding, info_answer};
 ghost use Rattle.nbd_session.specs.Intake.{IsIntake, progress_of};
 ghost use Rattle.nbd_session.specs.Progress as progress;
 ghost use Rattle.nbd_session.specs.Progress.{checked_progress};
@@ -95,7 +95,7 @@ fn phase_after(no_zeroes: bool, option: ClientOption) -> Phase
 
 /// The answer that goes out at once. That to an option that is too long waits for the end of its data.
 fn answer_at_once(no_zeroes: bool, option: ClientOption) -> Answer
-    ensures { (export : Exported) → answer_spelling export result ≡ progress.output_after_option export no_zeroes option }
+    ensures { (export : Exported) → answer_encoding export result ≡ progress.output_after_option export no_zeroes option }
 {
     match option {
         ClientOption::ExportName => Answer::Exported { no_zeroes },
@@ -120,7 +120,7 @@ fn answer_at_once(no_zeroes: bool, option: ClientOption) -> Answer
 
 /// The answer to INFO and to GO.
 fn information(option: u32, asked: Information) -> Answer
-    ensures { (export : Exported) → answer_spelling export result ≡ info_answer export option asked }
+    ensures { (export : Exported) → answer_encoding export result ≡ info_answer export option asked }
 {
     match asked {
         Information::Asked {

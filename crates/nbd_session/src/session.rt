@@ -1,10 +1,10 @@
 ghost use Rattle.std.specs.Prelude.{◌≡◌, ◌+◌, ◌<◌, ◌≤◌, ◌^◌, ◌↔◌, ◌++◌, [], true, false, length, drop, map, IsTrue, IsOk, IfOk, IfErr, IfSome, OnOk, OnErr, IsErrOf, MatchOption, All, option_map, None, vec_capacity, vec_len};
 ghost use Rattle.std.specs.Option.{option_to_list};
-ghost use Rattle.nbd_codec.specs.Handshake.{greeting_spelling};
-ghost use Rattle.nbd_codec.specs.Reply.{spelling};
+ghost use Rattle.nbd_codec.specs.Handshake.{greeting_encoding};
+ghost use Rattle.nbd_codec.specs.Reply.{encoding};
 ghost use Rattle.nbd_session.specs.Demand.{IsAskedInside, IsUnnumbered, asked_by, demand_of, owed_by};
 ghost use Rattle.nbd_session.specs.Intake.{IsIntake, IsSound, behind, loaded_view, progress_of, wanted_view};
-ghost use Rattle.nbd_session.specs.Lawful.{History, NeedsMore, Stands, fed_and_asked, handed_out, most_kept, nothing, replied};
+ghost use Rattle.nbd_session.specs.Lawful.{History, NeedsMore, HasHistory, fed_and_asked, handed_out, most_kept, nothing, replied};
 ghost use Rattle.nbd_session.specs.Replies.{answered, error_of, reply_seen};
 ghost use Rattle.nbd_session.specs.Session.{Feeds, Settles};
 ghost use Rattle.nbd_session.specs.Progress.{IsPhase, is_over, phase_after, phase_at_end, progress_in};
@@ -66,8 +66,8 @@ impl Session {
         size: u64,
         max_payload: u32,
     ) -> Result<Session, AllocError>
-        ensures session { IfOk result (λ s. s ≡ record { board = board.now; id = id; export = record { size = size; max_payload = max_payload }; phase = Greeted; in_flight = 0; kept = []; output = greeting_spelling }) }
-        ensures lawful { IfOk result (λ s. Stands s nothing) }
+        ensures session { IfOk result (λ s. s ≡ record { board = board.now; id = id; export = record { size = size; max_payload = max_payload }; phase = Greeted; in_flight = 0; kept = []; output = greeting_encoding }) }
+        ensures lawful { IfOk result (λ s. HasHistory s nothing) }
     {
         let mut output = BytesMut::new(alloc);
         output.extend_from_slice(&greeting())?;
@@ -92,8 +92,8 @@ impl Session {
         ensures over { IsErrOf result Refusal.SessionOver ↔ (is_over self.old.phase ≡ true) }
         ensures err { OnErr result (self.new ≡ self.old) }
         ensures feeds { IfOk result (λ demands. Feeds self.old piece.now self.new (map asked_by demands.items)) }
-        ensures lawful { (history : History) → Stands self.old history →
-            IfOk result (λ demands. Stands self.new (fed_and_asked history piece.now (map asked_by demands.items))) }
+        ensures lawful { (history : History) → HasHistory self.old history →
+            IfOk result (λ demands. HasHistory self.new (fed_and_asked history piece.now (map asked_by demands.items))) }
         ensures takes_all { OnOk result (is_over self.new.phase ≡ false → self.new.in_flight < MAX_IN_FLIGHT →
             NeedsMore self.new.phase self.new.export.max_payload self.new.kept) }
         ensures keeps_little { OnOk result (is_over self.new.phase ≡ false → self.new.in_flight < MAX_IN_FLIGHT →
@@ -131,8 +131,8 @@ impl Session {
     pub fn done(&mut self, reply: Reply) -> Result<(), Reply>
         requires { reply.session ≡ self.old.id }
         ensures ok { OnOk result (self.new ≡ answered self.old (reply_seen reply)) }
-        ensures lawful { (history : History) → Stands self.old history →
-            OnOk result (Stands self.new (replied self.old history (reply_seen reply))) }
+        ensures lawful { (history : History) → HasHistory self.old history →
+            OnOk result (HasHistory self.new (replied self.old history (reply_seen reply))) }
         ensures back { IfErr result (λ r. r ≡ reply) }
         ensures err { OnErr result (self.new ≡ self.old) }
         ensures over { self.old.phase ≡ Over → IsOk result }
@@ -182,7 +182,7 @@ impl Session {
     pub fn output(&mut self) -> BytesMut
         ensures bytes { result.items ≡ self.old.output }
         ensures none_left { self.new ≡ record self.old { output = [] } }
-        ensures lawful { (history : History) → Stands self.old history → Stands self.new (handed_out self.old history) }
+        ensures lawful { (history : History) → HasHistory self.old history → HasHistory self.new (handed_out self.old history) }
     {
         mem::replace(&mut self.output, BytesMut::new(self.alloc))
     }
@@ -352,7 +352,7 @@ impl Session {
 
     /// Puts a reply to a demand at the end of what goes out, or leaves all as it was.
     fn put_out(&mut self, reply: &Reply) -> Result<(), AllocError>
-        ensures ok { OnOk result (self.new ≡ record self.old { output = self.old.output ++ spelling (reply_seen reply.now) }) }
+        ensures ok { OnOk result (self.new ≡ record self.old { output = self.old.output ++ encoding (reply_seen reply.now) }) }
         ensures err { OnErr result (self.new ≡ self.old) }
     {
         let outcome = match reply.error() {

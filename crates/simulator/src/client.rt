@@ -50,7 +50,7 @@ pub struct ClientRequest {
 
 impl ClientRequest {
     /// Its bytes.
-    pub(crate) fn spelled(&self, alloc: Global) -> Result<Vec<u8>, AllocError> {
+    pub(crate) fn encoded(&self, alloc: Global) -> Result<Vec<u8>, AllocError> {
         let (flags, kind) = self.kind.numbers();
         let mut header = [0; REQUEST_HEADER];
         BigEndian::write_u32(&mut header, REQUEST_MAGIC);

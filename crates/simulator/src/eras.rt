@@ -14,7 +14,7 @@ use world::World;
 /// The number of the refusal of a recovery for which no disk is returned.
 const NONE_RETURNED: u16 = 191;
 
-/// The number of the refusal for want of memory.
+/// The number of the refusal where memory runs out.
 const MEMORY: u16 = 100;
 
 impl Sim {

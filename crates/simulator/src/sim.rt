@@ -204,7 +204,7 @@ impl Sim {
             ScriptCommand::Connect { session, member } => self.connect(session, member, shown)?,
             ScriptCommand::Session { session, member } => self.session(session, member, shown)?,
             ScriptCommand::Request { session, request } => {
-                let piece = request.spelled(self.alloc)?;
+                let piece = request.encoded(self.alloc)?;
                 self.bytes(session, piece, shown)?;
             }
             ScriptCommand::Bytes { session, piece } => self.bytes(session, piece, shown)?,

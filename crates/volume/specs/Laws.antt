@@ -2,7 +2,7 @@
 use Rattle.std.specs.Prelude.{◌≡◌, ◌↔◌, ℕ, ◌+◌, ◌*◌, ◌<◌, ◌≤◌, IsTrue, All, List, [], ◌∷◌, ◌++◌, length, take, drop, replicate, filter, fold, slice_index_or}
 use Rattle.std.specs.List.{flat_map}
 use Rattle.volume.specs.Pieces.{pieces_of}
-use Rattle.volume.specs.Writes.{Placed, Fits, patched, volume_of, block_of, IsTouched, touches, Reaches}
+use Rattle.volume.specs.Writes.{Placed, Fits, patched, volume_of, block_of, IsTouched, touches, Overlaps}
 
 -- one more write is done last
 abbrev pub OneMoreIsLast : Type 0
@@ -51,7 +51,7 @@ BlocksBeginAsZeros = (size b : ℕ) → 4096 * (b + 1) ≤ size → block_of (vo
 
 -- a range that a write doesn't reach stays
 abbrev pub UnreachedRangesStay : Type 0
-UnreachedRangesStay = (volume : List ℕ) (w : Placed) (offset len : ℕ) → Fits (length volume) w → ¬ Reaches w offset len
+UnreachedRangesStay = (volume : List ℕ) (w : Placed) (offset len : ℕ) → Fits (length volume) w → ¬ Overlaps w offset len
     → take len (drop offset (patched volume w)) ≡ take len (drop offset volume)
 
 -- the bytes at a write's own place are the write's

@@ -31,5 +31,5 @@ abbrev pub touches : ℕ → Placed → Bool
 touches block w = nat_lt w.offset (4096 * block + 4096) && nat_lt (4096 * block) (w.offset + length w.bytes) && nat_lt 0 (length w.bytes)
 
 -- some byte of the write lies in the range
-abbrev pub Reaches : Placed → ℕ → ℕ → Type 0
-Reaches w offset len = (w.offset < offset + len) × (offset < w.offset + length w.bytes) × (0 < length w.bytes) × (0 < len)
+abbrev pub Overlaps : Placed → ℕ → ℕ → Type 0
+Overlaps w offset len = (w.offset < offset + len) × (offset < w.offset + length w.bytes) × (0 < length w.bytes) × (0 < len)

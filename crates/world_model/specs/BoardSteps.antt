@@ -15,7 +15,7 @@ use Rattle.chain_steps.specs.declared.found.Found.{Found}
 use Rattle.chain_steps.specs.declared.found.Found.TheVariants as founds
 use Rattle.world_model.specs.Backing.{Disk, IsBacked}
 use Rattle.world_model.specs.BackingSteps.{all_rise, backs_committed, backs_more_disk}
-use Rattle.world_model.specs.Chain.{AreBefore, ArePutOut, Member, StandsFor, StandsWith, Told, View, disk_of, hop_of, next_of, raised_by, requests_of, slot_of}
+use Rattle.world_model.specs.Chain.{AreBefore, ArePutOut, Member, StandsFor, StandsWith, BoardInUse, View, disk_of, hop_of, next_of, raised_by, requests_of, slot_of}
 use Rattle.world_model.specs.ChainLaws.{IsOnEachDisk, TakesAck, with_members}
 use Rattle.world_model.specs.ChainSteps.{all_between, around, flat_same, flat_split, goes_on, lengths_same, looked_of, maps_same, plays_of, requests_split, tickets_keep, tickets_same}
 use Rattle.world_model.specs.Counting.{all_at, all_before, all_behind}
@@ -157,7 +157,7 @@ takes_ack_of size v above m next below k rest acks events first are out s stands
 -- ---- the board
 
 -- what of the board is in use changes, but not its front
-pub tells : (size : ℕ) (v : View) (w : Told) → w.front ≡ v.told.front
+pub tells : (size : ℕ) (v : View) (w : BoardInUse) → w.front ≡ v.told.front
     → (IsBacked v.told.front v.told.mask v.told.gauges v.told.receipts v.told.musters (map disk_of v.members) → IsBacked w.front w.mask w.gauges w.receipts w.musters (map disk_of v.members))
     → (All (λ front. front ≤ v.told.front) v.told.fronts → All (λ front. front ≤ w.front) w.fronts)
     → Plays size (StandsFor size v) (StandsFor size (record v { told = w })) []

@@ -35,7 +35,7 @@ pub record Member : Type 0 where
 
 -- the board, and what of it is in use: the committed front, the mask of counted slots and their gauges; the fronts that were
 -- looked up, each for a muster to come; the musters that began; and the receipts that aren't posted
-pub record Told : Type 0 where
+pub record BoardInUse : Type 0 where
   pub front : ℕ
   pub mask : ℕ
   pub gauges : List Receipt
@@ -46,7 +46,7 @@ pub record Told : Type 0 where
 -- a chain: its board, its members from the head to the tail, and for each session the requests that stand whole in its kept
 -- input
 pub record View : Type 0 where
-  pub told : Told
+  pub told : BoardInUse
   pub members : List Member
   pub kept : List (List Held)
 

@@ -16,9 +16,9 @@ use Rattle.chain_steps.specs.declared.cause.Cause.{Cause}
 use Rattle.chain_steps.specs.declared.found.Found.TheVariants.{Raised, Looked}
 use Rattle.chain_steps.specs.declared.waiting.WriteToken.{WriteToken}
 use Rattle.world_model.specs.Backing.{IsBacked}
-use Rattle.world_model.specs.Chain.{ArePutOut, Member, StandsFor, Ticketed, Told, View, by_member, disk_of, slot_of}
+use Rattle.world_model.specs.Chain.{ArePutOut, Member, StandsFor, Ticketed, BoardInUse, View, by_member, disk_of, slot_of}
 use Rattle.world_model.specs.Event.{Answered, ClientEvent, Done, Failed, Read}
-use Rattle.world_model.specs.Machine.{IsFlush, May, Plays, Restart, State, after, start, volume_at, written}
+use Rattle.world_model.specs.Machine.{IsFlush, May, Plays, Restart, State, after, start, machine_volume, written}
 use Rattle.world_model.specs.Requests.{Held, IsNew, IsOfKind, sent_event}
 
 -- the chain with these members
@@ -144,7 +144,7 @@ Stops = (size : ℕ) (v : View) (above : List Member) (m : Member) (below : List
 
 -- What of the board is in use changes, but not its front: what is told of the disks is so still.
 abbrev pub TellsDisks : Type 0
-TellsDisks = (size : ℕ) (v : View) (w : Told) → w.front ≡ v.told.front
+TellsDisks = (size : ℕ) (v : View) (w : BoardInUse) → w.front ≡ v.told.front
     → (IsBacked v.told.front v.told.mask v.told.gauges v.told.receipts v.told.musters (map disk_of v.members) → IsBacked w.front w.mask w.gauges w.receipts w.musters (map disk_of v.members))
     → (All (λ front. front ≤ v.told.front) v.told.fronts → All (λ front. front ≤ w.front) w.fronts)
     → Plays size (StandsFor size v) (StandsFor size (record v { told = w })) []
@@ -174,7 +174,7 @@ TakesUp = (size : ℕ) (v : View) (above : List Member) (m : Member) (below : Li
 abbrev pub IsOnEachDisk : Type 0
 IsOnEachDisk = (size : ℕ) (v : View) (above : List Member) (m : Member) (below : List Member) (s : State) (p : ℕ) → StandsFor size (with_members v (above ++ m ∷ below)) s
     → m.node.table.forgotten ≤ p → p ≤ m.node.known
-    → (s.owed ≤ p) × (p ≤ length s.taken) × (fold patched m.volume (writes_upto m.node.table p) ≡ volume_at size s p)
+    → (s.owed ≤ p) × (p ≤ length s.taken) × (fold patched m.volume (writes_upto m.node.table p) ≡ machine_volume size s p)
 
 -- ---- beginning, and beginning again
 

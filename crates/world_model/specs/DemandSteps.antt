@@ -16,7 +16,7 @@ use Rattle.chain_steps.specs.declared.waiting.Waiting.{Waiting}
 use Rattle.chain_steps.specs.declared.waiting.Waiting.TheVariants as tokens
 use Rattle.world_model.specs.Counting.{Split, all_at, all_before, all_behind, all_in, all_set, all_without, count-append, count_forgotten, count-one, count_set, count-without, flat_insert_none, map_gets, map_splits, none_counted, one_if, one_if-false, one_if-same, one_if-true}
 use Rattle.world_model.specs.Event.{Answered, Done, Failed, Read, Request}
-use Rattle.world_model.specs.Machine.{AnswerRead, Asked, IsFlush, IsRead, May, Refuse, Send, State, Taken, Waits, after as state_after, range_of, told, volume_at, written}
+use Rattle.world_model.specs.Machine.{AnswerRead, Asked, IsFlush, IsRead, May, Refuse, Send, State, Taken, Waits, after as state_after, range_of, told, machine_volume, written}
 use Rattle.world_model.specs.Requests.{AreApart, Bound, Entry, Held, IsBound, IsNew, IsNumbered, IsOfKind, IsOfOrigin, IsOfTicket, IsSent, IsUnused, MayAnswer, Names, Owing, Requests, Sending, StandsFor, StandsUnder, Submitted, count_asked, count_line, count_submits, count_tokens, held_of, later, origin_of, sent_event, ticket_of}
 use Rattle.world_model.specs.Runs.{plays_one, plays_then, sound_step}
 use Rattle.world_model.specs.Sound.{IsSound, kept_as}
@@ -163,7 +163,7 @@ module _ (backed : ℕ) (r : Requests) (s : State) (names : Names) (stands : Sta
       ∙ map-map f (λ (e : Entry). (e.name, e.kept.write)) (take r.front names.line)
 
   -- the volume after them is the machine's
-  volume_is : (size : ℕ) → volume_at size s r.front ≡ volume_of size (map (λ k. k.write) (take r.front r.line))
+  volume_is : (size : ℕ) → machine_volume size s r.front ≡ volume_of size (map (λ k. k.write) (take r.front r.line))
   volume_is size =
       let whole : take r.front s.taken ≡ s.taken = take_all r.front s.taken (omega (arith, stands.committed)) in
       let line : map (λ (e : Entry). e.kept) (take r.front names.line) ≡ take r.front r.line = sym (take-map (λ (e : Entry). e.kept) r.front names.line) ∙ ap (take r.front) stands.named.line in
@@ -509,12 +509,12 @@ module _ (size backed : ℕ) (r : Requests) (h : Held) (before after : List Held
       let request : a.request ≡ Read offset len = ap (λ (x : Held). x.request) at.mid_is ∙ reads in
       let marked : a.mark ≤ length s.taken = All-contains (λ (b : Asked). b.mark ≤ length s.taken) s.sent a stands.sound.marks_taken waits.0 in
       let may : May s (AnswerRead a r.front) = (waits, subst IsRead (sym request) tt, omega (arith, stands.committed), omega (arith, stands.committed)) in
-      let bytes : range_of a.request (volume_at size s r.front) ≡ take len (drop offset (volume_of size (map (λ k. k.write) (take r.front r.line)))) =
-      ap (λ (q : Request). range_of q (volume_at size s r.front)) request ∙ ap (λ (l : List ℕ). take len (drop offset l)) (volume_is backed r s names stands size) in (
+      let bytes : range_of a.request (machine_volume size s r.front) ≡ take len (drop offset (volume_of size (map (λ k. k.write) (take r.front r.line)))) =
+      ap (λ (q : Request). range_of q (machine_volume size s r.front)) request ∙ ap (λ (l : List ℕ). take len (drop offset l)) (volume_is backed r s names stands size) in (
         AnswerRead a r.front,
         tt,
         may,
-        ap (λ (x : Held). Answered x.session x.cookie (Done (range_of a.request (volume_at size s r.front))) ∷ []) at.mid_is ∙ ap (λ (l : List ℕ). Answered h.session h.cookie (Done l) ∷ []) bytes,
+        ap (λ (x : Held). Answered x.session x.cookie (Done (range_of a.request (machine_volume size s r.front))) ∷ []) at.mid_is ∙ ap (λ (l : List ℕ). Answered h.session h.cookie (Done l) ∷ []) bytes,
         demand_told backed r s names stands at.left a at.right at.is (before ++ after) (others_are names at) (sound_step s (AnswerRead a r.front) stands.sound may),
       ))
 

@@ -14,7 +14,7 @@ use Rattle.chain_steps.specs.declared.cause.Cause.{Cause}
 use Rattle.chain_steps.specs.declared.found.Found.TheVariants.{Raised, Looked}
 use Rattle.chain_steps.specs.declared.waiting.WriteToken.{WriteToken}
 use Rattle.world_model.specs.Backing.{IsBacked}
-use Rattle.world_model.specs.Chain.{ArePutOut, Member, StandsFor, Ticketed, Told, View, by_member, disk_of}
+use Rattle.world_model.specs.Chain.{ArePutOut, Member, StandsFor, Ticketed, BoardInUse, View, by_member, disk_of}
 use Rattle.world_model.specs.ChainLaws.{IsBeginning, sent_on, with_members}
 use Rattle.world_model.specs.Event.{Answered, ClientEvent, Done, Failed, Read}
 use Rattle.world_model.specs.Machine.{IsFlush, May, Move, Plays, Restart, RunsOn, State, after, shown, start, written}
@@ -154,7 +154,7 @@ pub record IsRaised (v w : View) : Type 0 where
 
 -- what of the board is in use changes, but not its front, and what it tells of the disks is so
 pub record IsTold (v w : View) : Type 0 where
-  pub told : Told
+  pub told : BoardInUse
   pub front : told.front ≡ v.told.front
   pub backed : IsBacked v.told.front v.told.mask v.told.gauges v.told.receipts v.told.musters (map disk_of v.members) → IsBacked told.front told.mask told.gauges told.receipts told.musters (map disk_of v.members)
   pub fronts : All (λ f. f ≤ v.told.front) v.told.fronts → All (λ f. f ≤ told.front) told.fronts

@@ -36,8 +36,8 @@ abbrev pub start : State
 start = record { taken = []; owed = 0; sent = []; waiting = []; events = 0 }
 
 -- the volume of this many bytes after the first writes taken
-abbrev pub volume_at : ℕ → State → ℕ → List ℕ
-volume_at size s front = volume_of size (map (λ t. t.write) (take front s.taken))
+abbrev pub machine_volume : ℕ → State → ℕ → List ℕ
+machine_volume size s front = volume_of size (map (λ t. t.write) (take front s.taken))
 
 -- the place of the last write that was answered, or 0
 abbrev pub last_answered : ℕ → List Taken → ℕ
@@ -145,7 +145,7 @@ shows size s (Take asked write) = []
 shows size s (AnswerWrite asked place) = Answered asked.session asked.cookie (Done []) ∷ []
 shows size s (AnswerFua asked place) = Answered asked.session asked.cookie (Done []) ∷ []
 shows size s (AnswerFlush asked) = Answered asked.session asked.cookie (Done []) ∷ []
-shows size s (AnswerRead asked front) = Answered asked.session asked.cookie (Done (range_of asked.request (volume_at size s front))) ∷ []
+shows size s (AnswerRead asked front) = Answered asked.session asked.cookie (Done (range_of asked.request (machine_volume size s front))) ∷ []
 shows size s (Refuse asked error) = Answered asked.session asked.cookie (Failed error) ∷ []
 shows size s (Restart front) = []
 

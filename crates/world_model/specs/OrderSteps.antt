@@ -140,15 +140,15 @@ from_place [] n = n
 from_place (h ∷ hs) n = from_place hs (one_less n)
 
 -- what a hop knows, and whether it has all that is committed
-abbrev pub Reaches : ℕ → ℕ → Hop → Type 0
-Reaches n front h = Knows front h.acks h.table.forgotten h.known (applied_of h.table) × Has n front h.acks (applied_of h.table)
+abbrev pub KnowsAndHas : ℕ → ℕ → Hop → Type 0
+KnowsAndHas n front h = Knows front h.acks h.table.forgotten h.known (applied_of h.table) × Has n front h.acks (applied_of h.table)
 
 fronts_one : (n front : ℕ) (above : List Hop) (h g : Hop) (below : List Hop) → AreFronts n front (above ++ h ∷ below)
-    → ((m : ℕ) → Reaches m front h → Reaches m front g) → AreFronts n front (above ++ g ∷ below)
+    → ((m : ℕ) → KnowsAndHas m front h → KnowsAndHas m front g) → AreFronts n front (above ++ g ∷ below)
 fronts_one n front [] h g below (knows, has, rest) keeps = let (knows_too, has_too) = keeps n (knows, has) in (knows_too, has_too, rest)
 fronts_one n front (x ∷ above) h g below (knows, has, rest) keeps = (knows, has, fronts_one (one_less n) front above h g below rest keeps)
 
-pub reaches_at : (n front : ℕ) (above : List Hop) (h : Hop) (below : List Hop) → AreFronts n front (above ++ h ∷ below) → Reaches (from_place above n) front h
+pub reaches_at : (n front : ℕ) (above : List Hop) (h : Hop) (below : List Hop) → AreFronts n front (above ++ h ∷ below) → KnowsAndHas (from_place above n) front h
 reaches_at n front [] h below (knows, has, rest) = (knows, has)
 reaches_at n front (x ∷ above) h below (knows, has, rest) = reaches_at (one_less n) front above h below rest
 
@@ -167,7 +167,7 @@ module _ (size n front : ℕ) (line : List Kept) where
   -- a member changes, and has applied what it had
   pub chain_one : (above : List Hop) (h g : Hop) (below : List Hop) → IsChain size n front line (above ++ h ∷ below) → g.puts ≡ h.puts
       → ((own : List Kept) → HasApplied size own h.volume h.table → HasApplied size own g.volume g.table)
-      → ((m : ℕ) → Reaches m front h → Reaches m front g) → IsChain size n front line (above ++ g ∷ below)
+      → ((m : ℕ) → KnowsAndHas m front h → KnowsAndHas m front g) → IsChain size n front line (above ++ g ∷ below)
   chain_one above h g below is same keeps reaches = record {
     numbered = is.numbered;
     committed = is.committed;
@@ -199,7 +199,7 @@ module _ (size n front : ℕ) (line : List Kept) where
       has_more zero f acks last has = has
       has_more (suc m) f acks last has = omega arith
 
-      reaches_more : (f : ℕ) (x : Kept) (others : List Kept) (g : Hop) (m : ℕ) → Reaches m f g → Reaches m f (record (with_applied x g) { puts = others })
+      reaches_more : (f : ℕ) (x : Kept) (others : List Kept) (g : Hop) (m : ℕ) → KnowsAndHas m f g → KnowsAndHas m f (record (with_applied x g) { puts = others })
       reaches_more f x others g m (knows, has) =
           let one : g.table.forgotten + length (g.table.kept ++ x ∷ []) ≡ g.table.forgotten + length g.table.kept + 1 = omega (arith, length_push g.table.kept x) in
           subst (λ (last : ℕ). Knows f g.acks g.table.forgotten g.known last × Has m f g.acks last) (sym one) (
@@ -268,7 +268,7 @@ module _ (size n front : ℕ) (line : List Kept) where
       among (suc m) [] fronts = omega arith
       among (suc m) (u ∷ us) (knows, has, rest) = omega (arith, among m us rest)
 
-      fewer : (m : ℕ) → Reaches m front h → Reaches m front (record h { acks = acks })
+      fewer : (m : ℕ) → KnowsAndHas m front h → KnowsAndHas m front (record h { acks = acks })
       fewer zero (knows, has) = absurd cc
       fewer (suc m) (knows, has) = (
         record {

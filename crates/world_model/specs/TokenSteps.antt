@@ -18,7 +18,7 @@ use Rattle.chain_steps.specs.declared.waiting.Waiting.{Waiting}
 use Rattle.chain_steps.specs.declared.waiting.Waiting.TheVariants as tokens
 use Rattle.world_model.specs.Counting.{all_at, all_before, all_behind, all_got, all_without, count-append, count-cons, count-one, count-without, get_left, map_gets, map_splits, none_passes, one_if, one_if-same, one_if-true}
 use Rattle.world_model.specs.Event.{Answered, Done, Failed, Outcome, Read, Request}
-use Rattle.world_model.specs.Machine.{AnswerFlush, AnswerFua, AnswerRead, AnswerWrite, Asked, GoesOn, IsAt, IsFlush, IsFua, IsPlain, IsRead, May, Move, Refuse, Restart, State, Take, Taken, Waits, after, answered_at, range_of, shows, start, told, volume_at}
+use Rattle.world_model.specs.Machine.{AnswerFlush, AnswerFua, AnswerRead, AnswerWrite, Asked, GoesOn, IsAt, IsFlush, IsFua, IsPlain, IsRead, May, Move, Refuse, Restart, State, Take, Taken, Waits, after, answered_at, range_of, shows, start, told, machine_volume}
 use Rattle.world_model.specs.Requests.{AreNamesOf, Bound, Entry, IsBound, IsFresh, IsNumbered, IsOfKind, IsOfNumber, IsOfOrigin, IsOfTicket, IsSent, Looked, MayAnswer, Names, Owing, Requests, Sending, StandsFor, StandsUnder, Submitted, count_line, count_submits, count_tokens, later, named_writes, origin_of}
 use Rattle.world_model.specs.Runs.{length-writes_of, plays_one, plays_then, sound_start, sound_step, writes-answered_at}
 use Rattle.world_model.specs.Sound.{IsSound, writes_of}
@@ -463,10 +463,10 @@ module _ (size backed : ℕ) (r : Requests) (o : Owing) (first last : List Owing
       let reads : IsRead a.request = subst IsRead (sym request) tt in
       let marked : a.mark ≤ l.front = subst (MayAnswer l.front a) (ap (λ (x : Owing). x.token) found.mid_is ∙ is) (found_fresh s names found l among same) in
       let may : May s (AnswerRead a j) = (found_waits s names found, reads, omega (arith, marked), omega (arith, found.stands.committed)) in
-      let volume_is : volume_at size s j ≡ volume_of size (map (λ (k : Kept). k.write) (take j r.line)) =
+      let volume_is : machine_volume size s j ≡ volume_of size (map (λ (k : Kept). k.write) (take j r.line)) =
       ap (volume_of size) (first_writes_are backed r s (record names { tokens = found.left ++ found.mid ∷ found.right }) found.stands j high) in
-      let bytes : range_of a.request (volume_at size s j) ≡ take len (drop offset (volume_of size (map (λ (k : Kept). k.write) (take j r.line)))) =
-      ap (λ (q : Request). range_of q (volume_at size s j)) request ∙ ap (λ (v : List ℕ). take len (drop offset v)) volume_is in
+      let bytes : range_of a.request (machine_volume size s j) ≡ take len (drop offset (volume_of size (map (λ (k : Kept). k.write) (take j r.line)))) =
+      ap (λ (q : Request). range_of q (machine_volume size s j)) request ∙ ap (λ (v : List ℕ). take len (drop offset v)) volume_is in
       record {
         move = AnswerRead a j;
         goes = tt;

@@ -1,4 +1,4 @@
-use Rattle.configurations.proofs.Spellings.{header_found}
+use Rattle.configurations.proofs.Encodings.{header_found}
 use Rattle.configurations.proofs.reading.read_header.Goals as goal
 
 pub returns-clause-header : goal.returns-clause-header

@@ -1,7 +1,7 @@
 use Rattle.std.proofs.Common.{ℕ, ◌<◌, ◌≡◌, length, get_or, ap, sym, subst, ◌∙◌, arith}
 use Rattle.std.proofs.lemmas.List.{length-take}
 use Rattle.std.proofs.lemmas.Nat.{be_bytes_8}
-use Rattle.configurations.proofs.Spellings.{IsBytes-take, number_in_front}
+use Rattle.configurations.proofs.Encodings.{IsBytes-take, number_in_front}
 use Rattle.configurations.proofs.reading.read_u64.Goals as goal
 
 pub returns-clause-read : goal.returns-clause-read

@@ -4,8 +4,8 @@ use Rattle.disk_model.specs.Disk.{Torn}
 use Rattle.disk_model.specs.Frames.{touches_then}
 use Rattle.disk_model.specs.Moments.{then_run, weaker}
 use Rattle.disk_model.specs.Part.{inside}
-use Rattle.gate_journal.specs.Pair.{Entry, HoldsSlot, IsEntry, entry_body, entry_spelling}
-use Rattle.gate_journal.specs.Reading.{Stands}
+use Rattle.gate_journal.specs.Pair.{Entry, HoldsSlot, IsEntry, entry_body, entry_encoding}
+use Rattle.gate_journal.specs.Reading.{HoldsAt}
 use Rattle.gate_journal.specs.Runs.{WasTorn}
 use Rattle.gate_journal.proofs.Entries.{behind_torn, entry_stands, opening_torn}
 use Rattle.gate_journal.proofs.Standing.{length-inside}
@@ -31,7 +31,7 @@ returns-clause-bytes g c = λ keeps.
     let last = c.write_durably-2.new.disk in
     let long : length (inside part (disk.gives from)) ≡ part.len = length-inside part (disk.gives from) (disk.size from) (g.met.D.Disk.gives_size keeps from) c.requires.on_disk in
     on_ok_weaker c.write_durably-2.result
-    (entry_stands new (inside part (disk.gives from)) (inside part (disk.gives mid)) (inside part (disk.gives last)) _ c.spelled_body-body.ensures (omega (arith, long, c.requires.slot, c.requires.fits)) (c.in_ok-write_durably.ensures.gives keeps))
+    (entry_stands new (inside part (disk.gives from)) (inside part (disk.gives mid)) (inside part (disk.gives last)) _ c.encoded_body-body.ensures (omega (arith, long, c.requires.slot, c.requires.fits)) (c.in_ok-write_durably.ensures.gives keeps))
     (c.write_durably-2.ensures.gives keeps)
 
 pub returns-clause-any_moment : goal.returns-clause-any_moment
@@ -52,7 +52,7 @@ returns-clause-any_moment g c = λ keeps closed durable.
     (λ d (y, was, torn). inl (behind_torn _ x (inside part d) closed (subst (λ (l : List ℕ). Torn 1 _ l (inside part d)) (durable y was) torn)))
     (c.write_durably.ensures.any_moment keeps))
     (weaker disk.moment disk.may_have_left_since mid last (WasTorn part 0 1 (disk.may_leave_now mid)) Q
-    (λ d (y, was, torn). opening_torn new is_new _ c.spelled_body-body.ensures x (inside part (disk.gives mid)) (inside part d) closed put (subst (λ (l : List ℕ). Torn 0 1 l (inside part d)) (only y was) torn))
+    (λ d (y, was, torn). opening_torn new is_new _ c.encoded_body-body.ensures x (inside part (disk.gives mid)) (inside part d) closed put (subst (λ (l : List ℕ). Torn 0 1 l (inside part d)) (only y was) torn))
     (c.write_durably-2.ensures.any_moment keeps))
 
 pub returns-clause-frame : goal.returns-clause-frame

@@ -3,7 +3,7 @@ use Rattle.std.specs.Prelude.{zip}
 use Rattle.std.specs.List.{AllZip}
 use Rattle.std.proofs.lemmas.List.{append_assoc, length-append, length-take-le, take-append-drop, take_all, take_more}
 use Rattle.life.specs.Begun.{export_of}
-use Rattle.life.specs.Headline.{Told, told_in}
+use Rattle.life.specs.Headline.{Trace, told_in}
 use Rattle.life.specs.Lived.{Lives}
 use Rattle.life.specs.declared.era.Answers.{Answers}
 use Rattle.life.specs.declared.era.Era.{Era}
@@ -53,7 +53,7 @@ loop-era-preserved c =
           (subst (λ (l : List Answers). PlayedOnDisks c.args.geometry c.args.members (take i eras ++ era ∷ []) l c.in_ok-told.next) (sym items)
           (plays_on (Unit {0}) about_of_store keeps_volume pends_in leaves_now moment_in left_in failures_in disk_in c.args.geometry c.args.members (take i eras) answers c.loop-era.world c.in_ok-told.next era these inv.plays c.in_ok-told.ensures.plays));
       disks = c.in_ok-told.ensures.disks;
-      lives = subst (λ (l : List Told). Lives about_of_store keeps_volume leaves_now (4096 * c.args.geometry.blocks) (export_of c.args.geometry) l c.in_ok-told.next) (sym told)
+      lives = subst (λ (l : List Trace). Lives about_of_store keeps_volume leaves_now (4096 * c.args.geometry.blocks) (export_of c.args.geometry) l c.in_ok-told.next) (sym told)
           (lives_on about_of_store keeps_volume leaves_now (export_of c.args.geometry) (told_in (take i eras) answers) (zip era.deeds.items c.in_ok-told.told.items) c.loop-era.world c.in_ok-told.next inv.lives c.in_ok-told.ensures.continues);
       all = subst (λ (l : List Era). AllZip IsAll l new) (sym here)
           (subst (AllZip IsAll (take i eras ++ era ∷ [])) (sym items) (all_more IsAll (take i eras) answers era these inv.all c.in_ok-told.ensures.all));

@@ -1,7 +1,7 @@
 use Rattle.std.proofs.Common.{◌≡◌, ◌+◌, ◌++◌, [], ◌∷◌, List, length, take, refl, ap, subst, sym, ◌∙◌, arith}
 use Rattle.std.specs.Prelude.{zip}
 use Rattle.std.proofs.lemmas.List.{length-append, length-take-le, take_all, take_more}
-use Rattle.life.specs.Headline.{Told, fed_in, handed_in}
+use Rattle.life.specs.Headline.{Trace, fed_in, handed_in}
 use Rattle.life.specs.Passing.{PassAsOne}
 use Rattle.life.specs.declared.answer.Answer.{Answer}
 use Rattle.life.specs.declared.era.Deed.{Deed}
@@ -41,7 +41,7 @@ loop-deed-preserved c =
       plays = subst (λ (l : List Deed). LeadOnDisks l c.push_reserved.new.self.items c.args.world.now c.play_deed.new.world) (sym here)
           (subst (λ (l : List Answer). LeadOnDisks (take i deeds ++ deed ∷ []) l c.args.world.now c.play_deed.new.world) (sym items)
           (leads_more (Unit {0}) about_of_store keeps_volume pends_in leaves_now moment_in left_in failures_in disk_in (take i deeds) answers c.args.world.now c.loop-deed.world c.play_deed.new.world deed answer inv.plays c.play_deed.ensures.does));
-      pass = subst (λ (l : Told). PassAsOne about_of_store keeps_volume leaves_now (fed_in l) (handed_in l) c.args.world.now c.play_deed.new.world) (sym told)
+      pass = subst (λ (l : Trace). PassAsOne about_of_store keeps_volume leaves_now (fed_in l) (handed_in l) c.args.world.now c.play_deed.new.world) (sym told)
           (pass_more about_of_store keeps_volume leaves_now c.lives_are_of_one_volume.ensures.happenings c.args.world.now c.loop-deed.world c.play_deed.new.world c.sound.ensures.joined c.sound-in-loop-deed.ensures.joined
           (zip (take i deeds) answers) deed answer inv.pass c.play_deed.ensures.one_volume);
       many = let sum = length-append answers (answer ∷ []) in omega (arith, inv.many, ap length items, sum);

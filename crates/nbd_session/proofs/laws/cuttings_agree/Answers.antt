@@ -9,4 +9,4 @@ returns-clause-cuttings c =
     let flags = c.client_flags_are_apart.ensures in
     let options = c.options_are_apart.ensures in
     let requests = c.requests_are_apart.ensures in
-    cuttings flags.kept flags.spelled options.kept options.spelled requests.kept requests.spelled
+    cuttings flags.kept flags.encoded options.kept options.encoded requests.kept requests.encoded

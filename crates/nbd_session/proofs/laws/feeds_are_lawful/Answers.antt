@@ -7,14 +7,14 @@ pub returns-clause-lawful : goal.returns-clause-lawful
 returns-clause-lawful c = histories_are_lawful
 
 pub returns-clause-feeds : goal.returns-clause-feeds
-returns-clause-feeds c = settles_lawfully c.client_flags_are_apart.ensures.spelled c.options_are_apart.ensures.spelled c.requests_are_apart.ensures.spelled limit_in_flight
+returns-clause-feeds c = settles_lawfully c.client_flags_are_apart.ensures.encoded c.options_are_apart.ensures.encoded c.requests_are_apart.ensures.encoded limit_in_flight
 
 pub returns-clause-all : goal.returns-clause-all
 returns-clause-all c =
     let flags = c.client_flags_are_apart.ensures in
     let options = c.options_are_apart.ensures in
     let requests = c.requests_are_apart.ensures in
-    feeds_take_all flags.spelled flags.short options.spelled options.short requests.spelled requests.short
+    feeds_take_all flags.encoded flags.short options.encoded options.short requests.encoded requests.short
 
 pub returns-clause-needy : goal.returns-clause-needy
 returns-clause-needy c = needy_go_on

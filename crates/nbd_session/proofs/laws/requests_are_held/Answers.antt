@@ -12,14 +12,14 @@ returns-clause-some c =
     let flags = c.client_flags_are_apart.ensures in
     let options = c.options_are_apart.ensures in
     let requests = c.requests_are_apart.ensures in
-    holds_some flags.spelled flags.long options.spelled options.long requests.spelled requests.long
+    holds_some flags.encoded flags.long options.encoded options.long requests.encoded requests.long
 
 pub returns-clause-more : goal.returns-clause-more
 returns-clause-more c =
     let flags = c.client_flags_are_apart.ensures in
     let options = c.options_are_apart.ensures in
     let requests = c.requests_are_apart.ensures in
-    pieces_add flags.kept flags.spelled flags.long options.kept options.spelled options.long requests.kept requests.spelled requests.long
+    pieces_add flags.kept flags.encoded flags.long options.kept options.encoded options.long requests.kept requests.encoded requests.long
 
 pub returns-clause-replies : goal.returns-clause-replies
 returns-clause-replies c = replies_keep

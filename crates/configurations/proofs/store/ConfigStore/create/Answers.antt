@@ -1,6 +1,6 @@
 use Rattle.std.proofs.Common.{◌∙◌}
 use Rattle.disk_model.specs.Moments.{started, weaker}
-use Rattle.configurations.specs.Record.{IsSpelling}
+use Rattle.configurations.specs.Record.{IsEncoding}
 use Rattle.configurations.proofs.Openings.{made_with, not_begun}
 use Rattle.configurations.proofs.store.ConfigStore.create.Goals as goal
 
@@ -14,12 +14,12 @@ pub returns-in_err-pair-clause-any_moment : goal.returns-in_err-pair-clause-any_
 returns-in_err-pair-clause-any_moment g c = λ keeps.
     let disk = g.D.Disk in
     let old = c.args.disk.now in
-    let spells : IsSpelling c.deref.result.now c.args.first = record { is = c.in_ok-payload.ensures.whole; spelled = c.deref.ensures.value ∙ c.in_ok-payload.ensures.spelling } in
-    weaker disk.moment disk.may_have_left_since old c.create.new.disk _ _ (made_with c.args.part c.args.first c.deref.result.now (disk.may_leave_now old) spells) (c.create.ensures.any_moment keeps)
+    let encodes : IsEncoding c.deref.result.now c.args.first = record { is = c.in_ok-payload.ensures.whole; encoded = c.deref.ensures.value ∙ c.in_ok-payload.ensures.encoding } in
+    weaker disk.moment disk.may_have_left_since old c.create.new.disk _ _ (made_with c.args.part c.args.first c.deref.result.now (disk.may_leave_now old) encodes) (c.create.ensures.any_moment keeps)
 
 pub returns-clause-any_moment : goal.returns-clause-any_moment
 returns-clause-any_moment g c = λ keeps.
     let disk = g.D.Disk in
     let old = c.args.disk.now in
-    let spells : IsSpelling c.deref.result.now c.args.first = record { is = c.in_ok-payload.ensures.whole; spelled = c.deref.ensures.value ∙ c.in_ok-payload.ensures.spelling } in
-    weaker disk.moment disk.may_have_left_since old c.create.new.disk _ _ (made_with c.args.part c.args.first c.deref.result.now (disk.may_leave_now old) spells) (c.create.ensures.any_moment keeps)
+    let encodes : IsEncoding c.deref.result.now c.args.first = record { is = c.in_ok-payload.ensures.whole; encoded = c.deref.ensures.value ∙ c.in_ok-payload.ensures.encoding } in
+    weaker disk.moment disk.may_have_left_since old c.create.new.disk _ _ (made_with c.args.part c.args.first c.deref.result.now (disk.may_leave_now old) encodes) (c.create.ensures.any_moment keeps)

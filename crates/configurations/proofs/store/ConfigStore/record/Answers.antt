@@ -1,5 +1,5 @@
 use Rattle.std.proofs.Common.{◌∙◌}
-use Rattle.configurations.specs.Record.{IsSpelling}
+use Rattle.configurations.specs.Record.{IsEncoding}
 use Rattle.configurations.proofs.Stores.{either_before, either_storing}
 use Rattle.configurations.proofs.store.ConfigStore.record.Goals as goal
 
@@ -16,11 +16,11 @@ returns-in_err-payload-clause-any_moment g c = λ keeps settled.
 pub returns-in_err-_receipt-clause-any_moment : goal.returns-in_err-_receipt-clause-any_moment
 returns-in_err-_receipt-clause-any_moment g c = λ keeps.
     let laws = c.stores_leave_old_or_new.ensures in
-    let spells : IsSpelling c.deref.result.now c.args.next = record { is = c.in_ok-payload.ensures.whole; spelled = c.deref.ensures.value ∙ c.in_ok-payload.ensures.spelling } in
-    either_storing _ _ c.self.view_is g.D.Disk.moment g.D.Disk.may_have_left_since c.args.disk.now c.store.new.disk laws.old laws.new _ _ spells (c.store.ensures.any_moment keeps)
+    let encodes : IsEncoding c.deref.result.now c.args.next = record { is = c.in_ok-payload.ensures.whole; encoded = c.deref.ensures.value ∙ c.in_ok-payload.ensures.encoding } in
+    either_storing _ _ c.self.view_is g.D.Disk.moment g.D.Disk.may_have_left_since c.args.disk.now c.store.new.disk laws.old laws.new _ _ encodes (c.store.ensures.any_moment keeps)
 
 pub returns-clause-any_moment : goal.returns-clause-any_moment
 returns-clause-any_moment g c = λ keeps.
     let laws = c.stores_leave_old_or_new.ensures in
-    let spells : IsSpelling c.deref.result.now c.args.next = record { is = c.in_ok-payload.ensures.whole; spelled = c.deref.ensures.value ∙ c.in_ok-payload.ensures.spelling } in
-    either_storing _ _ c.self.view_is g.D.Disk.moment g.D.Disk.may_have_left_since c.args.disk.now c.store.new.disk laws.old laws.new _ _ spells (c.store.ensures.any_moment keeps)
+    let encodes : IsEncoding c.deref.result.now c.args.next = record { is = c.in_ok-payload.ensures.whole; encoded = c.deref.ensures.value ∙ c.in_ok-payload.ensures.encoding } in
+    either_storing _ _ c.self.view_is g.D.Disk.moment g.D.Disk.may_have_left_since c.args.disk.now c.store.new.disk laws.old laws.new _ _ encodes (c.store.ensures.any_moment keeps)

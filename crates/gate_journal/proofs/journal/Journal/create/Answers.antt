@@ -9,7 +9,7 @@ returns-clause-settled g c = λ keeps. record {
     gate = 0;
     closed = λ e. absurd (omega arith);
     rest = drop (0 + 1) (inside c.args.part (g.D.Disk.gives c.args.disk.now));
-    spelled = c.in_ok-write_durably.ensures.gives keeps;
+    encoded = c.in_ok-write_durably.ensures.gives keeps;
   };
   end = refl;
   front = refl;

@@ -3,8 +3,8 @@ use Rattle.std.proofs.lemmas.Result.{on_ok_weaker}
 use Rattle.disk_model.specs.Disk.{LeavesOnly}
 use Rattle.disk_model.specs.Frames.{touches_more}
 use Rattle.disk_model.specs.Part.{inside, TouchesOnly}
-use Rattle.gate_journal.specs.Pair.{HasGate, HoldsStored, IsSettledPair, Pair, entry_spelling, slot_bytes, stored, with_entry}
-use Rattle.gate_journal.specs.Reading.{Stands}
+use Rattle.gate_journal.specs.Pair.{HasGate, HoldsStored, IsSettledPair, Pair, entry_encoding, slot_bytes, stored, with_entry}
+use Rattle.gate_journal.specs.Reading.{HoldsAt}
 use Rattle.gate_journal.proofs.Entries.{held}
 use Rattle.gate_journal.proofs.Lists.{on_ok_both}
 use Rattle.gate_journal.proofs.Pairs.{only_slot, other_stays, range_bytes}
@@ -48,9 +48,9 @@ returns-clause-bytes g c = λ keeps.
     let old = c.args.disk.now in
     let new = c.write_entry.new.disk in
     let n = 13 + length c.args.payload.now in
-    subst (λ (s : Pair). OnOk c.write_entry.result (Stands (slot_bytes s.into (inside s.part (disk.gives new))) 0 n (entry_spelling (record { number = s.number + 1; payload = c.args.payload.now })))) c.self.view_is
+    subst (λ (s : Pair). OnOk c.write_entry.result (HoldsAt (slot_bytes s.into (inside s.part (disk.gives new))) 0 n (entry_encoding (record { number = s.number + 1; payload = c.args.payload.now })))) c.self.view_is
     (on_ok_weaker c.write_entry.result
-    (subst (λ (x : List ℕ). Stands x 0 n (entry_spelling (record { number = i.number + 1; payload = c.args.payload.now }))) (range_bytes i.part range inv.0 i.into inv.2 starts long (disk.gives new)))
+    (subst (λ (x : List ℕ). HoldsAt x 0 n (entry_encoding (record { number = i.number + 1; payload = c.args.payload.now }))) (range_bytes i.part range inv.0 i.into inv.2 starts long (disk.gives new)))
     (c.write_entry.ensures.bytes keeps))
 
 pub returns-clause-settled : goal.returns-clause-settled

@@ -7,14 +7,14 @@ pub returns-in_err-receipt-clause-any_moment : goal.returns-in_err-receipt-claus
 returns-in_err-receipt-clause-any_moment g c = λ keeps settled.
     let home : State = record { pair = c.self.inside.pair; superblock = c.self.inside.superblock } in
     mark_run home c.args.self.now c.self.view_is (g.D.Disk.gives c.args.disk.now) (g.D.Disk.may_leave_now c.args.disk.now) settled c.args.front c.args.area
-    c.marked-superblock.result c.marked-superblock.ensures c.spelled-payload.ensures.is c.spelled-payload.result c.spelled-payload.ensures.spelling
+    c.marked-superblock.result c.marked-superblock.ensures c.encoded-payload.ensures.is c.encoded-payload.result c.encoded-payload.ensures.encoding
     c.stores_leave_old_or_new.ensures.old c.stores_leave_old_or_new.ensures.new (c.store.ensures.any_moment keeps)
 
 pub returns-clause-any_moment : goal.returns-clause-any_moment
 returns-clause-any_moment g c = λ keeps settled.
     let home : State = record { pair = c.self.inside.pair; superblock = c.self.inside.superblock } in
     mark_run home c.args.self.now c.self.view_is (g.D.Disk.gives c.args.disk.now) (g.D.Disk.may_leave_now c.args.disk.now) settled c.args.front c.args.area
-    c.marked-superblock.result c.marked-superblock.ensures c.spelled-payload.ensures.is c.spelled-payload.result c.spelled-payload.ensures.spelling
+    c.marked-superblock.result c.marked-superblock.ensures c.encoded-payload.ensures.is c.encoded-payload.result c.encoded-payload.ensures.encoding
     c.stores_leave_old_or_new.ensures.old c.stores_leave_old_or_new.ensures.new (c.store.ensures.any_moment keeps)
 
 pub returns-clause-settled : goal.returns-clause-settled
@@ -23,6 +23,6 @@ returns-clause-settled g c = λ keeps settled.
     let gives = g.D.Disk.gives c.args.disk.now in
     let left = g.D.Disk.may_leave_now c.args.disk.now in
     let here : IsSettledHome home gives left = subst (λ (h : State). IsSettledHome h gives left) (sym c.self.view_is) settled in
-    mark_settled home gives left here c.marked-superblock.result c.spelled-payload.ensures.is c.spelled-payload.result c.spelled-payload.ensures.spelling
+    mark_settled home gives left here c.marked-superblock.result c.encoded-payload.ensures.is c.encoded-payload.result c.encoded-payload.ensures.encoding
     c.stores_leave_old_or_new.ensures.old c.stores_leave_old_or_new.ensures.new c.store.new.self (g.D.Disk.gives c.store.new.disk) (g.D.Disk.may_leave_now c.store.new.disk)
     c.in_ok-receipt.ensures.ok (c.in_ok-receipt.ensures.settled keeps here.slots here.pair)

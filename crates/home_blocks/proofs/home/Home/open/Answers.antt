@@ -1,6 +1,6 @@
 use Rattle.std.proofs.Common.{inl, inr, ◌∙◌, List, ℕ, Err, ap, subst, arith}
 use Rattle.home_blocks.specs.Places.{disk_size_of}
-use Rattle.home_blocks.specs.Superblock.{HasOtherVersion, IsNoSuperblock, IsSpelling}
+use Rattle.home_blocks.specs.Superblock.{HasOtherVersion, IsNoSuperblock, IsEncoding}
 use Rattle.home_blocks.specs.declared.refusal.Refusal.{Refusal}
 use Rattle.home_blocks.specs.declared.refusal.Refusal.TheVariants.{NotAVolume, OtherVersion}
 use Rattle.home_blocks.proofs.Payloads.{held_superblock, loaded_none, loaded_some, passed_on}
@@ -47,7 +47,7 @@ returns-then-len-disk_size-clause-not_a_volume g c = λ keeps told.
     let payload = c.in-Some.payload in
     let holds = loaded_some c.in_ok-loaded.loaded.0 (g.D.Disk.gives d1) (g.D.Disk.gives d0) (g.D.Disk.may_leave_now d1) (c.in_ok-loaded.ensures.part ∙ c.superblock_part.ensures)
     (c.in_ok-loaded.ensures.reads keeps).same c.in_ok-loaded.loaded.1 payload c.in-Some.is (c.in_ok-loaded.ensures.settled keeps) in
-    let found = subst (λ (l : List ℕ). IsSpelling l sb) c.deref.ensures.value c.in_ok-superblock.ensures.found in
+    let found = subst (λ (l : List ℕ). IsEncoding l sb) c.deref.ensures.value c.in_ok-superblock.ensures.found in
     let needs = c.disk_size.ensures ∙ ap disk_size_of c.geometry.ensures in
     inr (inr (inr (record {
       superblock = sb;
@@ -63,7 +63,7 @@ returns-clause-volume g c = λ keeps.
     let payload = c.in-Some.payload in
     let holds = loaded_some c.in_ok-loaded.loaded.0 (g.D.Disk.gives d1) (g.D.Disk.gives d0) (g.D.Disk.may_leave_now d1) (c.in_ok-loaded.ensures.part ∙ c.superblock_part.ensures)
     (c.in_ok-loaded.ensures.reads keeps).same c.in_ok-loaded.loaded.1 payload c.in-Some.is (c.in_ok-loaded.ensures.settled keeps) in
-    let found = subst (λ (l : List ℕ). IsSpelling l sb) c.deref.ensures.value c.in_ok-superblock.ensures.found in
+    let found = subst (λ (l : List ℕ). IsEncoding l sb) c.deref.ensures.value c.in_ok-superblock.ensures.found in
     let needs = c.disk_size.ensures ∙ ap disk_size_of c.geometry.ensures in
     record {
       holds = held_superblock sb payload.items (g.D.Disk.gives d0) found holds;

@@ -1,14 +1,14 @@
 use Rattle.std.proofs.Common.{◌≡◌, ◌+◌, ◌<◌, ◌∙◌, ◌++◌, ℕ, length, refl, subst, sym, ap, arith}
 use Rattle.std.specs.Prelude.{Result, IfOk, IsErrOf, ◌↔◌}
-use Rattle.home_blocks.specs.Superblock.{IsNoSuperblock, IsSpelling, Superblock, header_spelling}
+use Rattle.home_blocks.specs.Superblock.{IsNoSuperblock, IsEncoding, Superblock, header_encoding}
 use Rattle.home_blocks.specs.declared.refusal.Refusal.{Refusal}
 use Rattle.home_blocks.specs.declared.refusal.Refusal.TheVariants.{NotAVolume}
 use Rattle.home_blocks.proofs.Reading.{answer_exact, answer_found, answer_none, header_is, no_magic, no_version, other_version}
-use Rattle.home_blocks.proofs.Spellings.{other_version_apart}
+use Rattle.home_blocks.proofs.Encodings.{other_version_apart}
 use Rattle.home_blocks.proofs.superblock.Superblock.read.Goals as goal
 
 pub returns-in_default-clause-exact : goal.returns-in_default-clause-exact
-returns-in_default-clause-exact c = λ sb spelled. absurd ((no_magic c.args.bytes.now c.in_default.ensures.cases).none sb spelled)
+returns-in_default-clause-exact c = λ sb encoded. absurd ((no_magic c.args.bytes.now c.in_default.ensures.cases).none sb encoded)
 
 pub returns-in_default-clause-not_a_volume : goal.returns-in_default-clause-not_a_volume
 returns-in_default-clause-not_a_volume c = (λ _. no_magic c.args.bytes.now c.in_default.ensures.cases, λ _. refl)
@@ -17,9 +17,9 @@ short_of : (behind whole : ℕ) → behind + 8 ≡ whole → behind < 4 → whol
 short_of behind whole longer short = omega arith
 
 pub returns-in_default-read_u32-clause-exact : goal.returns-in_default-read_u32-clause-exact
-returns-in_default-read_u32-clause-exact c = λ sb spelled.
+returns-in_default-read_u32-clause-exact c = λ sb encoded.
     let (same, behind_is, longer) = c.in-Some.ensures.cases in
-    absurd ((no_version c.args.bytes.now (short_of (length c.in-Some.behind.now) (length c.args.bytes.now) longer c.in_default-read_u32.ensures.short)).none sb spelled)
+    absurd ((no_version c.args.bytes.now (short_of (length c.in-Some.behind.now) (length c.args.bytes.now) longer c.in_default-read_u32.ensures.short)).none sb encoded)
 
 pub returns-in_default-read_u32-clause-not_a_volume : goal.returns-in_default-read_u32-clause-not_a_volume
 returns-in_default-read_u32-clause-not_a_volume c =
@@ -27,10 +27,10 @@ returns-in_default-read_u32-clause-not_a_volume c =
     (λ _. no_version c.args.bytes.now (short_of (length c.in-Some.behind.now) (length c.args.bytes.now) longer c.in_default-read_u32.ensures.short), λ _. refl)
 
 pub returns-then-version-ne-VERSION-clause-exact : goal.returns-then-version-ne-VERSION-clause-exact
-returns-then-version-ne-VERSION-clause-exact c = λ sb spelled.
+returns-then-version-ne-VERSION-clause-exact c = λ sb encoded.
     let (same, behind_is, longer) = c.in-Some.ensures.cases in
     let has = other_version c.args.bytes.now c.in-Some.behind.now c.in-Some-read_u32.fields.now c.in-Some-read_u32.version same behind_is c.in-Some-read_u32.ensures.read c.in-Some-read_u32.ensures.fits c.if-version-ne-VERSION.true in
-    absurd (other_version_apart sb c.args.bytes.now spelled.spelled has)
+    absurd (other_version_apart sb c.args.bytes.now encoded.encoded has)
 
 pub returns-then-version-ne-VERSION-clause-other_version : goal.returns-then-version-ne-VERSION-clause-other_version
 returns-then-version-ne-VERSION-clause-other_version c =
@@ -49,8 +49,8 @@ returns-clause-found c =
     let fields = c.in-Some-read_u32.fields.now in
     let (same, behind_is, longer) = c.in-Some.ensures.cases in
     let is = header_is c.args.bytes.now c.in-Some.behind.now fields c.in-Some-read_u32.version same behind_is c.in-Some-read_u32.ensures.read in
-    let begins : c.args.bytes.now ≡ header_spelling 1 ++ fields = is ∙ ap (λ (n : ℕ). header_spelling n ++ fields) c.if-version-ne-VERSION.false in
-    subst (λ (r : Result Superblock Refusal). IfOk r (IsSpelling c.args.bytes.now)) (sym c.ok_or.ensures.value)
+    let begins : c.args.bytes.now ≡ header_encoding 1 ++ fields = is ∙ ap (λ (n : ℕ). header_encoding n ++ fields) c.if-version-ne-VERSION.false in
+    subst (λ (r : Result Superblock Refusal). IfOk r (IsEncoding c.args.bytes.now)) (sym c.ok_or.ensures.value)
     (answer_found c.args.bytes.now fields begins c.read_fields.result c.read_fields.ensures.found c.read_fields.ensures.is)
 
 pub returns-clause-exact : goal.returns-clause-exact
@@ -58,15 +58,15 @@ returns-clause-exact c =
     let fields = c.in-Some-read_u32.fields.now in
     let (same, behind_is, longer) = c.in-Some.ensures.cases in
     let is = header_is c.args.bytes.now c.in-Some.behind.now fields c.in-Some-read_u32.version same behind_is c.in-Some-read_u32.ensures.read in
-    let begins : c.args.bytes.now ≡ header_spelling 1 ++ fields = is ∙ ap (λ (n : ℕ). header_spelling n ++ fields) c.if-version-ne-VERSION.false in
-    λ sb spelled. c.ok_or.ensures.value
-    ∙ answer_exact c.args.bytes.now fields begins c.read_fields.result c.read_fields.ensures.found c.read_fields.ensures.is c.read_fields.ensures.none sb spelled
+    let begins : c.args.bytes.now ≡ header_encoding 1 ++ fields = is ∙ ap (λ (n : ℕ). header_encoding n ++ fields) c.if-version-ne-VERSION.false in
+    λ sb encoded. c.ok_or.ensures.value
+    ∙ answer_exact c.args.bytes.now fields begins c.read_fields.result c.read_fields.ensures.found c.read_fields.ensures.is c.read_fields.ensures.none sb encoded
 
 pub returns-clause-not_a_volume : goal.returns-clause-not_a_volume
 returns-clause-not_a_volume c =
     let fields = c.in-Some-read_u32.fields.now in
     let (same, behind_is, longer) = c.in-Some.ensures.cases in
     let is = header_is c.args.bytes.now c.in-Some.behind.now fields c.in-Some-read_u32.version same behind_is c.in-Some-read_u32.ensures.read in
-    let begins : c.args.bytes.now ≡ header_spelling 1 ++ fields = is ∙ ap (λ (n : ℕ). header_spelling n ++ fields) c.if-version-ne-VERSION.false in
+    let begins : c.args.bytes.now ≡ header_encoding 1 ++ fields = is ∙ ap (λ (n : ℕ). header_encoding n ++ fields) c.if-version-ne-VERSION.false in
     subst (λ (r : Result Superblock Refusal). IsErrOf r NotAVolume ↔ IsNoSuperblock c.args.bytes.now) (sym c.ok_or.ensures.value)
     (answer_none c.args.bytes.now fields begins c.read_fields.result c.read_fields.ensures.found c.read_fields.ensures.is c.read_fields.ensures.none)

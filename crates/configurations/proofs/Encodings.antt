@@ -1,4 +1,4 @@
--- No two records have one spelling, and what stands behind the beginning of one.
+-- No two records have one encoding, and what stands behind the beginning of one.
 use Rattle.std.proofs.Common.{◌≡◌, ℕ, ◌+◌, ◌^◌, ◌<◌, ◌≤◌, true, nat_eq, List, [], ◌∷◌, ◌++◌, length, take, drop, get_or, inl, inr, refl, sym, subst, ◌∙◌, ap, arith, append_assoc, length-append, All}
 use Rattle.std.specs.Prelude.{Option, Some, Result, Ok, Err, IfOk, IfSome, IsOk, OnOk, codes}
 use Rattle.std.specs.Result.{result_ok}
@@ -11,7 +11,7 @@ use Rattle.std.specs.List.{flat_map}
 use Rattle.byteorder.specs.Endian.{big_bytes, big_from}
 use Rattle.byteorder.specs.Numbers.{big_number-reads_back, length-bytes_high_first}
 use Rattle.configurations.specs.declared.member.Member.{Member}
-use Rattle.configurations.specs.Record.{AreMembers, AreSpelled, HasNoHeader, HasNoMember, IsMember, IsRecord, IsSpelling, Record, header_spelling, member_spelling, record_spelling}
+use Rattle.configurations.specs.Record.{AreMembers, AreEncoded, HasNoHeader, HasNoMember, IsMember, IsRecord, IsEncoding, Record, header_encoding, member_encoding, record_encoding}
 
 -- two ways to cut one list behind as many elements are one
 same_halves : (a b c d : List ℕ) → length a ≡ length c → a ++ b ≡ c ++ d → b ≡ d
@@ -78,85 +78,85 @@ members_fit : (members : List Member) → All IsMember members → All (Fits 8) 
 members_fit members are = λ k d lt. omega (arith, (are k d lt).incarnation)
 
 -- two headers in front of something
-pub headers_apart : (e c e' c' : ℕ) (r s : List ℕ) → e < 2 ^ 63 → e' < 2 ^ 63 → header_spelling e c ++ r ≡ header_spelling e' c' ++ s → (e ≡ e') × (c ≡ c') × (r ≡ s)
+pub headers_apart : (e c e' c' : ℕ) (r s : List ℕ) → e < 2 ^ 63 → e' < 2 ^ 63 → header_encoding e c ++ r ≡ header_encoding e' c' ++ s → (e ≡ e') × (c ≡ c') × (r ≡ s)
 headers_apart e c e' c' r s fits fits' same = heads_apart 8 (codes "CRAQCONF" ++ big_bytes 4 1) e c e' c' r s (omega arith) (omega arith) same
 
--- the members that members begin with, spelled in eight bytes each
-begin : (xs ys : List Member) (r : List ℕ) → length xs ≤ length ys → All IsMember xs → All IsMember ys → flat_map member_spelling xs ++ r ≡ flat_map member_spelling ys → Begin 8 xs ys r
+-- the members that members begin with, encoded in eight bytes each
+begin : (xs ys : List Member) (r : List ℕ) → length xs ≤ length ys → All IsMember xs → All IsMember ys → flat_map member_encoding xs ++ r ≡ flat_map member_encoding ys → Begin 8 xs ys r
 begin xs ys r le are are' e = members_begin 8 xs ys r le (members_fit xs are) (members_fit ys are') are' e
 
 -- behind members there is another, where there are to be more
-pub none_behind : (count : ℕ) (bytes rest : List ℕ) (xs : List Member) → length xs < count → All IsMember xs → bytes ≡ flat_map member_spelling xs ++ rest → HasNoMember rest → (ys : List Member) → AreSpelled count bytes ys → ⊥
-none_behind count bytes rest xs lt are is none ys spelled = no_more b.behind b.is b.rest b.are
+pub none_behind : (count : ℕ) (bytes rest : List ℕ) (xs : List Member) → length xs < count → All IsMember xs → bytes ≡ flat_map member_encoding xs ++ rest → HasNoMember rest → (ys : List Member) → AreEncoded count bytes ys → ⊥
+none_behind count bytes rest xs lt are is none ys encoded = no_more b.behind b.is b.rest b.are
   where
     b : Begin 8 xs ys rest
-    b = begin xs ys rest (omega (arith, spelled.counted)) are spelled.are (sym is ∙ spelled.spelled)
+    b = begin xs ys rest (omega (arith, encoded.counted)) are encoded.are (sym is ∙ encoded.encoded)
 
-    no_more : (behind : List Member) → ys ≡ xs ++ behind → rest ≡ flat_map member_spelling behind → All IsMember behind → ⊥
-    no_more [] whole e are' = omega (arith, ap length whole, length-append {A = Member}, spelled.counted)
-    no_more (z ∷ zs) whole e are' = none z (flat_map member_spelling zs) (All-head IsMember z zs are') e
+    no_more : (behind : List Member) → ys ≡ xs ++ behind → rest ≡ flat_map member_encoding behind → All IsMember behind → ⊥
+    no_more [] whole e are' = omega (arith, ap length whole, length-append {A = Member}, encoded.counted)
+    no_more (z ∷ zs) whole e are' = none z (flat_map member_encoding zs) (All-head IsMember z zs are') e
 
 -- behind all members there is nothing
-pub nothing_behind : (count : ℕ) (bytes rest : List ℕ) (xs : List Member) → length xs ≡ count → All IsMember xs → bytes ≡ flat_map member_spelling xs ++ rest → 0 < length rest → (ys : List Member) → AreSpelled count bytes ys → ⊥
-nothing_behind count bytes rest xs counted are is some ys spelled = no_more b.behind b.is b.rest
+pub nothing_behind : (count : ℕ) (bytes rest : List ℕ) (xs : List Member) → length xs ≡ count → All IsMember xs → bytes ≡ flat_map member_encoding xs ++ rest → 0 < length rest → (ys : List Member) → AreEncoded count bytes ys → ⊥
+nothing_behind count bytes rest xs counted are is some ys encoded = no_more b.behind b.is b.rest
   where
     b : Begin 8 xs ys rest
-    b = begin xs ys rest (omega (arith, spelled.counted)) are spelled.are (sym is ∙ spelled.spelled)
+    b = begin xs ys rest (omega (arith, encoded.counted)) are encoded.are (sym is ∙ encoded.encoded)
 
-    no_more : (behind : List Member) → ys ≡ xs ++ behind → rest ≡ flat_map member_spelling behind → ⊥
+    no_more : (behind : List Member) → ys ≡ xs ++ behind → rest ≡ flat_map member_encoding behind → ⊥
     no_more [] whole e = omega (arith, ap length e)
-    no_more (z ∷ zs) whole e = omega (arith, ap length whole, length-append {A = Member}, spelled.counted)
+    no_more (z ∷ zs) whole e = omega (arith, ap length whole, length-append {A = Member}, encoded.counted)
 
--- as many members that are spelled alike are the same
-same_members : (xs ys : List Member) → length xs ≡ length ys → All IsMember xs → All IsMember ys → flat_map member_spelling xs ≡ flat_map member_spelling ys → ys ≡ xs
+-- as many members that are encoded alike are the same
+same_members : (xs ys : List Member) → length xs ≡ length ys → All IsMember xs → All IsMember ys → flat_map member_encoding xs ≡ flat_map member_encoding ys → ys ≡ xs
 same_members xs ys counted are are' e = no_more b.behind b.is
   where
     b : Begin 8 xs ys []
-    b = begin xs ys [] (omega arith) are are' (append-nil (flat_map member_spelling xs) ∙ e)
+    b = begin xs ys [] (omega arith) are are' (append-nil (flat_map member_encoding xs) ∙ e)
 
     no_more : (behind : List Member) → ys ≡ xs ++ behind → ys ≡ xs
     no_more [] whole = whole ∙ append-nil xs
     no_more (z ∷ zs) whole = absurd (omega (arith, ap length whole, length-append {A = Member}))
 
--- bytes that begin with no header spell no record
-pub headless : (bytes : List ℕ) → HasNoHeader bytes → (r : Record) → IsSpelling bytes r → ⊥
-unfolding record_spelling
-headless bytes none r spells = none r.epoch (length r.members) (flat_map member_spelling r.members) spells.is.epoch spells.spelled
+-- bytes that begin with no header encode no record
+pub headless : (bytes : List ℕ) → HasNoHeader bytes → (r : Record) → IsEncoding bytes r → ⊥
+unfolding record_encoding
+headless bytes none r encodes = none r.epoch (length r.members) (flat_map member_encoding r.members) encodes.is.epoch encodes.encoded
 
-module _ (bytes behind : List ℕ) (epoch count : ℕ) (header : bytes ≡ header_spelling epoch count ++ behind) (within : epoch < 2 ^ 63) where
-  -- a header and the members behind it spell a record
-  pub record_is : (members : List Member) → AreSpelled count behind members → AreMembers members → IsSpelling bytes (record { epoch = epoch; members = members })
-  unfolding record_spelling
-  record_is members spelled chain = record {
-    is = record { epoch = within; members = spelled.are; chain = chain };
-    spelled = header ∙ ap (λ (l : List ℕ). header_spelling epoch count ++ l) spelled.spelled ∙ ap (λ (n : ℕ). header_spelling epoch n ++ flat_map member_spelling members) (sym spelled.counted);
+module _ (bytes behind : List ℕ) (epoch count : ℕ) (header : bytes ≡ header_encoding epoch count ++ behind) (within : epoch < 2 ^ 63) where
+  -- a header and the members behind it encode a record
+  pub record_is : (members : List Member) → AreEncoded count behind members → AreMembers members → IsEncoding bytes (record { epoch = epoch; members = members })
+  unfolding record_encoding
+  record_is members encoded chain = record {
+    is = record { epoch = within; members = encoded.are; chain = chain };
+    encoded = header ∙ ap (λ (l : List ℕ). header_encoding epoch count ++ l) encoded.encoded ∙ ap (λ (n : ℕ). header_encoding epoch n ++ flat_map member_encoding members) (sym encoded.counted);
   }
 
-  -- a record that is spelled has this header
-  header_of : (r : Record) → IsSpelling bytes r → (epoch ≡ r.epoch) × (count ≡ length r.members) × (behind ≡ flat_map member_spelling r.members)
-  unfolding record_spelling
-  header_of r spells = headers_apart epoch count r.epoch (length r.members) behind (flat_map member_spelling r.members) within spells.is.epoch (sym header ∙ spells.spelled)
+  -- a record that is encoded has this header
+  header_of : (r : Record) → IsEncoding bytes r → (epoch ≡ r.epoch) × (count ≡ length r.members) × (behind ≡ flat_map member_encoding r.members)
+  unfolding record_encoding
+  header_of r encodes = headers_apart epoch count r.epoch (length r.members) behind (flat_map member_encoding r.members) within encodes.is.epoch (sym header ∙ encodes.encoded)
 
-  -- and so there is none where no members are spelled
-  pub memberless : ((members : List Member) → AreSpelled count behind members → ⊥) → (r : Record) → IsSpelling bytes r → ⊥
-  memberless never r spells =
-      let (epoch_is, counted, behind_is) = header_of r spells in
-      never r.members (record { counted = sym counted; are = spells.is.members; spelled = behind_is })
+  -- and so there is none where no members are encoded
+  pub memberless : ((members : List Member) → AreEncoded count behind members → ⊥) → (r : Record) → IsEncoding bytes r → ⊥
+  memberless never r encodes =
+      let (epoch_is, counted, behind_is) = header_of r encodes in
+      never r.members (record { counted = sym counted; are = encodes.is.members; encoded = behind_is })
 
-  -- and the members are those that are spelled
-  pub record_only : (members : List Member) → AreSpelled count behind members → (r : Record) → IsSpelling bytes r → r ≡ record { epoch = epoch; members = members }
-  record_only members spelled r spells =
-      let (epoch_is, counted, behind_is) = header_of r spells in
+  -- and the members are those that are encoded
+  pub record_only : (members : List Member) → AreEncoded count behind members → (r : Record) → IsEncoding bytes r → r ≡ record { epoch = epoch; members = members }
+  record_only members encoded r encodes =
+      let (epoch_is, counted, behind_is) = header_of r encodes in
       let is = sym epoch_is in
-      let are = same_members members r.members (spelled.counted ∙ counted) spelled.are spells.is.members (sym spelled.spelled ∙ behind_is) in
+      let are = same_members members r.members (encoded.counted ∙ counted) encoded.are encodes.is.members (sym encoded.encoded ∙ behind_is) in
       λ i. record { epoch = is i; members = are i }
 
--- no two records have one spelling
-pub records_apart : (some other : Record) → IsRecord some → IsRecord other → record_spelling some ≡ record_spelling other → some ≡ other
-unfolding record_spelling
+-- no two records have one encoding
+pub records_apart : (some other : Record) → IsRecord some → IsRecord other → record_encoding some ≡ record_encoding other → some ≡ other
+unfolding record_encoding
 records_apart some other is is' e =
-    record_only (record_spelling other) (flat_map member_spelling other.members) other.epoch (length other.members) refl is'.epoch other.members
-    (record { counted = refl; are = is'.members; spelled = refl }) some (record { is = is; spelled = sym e })
+    record_only (record_encoding other) (flat_map member_encoding other.members) other.epoch (length other.members) refl is'.epoch other.members
+    (record { counted = refl; are = is'.members; encoded = refl }) some (record { is = is; encoded = sym e })
 
 -- bytes are their first twelve and what follows
 pub behind_prefix : (n : ℕ) (bytes prefix : List ℕ) → length prefix ≡ n → pointwise nat_eq (take n bytes) prefix ≡ true → bytes ≡ prefix ++ drop n bytes
@@ -176,26 +176,26 @@ number_in_front n x bytes front behind is front_is behind_is =
     sym (ap (λ (l : List ℕ). l ++ behind) (is ∙ front_is) ∙ ap (λ (l : List ℕ). take n bytes ++ l) behind_is ∙ take-append-drop n bytes)
 
 -- the pieces of a header, one behind the other
-pub header_found : (bytes behind after rest : List ℕ) (number epoch count : ℕ) → pointwise nat_eq (take 12 bytes) (codes "CRAQCONF" ++ big_bytes 4 1) ≡ true → behind ≡ drop 12 bytes → behind ≡ big_bytes 8 number ++ after → after ≡ count ∷ rest → epoch ≡ number → bytes ≡ header_spelling epoch count ++ rest
+pub header_found : (bytes behind after rest : List ℕ) (number epoch count : ℕ) → pointwise nat_eq (take 12 bytes) (codes "CRAQCONF" ++ big_bytes 4 1) ≡ true → behind ≡ drop 12 bytes → behind ≡ big_bytes 8 number ++ after → after ≡ count ∷ rest → epoch ≡ number → bytes ≡ header_encoding epoch count ++ rest
 header_found bytes behind after rest number epoch count same is is_number is_count is_epoch =
     behind_prefix 12 bytes (codes "CRAQCONF" ++ big_bytes 4 1) refl same
     ∙ ap (λ (l : List ℕ). (codes "CRAQCONF" ++ big_bytes 4 1) ++ l) (sym is ∙ is_number ∙ ap (λ (l : List ℕ). big_bytes 8 number ++ l) is_count)
     ∙ ap (λ (n : ℕ). (codes "CRAQCONF" ++ big_bytes 4 1) ++ (big_bytes 8 n ++ (count ∷ rest))) (sym is_epoch)
 
--- one more member is spelled behind those before it
-pub spelled_more : (head old new : List ℕ) (members : List Member) (i : ℕ) (here : Member) → i < length members → here ≡ get_or members i here → old ≡ head ++ flat_map member_spelling (take i members) → new ≡ (old ++ here.slot ∷ []) ++ big_bytes 8 here.incarnation → new ≡ head ++ flat_map member_spelling (take (i + 1) members)
-spelled_more head old new members i here lt is_here is is_new =
-    let before = flat_map member_spelling (take i members) in
-    let more : flat_map member_spelling (take (i + 1) members) ≡ before ++ member_spelling here =
-    ap (flat_map member_spelling) (take_more members i here lt) ∙ flat_map-append member_spelling (take i members) (get_or members i here ∷ [])
-    ∙ ap (λ (l : List ℕ). before ++ l) (append-nil (member_spelling (get_or members i here)) ∙ ap member_spelling (sym is_here)) in
-    is_new ∙ append_assoc old (here.slot ∷ []) (big_bytes 8 here.incarnation) ∙ ap (λ (l : List ℕ). l ++ member_spelling here) is ∙ append_assoc head before (member_spelling here) ∙ ap (λ (l : List ℕ). head ++ l) (sym more)
+-- one more member is encoded behind those before it
+pub encoded_more : (head old new : List ℕ) (members : List Member) (i : ℕ) (here : Member) → i < length members → here ≡ get_or members i here → old ≡ head ++ flat_map member_encoding (take i members) → new ≡ (old ++ here.slot ∷ []) ++ big_bytes 8 here.incarnation → new ≡ head ++ flat_map member_encoding (take (i + 1) members)
+encoded_more head old new members i here lt is_here is is_new =
+    let before = flat_map member_encoding (take i members) in
+    let more : flat_map member_encoding (take (i + 1) members) ≡ before ++ member_encoding here =
+    ap (flat_map member_encoding) (take_more members i here lt) ∙ flat_map-append member_encoding (take i members) (get_or members i here ∷ [])
+    ∙ ap (λ (l : List ℕ). before ++ l) (append-nil (member_encoding (get_or members i here)) ∙ ap member_encoding (sym is_here)) in
+    is_new ∙ append_assoc old (here.slot ∷ []) (big_bytes 8 here.incarnation) ∙ ap (λ (l : List ℕ). l ++ member_encoding here) is ∙ append_assoc head before (member_encoding here) ∙ ap (λ (l : List ℕ). head ++ l) (sym more)
 
 module _ {E : Type 0} (bytes : List ℕ) (r : Record) where
   -- a record that was made, or none
-  pub kept_found : (made : Result Record E) (kept : Option Record) → kept ≡ result_ok made → IfOk made (λ x. x ≡ r) → OnOk made (AreMembers r.members) → (AreMembers r.members → IsSpelling bytes r) → IfSome kept (IsSpelling bytes)
-  kept_found (Ok x) kept is value are spells = subst (λ (o : Option Record). IfSome o (IsSpelling bytes)) (sym is) (subst (IsSpelling bytes) (sym value) (spells are))
-  kept_found (Err e) kept is value are spells = subst (λ (o : Option Record). IfSome o (IsSpelling bytes)) (sym is) tt
+  pub kept_found : (made : Result Record E) (kept : Option Record) → kept ≡ result_ok made → IfOk made (λ x. x ≡ r) → OnOk made (AreMembers r.members) → (AreMembers r.members → IsEncoding bytes r) → IfSome kept (IsEncoding bytes)
+  kept_found (Ok x) kept is value are encodes = subst (λ (o : Option Record). IfSome o (IsEncoding bytes)) (sym is) (subst (IsEncoding bytes) (sym value) (encodes are))
+  kept_found (Err e) kept is value are encodes = subst (λ (o : Option Record). IfSome o (IsEncoding bytes)) (sym is) tt
 
   pub kept_exact : (made : Result Record E) (kept : Option Record) → kept ≡ result_ok made → IfOk made (λ x. x ≡ r) → IsOk made → kept ≡ Some r
   kept_exact (Ok x) kept is value ok = is ∙ ap (λ (y : Record). Some y) value

@@ -1,4 +1,4 @@
--- No two superblocks have one spelling, and what the pieces of one come to.
+-- No two superblocks have one encoding, and what the pieces of one come to.
 use Rattle.std.proofs.Common.{◌≡◌, ◌≢◌, ℕ, ◌+◌, ◌*◌, ◌^◌, ◌<◌, ◌≤◌, List, [], ◌∷◌, ◌++◌, length, take, drop, get_or, inl, inr, refl, sym, subst, ◌∙◌, ap, arith, append_assoc, length-append}
 use Rattle.std.specs.Prelude.{codes}
 use Rattle.std.proofs.Props.{props}
@@ -10,9 +10,9 @@ use Rattle.byteorder.specs.Numbers.{big_number-reads_back, length-bytes_high_fir
 use Rattle.volume.specs.Limits.{AreBlocks, IsPayload, least_area_of}
 use Rattle.volume.specs.declared.geometry.Geometry.{Geometry}
 use Rattle.home_blocks.specs.Area.{area_number}
-use Rattle.home_blocks.specs.Fields.{numbers_of, numbers_spelling}
+use Rattle.home_blocks.specs.Fields.{numbers_of, numbers_encoding}
 use Rattle.home_blocks.specs.Progress.{progress_number}
-use Rattle.home_blocks.specs.Superblock.{HasOtherVersion, IsSpelling, IsSuperblock, Superblock, fields_spelling, header_spelling, superblock_spelling}
+use Rattle.home_blocks.specs.Superblock.{HasOtherVersion, IsEncoding, IsSuperblock, Superblock, fields_encoding, header_encoding, superblock_encoding}
 use Rattle.home_blocks.specs.declared.area.Area.{Area}
 use Rattle.home_blocks.specs.declared.area.Area.TheVariants.{First, Second}
 use Rattle.home_blocks.specs.declared.fields.Fields.{Fields}
@@ -169,54 +169,54 @@ same_superblock sb other e =
     let current = same_area sb.current other.current (ap (λ (n : Fields). n.current) e) in
     λ i. record { progress = progress i; slot = slot i; incarnation = incarnation i; geometry = geometry i; front = front i; current = current i }
 
--- numbers with the spelling of a superblock's fields are those of that superblock
-pub fields_are : (fields : Fields) (sb : Superblock) → HaveRoom 8 4 fields → IsSuperblock sb → numbers_spelling fields ≡ fields_spelling sb → fields ≡ numbers_of sb
+-- numbers with the encoding of a superblock's fields are those of that superblock
+pub fields_are : (fields : Fields) (sb : Superblock) → HaveRoom 8 4 fields → IsSuperblock sb → numbers_encoding fields ≡ fields_encoding sb → fields ≡ numbers_of sb
 fields_are fields sb fits is e = texts_apart 8 4 fields (numbers_of sb) fits (fields_fit sb is) e
 
-pub length-fields : (sb : Superblock) → length (fields_spelling sb) ≡ 31
+pub length-fields : (sb : Superblock) → length (fields_encoding sb) ≡ 31
 length-fields sb = length-text 8 4 (numbers_of sb)
 
--- no two superblocks have one spelling
-pub fields_apart : (sb other : Superblock) → IsSuperblock sb → IsSuperblock other → fields_spelling sb ≡ fields_spelling other → sb ≡ other
+-- no two superblocks have one encoding
+pub fields_apart : (sb other : Superblock) → IsSuperblock sb → IsSuperblock other → fields_encoding sb ≡ fields_encoding other → sb ≡ other
 fields_apart sb other is is' e = same_superblock sb other (fields_are (numbers_of sb) other (fields_fit sb is) is' e)
 
-pub superblocks_apart : (sb other : Superblock) → IsSuperblock sb → IsSuperblock other → superblock_spelling sb ≡ superblock_spelling other → sb ≡ other
-unfolding superblock_spelling
-superblocks_apart sb other is is' e = fields_apart sb other is is' (headers_apart 8 4 (codes "CRAQDISK") 1 1 (fields_spelling sb) (fields_spelling other) (omega arith) (omega arith) e).1
+pub superblocks_apart : (sb other : Superblock) → IsSuperblock sb → IsSuperblock other → superblock_encoding sb ≡ superblock_encoding other → sb ≡ other
+unfolding superblock_encoding
+superblocks_apart sb other is is' e = fields_apart sb other is is' (headers_apart 8 4 (codes "CRAQDISK") 1 1 (fields_encoding sb) (fields_encoding other) (omega arith) (omega arith) e).1
 
 -- nor has one the header of another version
-pub other_version_apart : (sb : Superblock) (bytes : List ℕ) → bytes ≡ superblock_spelling sb → HasOtherVersion bytes → ⊥
-unfolding superblock_spelling
+pub other_version_apart : (sb : Superblock) (bytes : List ℕ) → bytes ≡ superblock_encoding sb → HasOtherVersion bytes → ⊥
+unfolding superblock_encoding
 other_version_apart sb bytes is has =
-    has.other (headers_apart 8 4 (codes "CRAQDISK") has.version 1 has.rest (fields_spelling sb) (omega (arith, has.fits)) (omega arith) (sym has.begins ∙ is)).0
+    has.other (headers_apart 8 4 (codes "CRAQDISK") has.version 1 has.rest (fields_encoding sb) (omega (arith, has.fits)) (omega arith) (sym has.begins ∙ is)).0
 
 -- bytes behind a header of version 1
-module _ (bytes fields : List ℕ) (begins : bytes ≡ header_spelling 1 ++ fields) where
-  pub spells : (sb : Superblock) → IsSuperblock sb → fields ≡ fields_spelling sb → IsSpelling bytes sb
-  unfolding superblock_spelling
-  spells sb is e = record { is = is; spelled = begins ∙ ap (λ (l : List ℕ). header_spelling 1 ++ l) e }
+module _ (bytes fields : List ℕ) (begins : bytes ≡ header_encoding 1 ++ fields) where
+  pub encodes : (sb : Superblock) → IsSuperblock sb → fields ≡ fields_encoding sb → IsEncoding bytes sb
+  unfolding superblock_encoding
+  encodes sb is e = record { is = is; encoded = begins ∙ ap (λ (l : List ℕ). header_encoding 1 ++ l) e }
 
-  pub fields_of : (sb : Superblock) → IsSpelling bytes sb → fields ≡ fields_spelling sb
-  unfolding superblock_spelling
-  fields_of sb spelled = (headers_apart 8 4 (codes "CRAQDISK") 1 1 fields (fields_spelling sb) (omega arith) (omega arith) (sym begins ∙ spelled.spelled)).1
+  pub fields_of : (sb : Superblock) → IsEncoding bytes sb → fields ≡ fields_encoding sb
+  unfolding superblock_encoding
+  fields_of sb encoded = (headers_apart 8 4 (codes "CRAQDISK") 1 1 fields (fields_encoding sb) (omega arith) (omega arith) (sym begins ∙ encoded.encoded)).1
 
   pub no_other : HasOtherVersion bytes → ⊥
   no_other has = has.other (headers_apart 8 4 (codes "CRAQDISK") has.version 1 has.rest fields (omega (arith, has.fits)) (omega arith) (sym has.begins ∙ begins)).0
 
 -- bytes without the magic
 module _ (bytes : List ℕ) (none : (rest : List ℕ) → bytes ≢ codes "CRAQDISK" ++ rest) where
-  pub unmarked : (sb : Superblock) → IsSpelling bytes sb → ⊥
-  unfolding superblock_spelling
-  unmarked sb spelled = none (big_bytes 4 1 ++ fields_spelling sb) (spelled.spelled ∙ append_assoc (codes "CRAQDISK") (big_bytes 4 1) (fields_spelling sb))
+  pub unmarked : (sb : Superblock) → IsEncoding bytes sb → ⊥
+  unfolding superblock_encoding
+  unmarked sb encoded = none (big_bytes 4 1 ++ fields_encoding sb) (encoded.encoded ∙ append_assoc (codes "CRAQDISK") (big_bytes 4 1) (fields_encoding sb))
 
   pub unversioned : HasOtherVersion bytes → ⊥
   unversioned has = none (big_bytes 4 has.version ++ has.rest) (has.begins ∙ append_assoc (codes "CRAQDISK") (big_bytes 4 has.version) has.rest)
 
 -- bytes with no room for a header
 module _ (bytes : List ℕ) (short : length bytes < 12) where
-  pub too_short : (sb : Superblock) → IsSpelling bytes sb → ⊥
-  unfolding superblock_spelling
-  too_short sb spelled = omega (arith, short, ap (λ (l : List ℕ). length l) spelled.spelled, length-header 8 4 (codes "CRAQDISK") 1 (fields_spelling sb))
+  pub too_short : (sb : Superblock) → IsEncoding bytes sb → ⊥
+  unfolding superblock_encoding
+  too_short sb encoded = omega (arith, short, ap (λ (l : List ℕ). length l) encoded.encoded, length-header 8 4 (codes "CRAQDISK") 1 (fields_encoding sb))
 
   pub too_short_for_another : HasOtherVersion bytes → ⊥
   too_short_for_another has = omega (arith, short, ap (λ (l : List ℕ). length l) has.begins, length-header 8 4 (codes "CRAQDISK") has.version has.rest)
@@ -250,9 +250,9 @@ assembled magic version incarnation blocks area max_payload front progress slot 
     ∙ ap (λ (l : List ℕ). magic ++ (version ++ (progress ∷ slot ∷ l))) (sym (in_turn incarnation blocks area max_payload front (current ∷ [])))
     ∙ sym (append_assoc magic version (progress ∷ slot ∷ incarnation ++ (blocks ++ area ++ max_payload) ++ front ++ current ∷ []))
 
-pub spelling_is : (sb : Superblock)
+pub encoding_is : (sb : Superblock)
     → ((((((((codes "CRAQDISK" ++ big_bytes 4 1) ++ progress_number sb.progress ∷ []) ++ sb.slot ∷ []) ++ big_bytes 8 sb.incarnation) ++ big_bytes 4 sb.geometry.blocks) ++ big_bytes 4 sb.geometry.area) ++ big_bytes 4 sb.geometry.max_payload) ++ big_bytes 8 sb.front) ++ area_number sb.current ∷ []
-    ≡ superblock_spelling sb
-unfolding superblock_spelling
-spelling_is sb =
+    ≡ superblock_encoding sb
+unfolding superblock_encoding
+encoding_is sb =
     assembled (codes "CRAQDISK") (big_bytes 4 1) (big_bytes 8 sb.incarnation) (big_bytes 4 sb.geometry.blocks) (big_bytes 4 sb.geometry.area) (big_bytes 4 sb.geometry.max_payload) (big_bytes 8 sb.front) (progress_number sb.progress) sb.slot (area_number sb.current)

@@ -5,12 +5,12 @@ use Rattle.byteorder.specs.Endian.{big_bytes}
 use Rattle.byteorder.specs.Numbers.{length-bytes_high_first}
 use Rattle.home_blocks.specs.Area.{area_number}
 use Rattle.home_blocks.specs.Progress.{progress_number}
-use Rattle.home_blocks.specs.Superblock.{Superblock, superblock_spelling}
-use Rattle.home_blocks.proofs.Spellings.{put_more, spelling_is}
-use Rattle.home_blocks.proofs.superblock.Superblock.spelled.Goals as goal
+use Rattle.home_blocks.specs.Superblock.{Superblock, superblock_encoding}
+use Rattle.home_blocks.proofs.Encodings.{put_more, encoding_is}
+use Rattle.home_blocks.proofs.superblock.Superblock.encoded.Goals as goal
 
-pub returns-clause-spelling : goal.returns-clause-spelling
-returns-clause-spelling c =
+pub returns-clause-encoding : goal.returns-clause-encoding
+returns-clause-encoding c =
     let i = c.self.inside in
     let sb : Superblock = record { progress = i.progress; slot = i.slot; incarnation = i.incarnation; geometry = i.geometry; front = i.front; current = i.current } in
     let byte = λ (k : ℕ). k ∷ [] in
@@ -25,4 +25,4 @@ returns-clause-spelling c =
     let s8 = put_more _ c.put-8.new.bytes c.to_be_bytes-5.result _ (big_bytes 4 i.geometry.max_payload) 30 4 34 c.put-8.ensures s7 c.to_be_bytes-5.ensures (length-bytes_high_first 4 i.geometry.max_payload) refl in
     let s9 = put_more _ c.put-9.new.bytes c.to_be_bytes-6.result _ (big_bytes 8 i.front) 34 8 42 c.put-9.ensures s8 c.to_be_bytes-6.ensures (length-bytes_high_first 8 i.front) refl in
     let s10 = put_more _ c.put-10.new.bytes (byte c.number-3.result) _ (byte (area_number i.current)) 42 1 43 c.put-10.ensures s9 (ap byte c.number-3.ensures) refl refl in
-    sym (take_all 43 c.put-10.new.bytes (omega (arith, c.put-10.array_long))) ∙ s10 ∙ spelling_is sb ∙ ap superblock_spelling c.self.view_is
+    sym (take_all 43 c.put-10.new.bytes (omega (arith, c.put-10.array_long))) ∙ s10 ∙ encoding_is sb ∙ ap superblock_encoding c.self.view_is

@@ -2,7 +2,7 @@ use Rattle.std.proofs.Common.{◌+◌, length, drop, refl, arith}
 use Rattle.byteorder.specs.Endian.{big_bytes}
 use Rattle.byteorder.specs.Numbers.{length-bytes_high_first}
 use Rattle.gate_journal.proofs.Entries.{overwritten}
-use Rattle.gate_journal.proofs.pair_slot.spelled_body.Goals as goal
+use Rattle.gate_journal.proofs.pair_slot.encoded_body.Goals as goal
 
 pub returns : goal.returns
 returns c =

@@ -1,11 +1,11 @@
--- No spelling of a batch begins another.
+-- No encoding of a batch begins another.
 use Rattle.std.proofs.Common.{◌≡◌, ℕ, ◌+◌, ◌*◌, ◌^◌, ◌<◌, List, [], ◌∷◌, ◌++◌, length, refl, sym, ◌∙◌, ap, arith, append_assoc, length-append, All}
 use Rattle.std.proofs.lemmas.List.Elements.{All-head, All-tail}
 use Rattle.std.specs.List.{flat_map}
 use Rattle.byteorder.specs.Endian.{big_bytes, big_from}
 use Rattle.byteorder.specs.Numbers.{big_number-reads_back, length-bytes_high_first}
 use Rattle.gate_journal.specs.declared.batch.Image.{Image}
-use Rattle.gate_journal.specs.Batch.{Batch, IsWhole, IsBatch, image_spelling, batch_spelling, batch_size}
+use Rattle.gate_journal.specs.Batch.{Batch, IsWhole, IsBatch, image_encoding, batch_encoding, batch_size}
 use Rattle.gate_journal.proofs.Lists.{same_halves}
 
 -- a number is what its bytes make
@@ -14,7 +14,7 @@ numbers_apart n x y r s fits fits' e =
     let same = sym (big_number-reads_back n x r fits) ∙ ap (big_from 0 n) e ∙ big_number-reads_back n y s fits' in
     (same, (same_halves (big_bytes n x) r (big_bytes n y) s (length-bytes_high_first n x ∙ sym (length-bytes_high_first n y)) e).1)
 
--- the spellings' widths stand as variables, so that nothing computes
+-- the encodings' widths stand as variables, so that nothing computes
 abbrev text : ℕ → Image → List ℕ
 text n image = big_bytes n image.block ++ image.bytes
 
@@ -71,16 +71,16 @@ bodies_apart w m n size x y r s front front' count count' whole whole' e =
     let images_are = images.0 in
     (λ i. record { front = front_is i; images = images_are i }, images.1)
 
--- no spelling of a batch begins another
-pub batches_apart : (blocks before : ℕ) (x y : Batch) (r s : List ℕ) → IsBatch blocks before x → IsBatch blocks before y → batch_spelling x ++ r ≡ batch_spelling y ++ s → (x ≡ y) × (r ≡ s)
-unfolding batch_spelling
+-- no encoding of a batch begins another
+pub batches_apart : (blocks before : ℕ) (x y : Batch) (r s : List ℕ) → IsBatch blocks before x → IsBatch blocks before y → batch_encoding x ++ r ≡ batch_encoding y ++ s → (x ≡ y) × (r ≡ s)
+unfolding batch_encoding
 batches_apart blocks before x y r s is is' e =
     let behind : batch_text 8 4 4 x ++ r ≡ batch_text 8 4 4 y ++ s = cc in
     bodies_apart 8 4 4 4096 x y r s (omega (arith, is.limit)) (omega (arith, is'.limit)) (omega (arith, is.count)) (omega (arith, is'.count)) (whole_fits x.images is.whole) (whole_fits y.images is'.whole) behind
 
-pub length-batch_spelling : (blocks before : ℕ) (batch : Batch) → IsBatch blocks before batch → length (batch_spelling batch) ≡ batch_size (length batch.images)
-unfolding batch_spelling
-length-batch_spelling blocks before batch is = omega (arith, length-flat_map 4 4096 batch.images (whole_fits batch.images is.whole), length-append (big_bytes 8 batch.front ++ big_bytes 4 (length batch.images)) (flat_map image_spelling batch.images))
+pub length-batch_encoding : (blocks before : ℕ) (batch : Batch) → IsBatch blocks before batch → length (batch_encoding batch) ≡ batch_size (length batch.images)
+unfolding batch_encoding
+length-batch_encoding blocks before batch is = omega (arith, length-flat_map 4 4096 batch.images (whole_fits batch.images is.whole), length-append (big_bytes 8 batch.front ++ big_bytes 4 (length batch.images)) (flat_map image_encoding batch.images))
 
 -- two numbers in front of something
 heads_apart : (w m f n f' n' : ℕ) (u t r : List ℕ) → f < 256 ^ w → f' < 256 ^ w → n < 256 ^ m → n' < 256 ^ m → (big_bytes w f ++ big_bytes m n) ++ u ≡ ((big_bytes w f' ++ big_bytes m n') ++ t) ++ r → (f ≡ f') × (n ≡ n') × (u ≡ t ++ r)
@@ -91,19 +91,19 @@ heads_apart w m f n f' n' u t r front front' count count' e =
     (fronts.0, counts.0, counts.1)
 
 -- what stands behind a batch's header, where the bytes begin with a header
-pub behind_header : (blocks before f n : ℕ) (bytes rest : List ℕ) (batch : Batch) (r : List ℕ) → f < 2 ^ 64 → n < 2 ^ 32 → bytes ≡ (big_bytes 8 f ++ big_bytes 4 n) ++ rest → IsBatch blocks before batch → 1 ∷ bytes ≡ batch_spelling batch ++ r
-    → (f ≡ batch.front) × (n ≡ length batch.images) × (rest ≡ flat_map image_spelling batch.images ++ r)
-unfolding batch_spelling
+pub behind_header : (blocks before f n : ℕ) (bytes rest : List ℕ) (batch : Batch) (r : List ℕ) → f < 2 ^ 64 → n < 2 ^ 32 → bytes ≡ (big_bytes 8 f ++ big_bytes 4 n) ++ rest → IsBatch blocks before batch → 1 ∷ bytes ≡ batch_encoding batch ++ r
+    → (f ≡ batch.front) × (n ≡ length batch.images) × (rest ≡ flat_map image_encoding batch.images ++ r)
+unfolding batch_encoding
 behind_header blocks before f n bytes rest batch r front count is next e =
-    let text : bytes ≡ (big_bytes 8 batch.front ++ big_bytes 4 (length batch.images) ++ flat_map image_spelling batch.images) ++ r = cc in
-    heads_apart 8 4 f n batch.front (length batch.images) rest (flat_map image_spelling batch.images) r (omega arith) (omega (arith, next.limit)) (omega arith) (omega (arith, next.count)) (sym is ∙ text)
+    let text : bytes ≡ (big_bytes 8 batch.front ++ big_bytes 4 (length batch.images) ++ flat_map image_encoding batch.images) ++ r = cc in
+    heads_apart 8 4 f n batch.front (length batch.images) rest (flat_map image_encoding batch.images) r (omega arith) (omega (arith, next.limit)) (omega arith) (omega (arith, next.count)) (sym is ∙ text)
 
--- whole images that are spelled alike are the same
-pub same_images : (xs ys : List Image) (r s : List ℕ) → length xs ≡ length ys → All IsWhole xs → All IsWhole ys → flat_map image_spelling xs ++ r ≡ flat_map image_spelling ys ++ s → xs ≡ ys
+-- whole images that are encoded alike are the same
+pub same_images : (xs ys : List Image) (r s : List ℕ) → length xs ≡ length ys → All IsWhole xs → All IsWhole ys → flat_map image_encoding xs ++ r ≡ flat_map image_encoding ys ++ s → xs ≡ ys
 same_images xs ys r s len whole whole' e = (images_apart 4 4096 xs ys r s len (whole_fits xs whole) (whole_fits ys whole') e).0
 
 -- a header and the images behind it are a batch's body
-pub batch_from_parts : (f : ℕ) (images : List Image) (bytes behind rest : List ℕ) → bytes ≡ (big_bytes 8 f ++ big_bytes 4 (length images)) ++ behind → behind ≡ flat_map image_spelling images ++ rest → 1 ∷ bytes ≡ batch_spelling (record { front = f; images = images }) ++ rest
-unfolding batch_spelling
+pub batch_from_parts : (f : ℕ) (images : List Image) (bytes behind rest : List ℕ) → bytes ≡ (big_bytes 8 f ++ big_bytes 4 (length images)) ++ behind → behind ≡ flat_map image_encoding images ++ rest → 1 ∷ bytes ≡ batch_encoding (record { front = f; images = images }) ++ rest
+unfolding batch_encoding
 batch_from_parts f images bytes behind rest is is' =
-    ap (λ (l : List ℕ). 1 ∷ l) (is ∙ ap (λ (l : List ℕ). (big_bytes 8 f ++ big_bytes 4 (length images)) ++ l) is' ∙ sym (append_assoc (big_bytes 8 f ++ big_bytes 4 (length images)) (flat_map image_spelling images) rest))
+    ap (λ (l : List ℕ). 1 ∷ l) (is ∙ ap (λ (l : List ℕ). (big_bytes 8 f ++ big_bytes 4 (length images)) ++ l) is' ∙ sym (append_assoc (big_bytes 8 f ++ big_bytes 4 (length images)) (flat_map image_encoding images) rest))
