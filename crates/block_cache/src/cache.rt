@@ -24,9 +24,13 @@ pub const CAPACITY: usize = 256;
 const BLOCK_BYTES: usize = 4_096;
 
 /// Blocks of the home region, up to 256 of them: those that were used last.
+///
+/// A block comes in the second time that it is read from the disk, so that what is read once, as by a long read, drives nothing out.
 #[derive(Drop)]
 pub struct Cache {
     blocks: LruCache<u32, [u8; BLOCK_BYTES]>,
+    /// The blocks that were read from the disk last, each at the place of its number modulo 256, with 1 added.
+    read_once: [u32; CAPACITY],
 }
 
 impl Model for Cache {
@@ -48,6 +52,7 @@ impl Cache {
         let capacity = NonZeroUsize::new(CAPACITY).unwrap();
         Ok(Cache {
             blocks: LruCache::new(alloc, capacity)?,
+            read_once: [0; CAPACITY],
         })
     }
 
@@ -75,8 +80,8 @@ impl Cache {
         self.len() > 0 && self.blocks.contains(&block)
     }
 
-    /// Reads a block of the home region, of 4,096 bytes: out of the cache, or from the disk, and then the cache keeps it,
-    /// where memory is found.
+    /// Reads a block of the home region, of 4,096 bytes: out of the cache, or from the disk. The second time that it comes from
+    /// the disk the cache keeps it, where memory is found.
     pub fn read<D: Disk>(
         &mut self,
         disk: &mut D,
@@ -102,8 +107,22 @@ impl Cache {
             return Ok(());
         }
         home.read_home(disk, block, bytes)?;
-        self.keep(block, bytes);
+        self.keep_if_read_again(block, bytes);
         Ok(())
+    }
+
+    /// Keeps a block that came from the disk, as `keep` does, where it came from there a short while ago too.
+    fn keep_if_read_again(&mut self, block: u32, bytes: &[u8])
+        requires { length bytes.now ≡ BLOCK_BYTES }
+        ensures kept { (b : ℕ) (image : List ℕ) → Keeps self.new b image → Keeps self.old b image ⊎ ((b ≡ block) × (image ≡ bytes.now)) }
+    {
+        let place = block as usize % CAPACITY;
+        let mark = block.wrapping_add(1);
+        if self.read_once[place] == mark {
+            self.keep(block, bytes);
+        } else {
+            self.read_once[place] = mark;
+        }
     }
 
     /// Keeps these bytes of a block, in place of what it keeps of it, where memory is found: it is, where the block is there.

@@ -34,6 +34,9 @@ fn a_read(rt: HostRuntime) -> Result<(), Fail> {
     let mut bytes = [9; 4_096];
     cache.read(&mut disk, &home, 7, &mut bytes)?;
     assert_eq!(rt; bytes, [5; 4_096]);
+    assert_eq!(rt; (cache.contains(7), cache.len()), (false, 0));
+    cache.read(&mut disk, &home, 7, &mut bytes)?;
+    assert_eq!(rt; bytes, [5; 4_096]);
     assert_eq!(rt; (cache.contains(7), cache.len()), (true, 1));
     let calls = disk.calls();
     let mut again = [9; 4_096];
@@ -49,6 +52,7 @@ fn a_write(rt: HostRuntime) -> Result<(), Fail> {
     let (mut disk, home) = made;
     let mut cache = Cache::new(rt.alloc())?;
     let mut bytes = [9; 4_096];
+    cache.read(&mut disk, &home, 7, &mut bytes)?;
     cache.read(&mut disk, &home, 7, &mut bytes)?;
     home.write_home(&mut disk, 7, &[6; 4_096])?;
     cache.renew(7, &[6; 4_096]);

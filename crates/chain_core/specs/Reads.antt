@@ -1,11 +1,12 @@
 -- What a call that reads leaves of the store.
-use Rattle.std.specs.Prelude.{◌≡◌, ◌≢◌, ◌⊎◌, ℕ, ◌<◌, true, List, [], ◌∷◌, filter, map, not, Some, None}
+use Rattle.std.specs.Prelude.{◌≡◌, ◌≢◌, ◌⊎◌, ℕ, ◌<◌, true, List, [], ◌∷◌, filter, fold, length, map, not, Some, None}
 use Rattle.disk_model.specs.Disk.{LeavesOnly}
 use Rattle.disk_model.specs.Error.{MayTell}
 use Rattle.disk_model.specs.declared.error.DiskError.{DiskError}
 use Rattle.disk_model.specs.declared.error.DiskError.TheVariants.{Memory, ReadFault}
 use Rattle.local_store.specs.About.{About, meaning_with}
 use Rattle.local_store.specs.Meaning.{Means}
+use Rattle.volume.specs.Writes.{Placed, block_of, patched}
 use Rattle.flush_barrier.specs.Reply.{GivenReply}
 use Rattle.chain_steps.specs.Node.{NodeState, Out, Stepped}
 use Rattle.chain_steps.specs.Steps.{stop}
@@ -32,6 +33,13 @@ pub record HasOnlyRead {S : Type 0} (premise : Type 0) (about : S → About) (fa
   pub fails : failures new ≡ failures old
   pub kept : premise → (volume : List ℕ) → keeps old volume → keeps new volume
   pub run : premise → (volume : List ℕ) → keeps old volume → LeavesOnly moment left_since old new (Means (meaning_with (about old) volume))
+
+-- These bytes may be put under the writes in place of the volume's block: the block after them is the same.
+pub record IsBaseOf (volume : List ℕ) (writes : List Placed) (block : ℕ) (bytes : List ℕ) : Type 0 where
+  pub under : List ℕ
+  pub as_long : length under ≡ length volume
+  pub is : bytes ≡ block_of under block
+  pub same : block_of (fold patched under writes) block ≡ block_of (fold patched volume writes) block
 
 -- why ranges weren't read: memory ran out, or the device refused a read
 abbrev pub AreUnread : {S : Type 0} → (S → About) → (S → ℕ) → (OnlyRead : Type 0) → S → S → Unread → Type 0

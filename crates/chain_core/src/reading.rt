@@ -7,7 +7,7 @@ ghost use Rattle.version_table.specs.Held.{applied_of, writes_upto};
 ghost use Rattle.volume.specs.Writes.{Fits, block_of, patched};
 ghost use Rattle.chain_steps.specs.Steps.{range_of};
 ghost use Rattle.chain_core.specs.Node.{size_of};
-ghost use Rattle.chain_core.specs.Reads.{AreUnread, HasFailed, HasOnlyRead, IsUnread};
+ghost use Rattle.chain_core.specs.Reads.{AreUnread, HasFailed, HasOnlyRead, IsBaseOf, IsUnread};
 
 use disk_model::DiskError;
 use local_store::{Refusal, StoreLike};
@@ -146,12 +146,38 @@ pub(crate) fn block_at<S: StoreLike>(
     ensures failures { OnOk result (S.failures store.new ≡ S.failures store.old) }
     ensures failed { IfErr result (HasFailed S.about S.failures store.old store.new) }
 {
-    let mut bytes = [0; BLOCK_SIZE as usize];
-    match store.read_block(block, &mut bytes) {
-        Ok(()) => {}
-        Err(Refusal::Device(error)) => return Err(error),
-        Err(_) => unreachable!(),
-    }
+    let mut bytes = base_of(store, table, block, front)?;
     table.value_at(block, front, &mut bytes);
     Ok(bytes)
+}
+
+/// The block that the writes up to a front are put over. It is read from the store, unless one of them has the whole block.
+fn base_of<S: StoreLike>(
+    store: &mut S,
+    table: &Table,
+    block: u32,
+    front: u64,
+) -> Result<[u8; BLOCK_SIZE as usize], DiskError>
+    requires runs { (S.about store.old).broken ≡ false }
+    requires block { block < (S.about store.old).geometry.blocks }
+    requires inside { All (λ k. Fits (size_of (S.about store.old)) k.write) table.now.kept }
+    requires kept { table.now.forgotten ≤ front }
+    requires applied { front ≤ applied_of table.now }
+    ensures base { S.keeps_model → (volume : List ℕ) → S.keeps store.old volume → length volume ≡ size_of (S.about store.old)
+        → IfOk result (IsBaseOf volume (writes_upto table.now front) block) }
+    ensures kept { S.keeps_model → (volume : List ℕ) → S.keeps store.old volume → OnOk result (S.keeps store.new volume) }
+    ensures any_moment { S.keeps_model → (volume : List ℕ) → S.keeps store.old volume → LeavesOnly S.moment S.may_have_left_since store.old store.new (Means (meaning_with (S.about store.old) volume)) }
+    ensures about { OnOk result (S.about store.new ≡ S.about store.old) }
+    ensures failures { OnOk result (S.failures store.new ≡ S.failures store.old) }
+    ensures failed { IfErr result (HasFailed S.about S.failures store.old store.new) }
+{
+    let mut bytes = [0; BLOCK_SIZE as usize];
+    if table.is_whole(block, front) {
+        return Ok(bytes);
+    }
+    match store.read_block(block, &mut bytes) {
+        Ok(()) => Ok(bytes),
+        Err(Refusal::Device(error)) => Err(error),
+        Err(_) => unreachable!(),
+    }
 }

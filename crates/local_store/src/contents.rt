@@ -342,11 +342,23 @@ impl Contents {
         if self.broken {
             return Err(Refusal::Broken);
         }
-        let Some(block) = self.pending.next(plan) else {
+        let Some(block) = self.next_pending(plan) else {
             return Ok(None);
         };
         self.bring_home(disk, block)?;
         Ok(Some(block))
+    }
+
+    /// The next pending block, by the plan.
+    fn next_pending(&mut self, plan: &mut Plan) -> Option<u32>
+        ensures next { IfSome result (IsNext plan.old (IsPending self.old.pending)) }
+        ensures given { IfSome result (λ block. plan.new ≡ Some block) }
+        ensures within { IfSome result (λ block. block < (geometry_of self.old).blocks) }
+        ensures none { result ≡ None → NonePending (IsPending self.old.pending) }
+        ensures unchanged { IfNone result (plan.new ≡ plan.old) }
+        ensures same { self.new ≡ self.old }
+    {
+        self.pending.next(plan)
     }
 
     /// Writes a block home, by one device call, if it is pending.

@@ -17,14 +17,20 @@ pub type Block = [u8; BLOCK_SIZE as usize];
 #[derive(Debug, Drop)]
 pub(crate) struct Pending {
     images: Vec<Option<Box<Image>>>,
+    /// None is pending: nobody has to look.
+    none: bool,
 }
 
 impl Model for Pending {
-    ghost use Rattle.std.specs.Prelude.{Option, List, ℕ, map, option_map};
+    ghost use Rattle.std.specs.Prelude.{◌≡◌, Option, List, ℕ, map, option_map, true};
 
     ghost Value = { List (Option (List ℕ)) };
 
+    ghost use Rattle.flusher.specs.Plan.{IsPending, NonePending};
+
     ghost view = { λ p. map (option_map (λ image. image.value.bytes)) p.images.items };
+
+    ghost invariant = { λ p. p.none ≡ true → NonePending (IsPending p.images.items) };
 }
 
 /// Copies of images, to be pending.
@@ -47,7 +53,10 @@ impl Pending {
         for _ in 0..blocks {
             images.push(None)?;
         }
-        Ok(Pending { images })
+        Ok(Pending {
+            images,
+            none: false,
+        })
     }
 
     /// The images of these batches, of so many blocks.
@@ -70,16 +79,22 @@ impl Pending {
         self.images.get(block as usize)?.as_deref()
     }
 
-    /// The next pending block, by the plan.
-    pub(crate) fn next(&self, plan: &mut Plan) -> Option<u32>
-        requires { length self.now < 2 ^ 32 }
-        ensures next { IfSome result (IsNext plan.old (IsPending self.now)) }
+    /// The next pending block, by the plan. That none is pending is looked up once, until an image is put in.
+    pub(crate) fn next(&mut self, plan: &mut Plan) -> Option<u32>
+        requires { length self.old < 2 ^ 32 }
+        ensures next { IfSome result (IsNext plan.old (IsPending self.old)) }
         ensures given { IfSome result (λ block. plan.new ≡ Some block) }
-        ensures within { IfSome result (λ block. block < length self.now) }
-        ensures none { (result ≡ None) ↔ NonePending (IsPending self.now) }
+        ensures within { IfSome result (λ block. block < length self.old) }
+        ensures none { (result ≡ None) ↔ NonePending (IsPending self.old) }
         ensures unchanged { IfNone result (plan.new ≡ plan.old) }
+        ensures same { self.new ≡ self.old }
     {
-        plan.next(&self.images)
+        if self.none {
+            return None;
+        }
+        let block = plan.next(&self.images);
+        self.none = block.is_none();
+        block
     }
 
     /// The staged images are pending from now on.
@@ -101,6 +116,7 @@ impl Pending {
     {
         let at = image.block as usize;
         self.images[at] = Some(image);
+        self.none = false;
     }
 
     /// The block is home.

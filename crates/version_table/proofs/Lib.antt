@@ -1,3 +1,4 @@
 mod BlockLemmas
 mod MarkLemmas
 mod TableLemmas
+pub mod Whole

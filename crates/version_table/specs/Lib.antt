@@ -3,3 +3,4 @@ pub mod Laws
 pub mod Marks
 pub mod Refusal
 pub mod Table
+pub mod Whole

@@ -1,8 +1,9 @@
-ghost use Rattle.std.specs.Prelude.{◌≡◌, ℕ, List, [], ◌∷◌, ◌+◌, ◌-◌, ◌*◌, ◌<◌, ◌≤◌, ◌++◌, ◌↔◌, ◌⊎◌, fold, length, slice_index_or, All, IsTrue, IfSome, IfNone, OnOk, OnErr, IsErrOf};
+ghost use Rattle.std.specs.Prelude.{◌≡◌, ℕ, List, [], ◌∷◌, ◌+◌, ◌-◌, ◌*◌, ◌<◌, ◌≤◌, ◌^◌, ◌++◌, ◌↔◌, ◌⊎◌, fold, length, slice_index_or, All, IsTrue, IfSome, IfNone, OnOk, OnErr, IsErrOf};
 ghost use Rattle.std.specs.VecDeque.Iter.{deque_iter_rest, deque_iter_steps};
 ghost use Rattle.std.specs.Iterator.Runs.{YieldsRefsInOrder};
-ghost use Rattle.std.specs.List.{AllWithin};
+ghost use Rattle.std.specs.List.{AllWithin, list_any};
 ghost use Rattle.volume.specs.Writes.{Placed, Fits, patched, block_of, IsTouched};
+ghost use Rattle.version_table.specs.Whole.{has_whole};
 ghost use Rattle.version_table.specs.declared.kept.Kept.{Kept};
 ghost use Rattle.version_table.specs.Held.{Held, applied_of, with_write, forgotten_to, kept_after, writes_upto, IsFullFor, IsClean, IsNumbered};
 
@@ -13,7 +14,7 @@ use std::alloc::Global;
 use std::collections::VecDeque;
 use std::collections::vec_deque::Iter;
 use std::marker::Model;
-use volume::{Write, patch};
+use volume::{BLOCK_SIZE, Write, patch};
 
 /// The most writes that a table keeps.
 pub const MAX_KEPT: usize = 1_024;
@@ -167,6 +168,23 @@ impl Table {
         }
     }
 
+    /// Whether one of the writes up to the number `j` has the whole block: then the block after them doesn't hang on what it was
+    /// before. `j` lies between the forgotten front and `applied()`. Only the writes that touch the block are looked at.
+    pub fn is_whole(&self, block: u32, j: u64) -> bool
+        requires kept { self.now.forgotten ≤ j }
+        requires applied { j ≤ applied_of self.now }
+        ensures { result ≡ list_any (has_whole block) (writes_upto self.now j) }
+    {
+        let mut tested = self.front;
+        while let Some(number) = self.next_touching(block, tested, j) {
+            if has_whole(&self.get(number).write, block) {
+                return true;
+            }
+            tested = number;
+        }
+        false
+    }
+
     /// Whether no write above the number `k` touches a block of the `len` bytes from `offset` on. They lie within the
     /// largest volume, and `k` between the forgotten front and `applied()`.
     pub fn is_clean(&self, offset: u64, len: u32, k: u64) -> bool
@@ -209,4 +227,13 @@ impl Table {
             self.forget_first();
         }
     }
+}
+
+// Whether a write, which ends below 2^64 bytes, has the whole block.
+fn has_whole(write: &Write, block: u32) -> bool
+    requires { write.now.offset + length write.now.bytes < 2 ^ 64 }
+    ensures { result ≡ has_whole block write.now }
+{
+    let first = u64::from(block) * BLOCK_SIZE;
+    write.offset() <= first && first + BLOCK_SIZE <= write.offset() + write.payload().len() as u64
 }

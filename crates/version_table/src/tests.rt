@@ -145,3 +145,27 @@ fn refusals_in_words(rt: HostRuntime) -> Result<(), Fail> {
     );
     Ok(())
 }
+
+#[test]
+fn whole_blocks(rt: HostRuntime) -> Result<(), Fail> {
+    let mut table = Table::new(rt.alloc(), 2);
+    for (offset, len) in [(4_096, 4_096), (8_193, 4_094)] {
+        let write = write_of(rt.alloc(), offset, 3, len)?;
+        apply_next(&rt, &mut table, &write)?;
+    }
+    assert!(rt; table.forgotten() == 2 && table.applied() == 4);
+    for (block, front, whole) in [
+        (1, 2, false),
+        (1, 3, true),
+        (1, 4, true),
+        (0, 4, false),
+        (2, 4, false),
+    ] {
+        assert_eq!(rt;
+            table.is_whole(block, front),
+            whole,
+            "block {block} at {front}"
+        );
+    }
+    Ok(())
+}

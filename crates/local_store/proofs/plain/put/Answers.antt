@@ -1,4 +1,4 @@
-use Rattle.std.proofs.Common.{ap, subst, sym, ◌≡◌, ◌∙◌, ◌⊎◌, length, take}
+use Rattle.std.proofs.Common.{ap, subst, sym, ◌≡◌, ◌∙◌, ◌⊎◌, take}
 use Rattle.std.specs.Prelude.{Any, ◌↔◌}
 use Rattle.std.proofs.lemmas.List.{take_all}
 use Rattle.flusher.specs.Plan.{IsPending}

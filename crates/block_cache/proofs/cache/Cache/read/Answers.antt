@@ -36,7 +36,7 @@ returns-clause-agrees g c = λ keeps agrees b image there.
     let first = subst (λ (l : LruCache ℕ (List ℕ)). Keeps l.entries b image) c.get.follows.holds-at-none old in
     agrees b image (subst (λ (es : Blocks). Keeps es b image) c.self.view_is (promoted_keeps c.args.block c.self.inside.blocks.entries b image first)))
     (λ (same, is). is ∙ c.in_ok-read_home.ensures.read keeps ∙ ap (λ (k : ℕ). block_of (inside part (g.D.Disk.gives c.args.disk.now)) k) (sym same))
-    (c.keep.ensures.kept b image there) in
+    (c.keep_if_read_again.ensures.kept b image there) in
     was ∙ ap (λ (l : List ℕ). block_of (inside part l) b) (sym (c.read_home.ensures.reads keeps).same)
 
 pub returns-clause-hit : goal.returns-clause-hit

@@ -1,6 +1,5 @@
 use Rattle.std.proofs.Common.{subst}
 use Rattle.disk_model.specs.Disk.{LeavesOnly}
-use Rattle.flusher.specs.Plan.{IsNext, IsPending}
 use Rattle.local_store.specs.Meaning.{Means}
 use Rattle.local_store.specs.Store.{IsStored, State, meaning_in}
 use Rattle.local_store.proofs.Stored.{at_rest}
@@ -12,4 +11,17 @@ returns-in_default-clause-any_moment g c = λ keeps v.
     (λ was. at_rest c.args.disk.now c.self.invariant.journal was (g.met.D.Disk.only_now keeps c.args.disk.now))
 
 pub returns-clause-home : goal.returns-clause-home
-returns-clause-home g c = (subst (λ (s : State). IsNext c.args.plan.now (IsPending s.pending) c.in-Some.block) c.self.view_is c.in-Some.ensures.next, c.in_ok-bring_home.ensures.ok, c.in-Some.ensures.given)
+returns-clause-home g c = (c.in-Some.ensures.next, rw c.next_pending.ensures.same at c.in_ok-bring_home.ensures.ok, c.in-Some.ensures.given)
+
+pub returns-clause-stored : goal.returns-clause-stored
+returns-clause-stored g c = λ keeps v was. c.in_ok-bring_home.ensures.stored keeps v (rw c.next_pending.ensures.same was)
+
+pub returns-clause-any_moment : goal.returns-clause-any_moment
+returns-clause-any_moment g c = λ keeps v was.
+    subst (λ (s : State). LeavesOnly g.D.Disk.moment g.D.Disk.may_have_left_since c.args.disk.now c.bring_home.new.disk (Means (meaning_in s v))) c.next_pending.ensures.same
+    (c.bring_home.ensures.any_moment keeps v (rw c.next_pending.ensures.same was))
+
+pub returns-in_err-bring_home-clause-any_moment : goal.returns-in_err-bring_home-clause-any_moment
+returns-in_err-bring_home-clause-any_moment g c = λ keeps v was.
+    subst (λ (s : State). LeavesOnly g.D.Disk.moment g.D.Disk.may_have_left_since c.args.disk.now c.bring_home.new.disk (Means (meaning_in s v))) c.next_pending.ensures.same
+    (c.bring_home.ensures.any_moment keeps v (rw c.next_pending.ensures.same was))

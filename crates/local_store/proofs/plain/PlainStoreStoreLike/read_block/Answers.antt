@@ -1,7 +1,5 @@
 use Rattle.std.proofs.Common.{subst, ◌≡◌, ◌+◌, ◌*◌}
 use Rattle.std.specs.Prelude.{slice_range}
-use Rattle.local_store.specs.About.{meaning_with}
-use Rattle.local_store.specs.Meaning.{Means}
 use Rattle.local_store.proofs.Slices.{block_is_slice}
 use Rattle.local_store.specs.Plain.{means_plain, runs_plain}
 use Rattle.local_store.proofs.plain.PlainStoreStoreLike.read_block.Goals as goal
