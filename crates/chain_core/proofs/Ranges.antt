@@ -1,17 +1,34 @@
 -- A range of the volume, piece by piece.
-use Rattle.std.proofs.Common.{◌≡◌, ℕ, ◌+◌, ◌-◌, ◌*◌, ◌<◌, ◌≤◌, List, [], ◌∷◌, ◌++◌, get_or, length, map, take, drop, sym, subst, ap, ◌∙◌, arith}
+use Rattle.std.proofs.Common.{◌≡◌, ℕ, ◌+◌, ◌-◌, ◌*◌, ◌<◌, ◌≤◌, List, [], ◌∷◌, ◌++◌, get_or, length, map, replicate, take, true, drop, sym, subst, ap, ◌∙◌, arith}
 use Rattle.std.specs.Prelude.{All}
-use Rattle.std.specs.List.{flat_map}
-use Rattle.std.proofs.lemmas.List.{append-nil, append_assoc, flat_map_more, map_more, map_push}
+use Rattle.std.specs.List.{flat_map, list_any}
+use Rattle.std.proofs.lemmas.List.{append-nil, append_assoc, flat_map_more, length-replicate, map_more, map_push}
 use Rattle.std.proofs.lemmas.List.Elements.{All-map, All-take}
+use Rattle.version_table.proofs.Whole.{whole_same}
 use Rattle.version_table.specs.Held.{Held, writes_upto}
+use Rattle.version_table.specs.Whole.{has_whole}
 use Rattle.volume.specs.Pieces.{IsPieceOf}
+use Rattle.volume.specs.Volumes.{block_of-volume_of-nil}
 use Rattle.volume.specs.Writes.{Fits, block_of}
 use Rattle.volume.specs.declared.piece.Piece.{Piece}
+use Rattle.chain_core.specs.Reads.{IsBaseOf}
 
 -- the writes up to a number fit where all kept ones do
 pub upto_fit : (size n j : ℕ) (t : Held) → n ≡ size → All (λ k. Fits size k.write) t.kept → All (Fits n) (writes_upto t j)
 upto_fit size n j t long fit = subst (λ m. All (Fits m) (writes_upto t j)) (sym long) (All-map (Fits size) (λ k. k.write) (take (j - t.forgotten) t.kept) (All-take (λ k. Fits size k.write) (j - t.forgotten) t.kept fit))
+
+-- zeros may stand for a block that one of the writes has whole
+pub whole_base : (volume : List ℕ) (size j block : ℕ) (t : Held) → length volume ≡ size → 4096 * block + 4096 ≤ size → All (λ k. Fits size k.write) t.kept
+    → list_any (has_whole block) (writes_upto t j) ≡ true → IsBaseOf volume (writes_upto t j) block (replicate 4096 0)
+whole_base volume size j block t long within fit whole =
+    let zeros : List ℕ = replicate (length volume) 0 in
+    let as_long : length zeros ≡ length volume = length-replicate (length volume) 0 in
+    record {
+      under = zeros;
+      as_long = as_long;
+      is = sym (block_of-volume_of-nil (length volume) block (omega arith));
+      same = whole_same zeros volume (writes_upto t j) block as_long (upto_fit size (length zeros) j t (as_long ∙ long) fit) whole;
+    }
 
 -- the block of a piece is one of the volume's
 pub block_within : (offset len blocks : ℕ) (p : Piece) → IsPieceOf offset len p → offset + len ≤ 4096 * blocks → p.block < blocks

@@ -15,6 +15,7 @@ use std::io::{BufRead, Write};
 use std::net::{Net, TcpListener, TcpStream};
 use std::sync::Wait;
 use std::thread::Threads;
+use std::time::Clock;
 
 /// The version of the program.
 const VERSION: &str = "0.1.0";
@@ -44,6 +45,7 @@ where
         + AllocGlobal
         + Threads
         + Wait
+        + Clock
         + Log
         + Copy
         + Send
@@ -100,6 +102,7 @@ where
         + AllocGlobal
         + Threads
         + Wait
+        + Clock
         + Log
         + Copy
         + Send

@@ -13,6 +13,7 @@ use std::net::{Net, TcpListener, TcpStream};
 use std::process::ExitCode;
 use std::sync::Wait;
 use std::thread::Threads;
+use std::time::Clock;
 
 mod command;
 mod fault;
@@ -61,6 +62,7 @@ where
         + AllocGlobal
         + Threads
         + Wait
+        + Clock
         + Log
         + Copy
         + Send

@@ -22,6 +22,7 @@ use std::io::Write;
 use std::net::{Net, TcpListener, TcpStream};
 use std::sync::Wait;
 use std::thread::Threads;
+use std::time::Clock;
 use world::World;
 
 /// An example of the command.
@@ -72,6 +73,7 @@ where
         + AllocGlobal
         + Threads
         + Wait
+        + Clock
         + Log
         + Copy
         + Send
@@ -154,6 +156,7 @@ where
         + AllocGlobal
         + Threads
         + Wait
+        + Clock
         + Log
         + Copy
         + Send

@@ -11,7 +11,7 @@ use std::string::String;
 use std::sync::Wait;
 use std::test::Fail;
 use std::thread::{self, Threads};
-use std::time::Duration;
+use std::time::{Clock, Duration};
 
 /// What a client sends, in hexadecimal digits, and what it gets for that.
 type Exchange = (&'static str, &'static str);
@@ -70,6 +70,7 @@ where
         + AllocGlobal
         + Threads
         + Wait
+        + Clock
         + Log
         + Copy
         + Send

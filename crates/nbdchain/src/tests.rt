@@ -130,6 +130,7 @@ where
         + AllocGlobal
         + Threads
         + Wait
+        + Clock
         + Log
         + Copy
         + Send

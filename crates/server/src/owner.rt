@@ -13,6 +13,7 @@ use std::io;
 use std::net::{TcpListener, TcpStream};
 use std::sync::Wait;
 use std::thread::{Threads, spawn};
+use std::time::{Clock, Duration};
 
 /// The clients that are served at once, at most; another waits to be accepted.
 const MAX_CLIENTS: usize = 64;
@@ -20,12 +21,28 @@ const MAX_CLIENTS: usize = 64;
 /// What the owner is told and hasn't taken up, at most; a thread that tells more waits.
 const MAX_EVENTS: usize = 256;
 
+/// The milliseconds in which nothing is told before the world takes its steps for idle time.
+const PAUSE: u64 = 5;
+
+/// How the owner goes on.
+#[derive(Clone, Copy, Debug, PartialEq, Eq)]
+enum Mode {
+    /// Something was done: more may be to do.
+    Busy,
+    /// Nothing is to do, which may change at once.
+    Pauses,
+    /// Nothing was told for a while: the world takes its steps for idle time.
+    Rests,
+    /// Nothing is left to do until something is told.
+    Sleeps,
+}
+
 /// Serves the clients that come: so many, or for ever where it is 0. It ends when the last of them is gone and nothing is
 /// left to commit.
 ///
 /// 302 `ListenFault` where the system accepts no more: then the clients that are there are hung up. 100 `Memory`, before
 /// any client is served.
-pub fn serve<R: Threads + Wait + Log + Copy + Send + 'static, S: Sessions>(
+pub fn serve<R: Threads + Wait + Clock + Log + Copy + Send + 'static, S: Sessions>(
     rt: &R,
     alloc: Global,
     listener: TcpListener,
@@ -81,16 +98,16 @@ struct Owner {
 
 impl Owner {
     /// Plays until no client is left, and none comes.
-    fn play_all<R: Threads + Wait + Log + Copy + Send + 'static, S: Sessions>(
+    fn play_all<R: Threads + Wait + Clock + Log + Copy + Send + 'static, S: Sessions>(
         &mut self,
         rt: &R,
         events: &Receiver<Event>,
         world: &mut S,
     ) {
-        let mut rests = false;
+        let mut mode = Mode::Busy;
         for _ in rt.forever() {
             self.let_come(rt);
-            self.take_all(rt, events, rests, world);
+            let told = self.take_all(rt, events, mode, world);
             let played = world.play();
             self.tell_stop(rt, world);
             let served = self.hand_out(rt, world);
@@ -100,7 +117,7 @@ impl Owner {
             if !goes_on && self.is_done() {
                 break;
             }
-            rests = !goes_on && !world.rest();
+            mode = next_mode(mode, told, goes_on, world);
         }
     }
 
@@ -137,27 +154,29 @@ impl Owner {
         }
     }
 
-    /// Takes all that was told, and waits for it where there is nothing else to do.
-    fn take_all<R: Threads + Wait + Log + Copy + Send + 'static, S: Sessions>(
+    /// Takes all that was told, and waits for it where there is nothing else to do. False where nothing was told.
+    fn take_all<R: Threads + Wait + Clock + Log + Copy + Send + 'static, S: Sessions>(
         &mut self,
         rt: &R,
         events: &Receiver<Event>,
-        waits: bool,
+        mode: Mode,
         world: &mut S,
-    ) {
-        if waits && let Ok(event) = events.recv(rt) {
-            self.take(rt, event, world);
-        }
-        for _ in 0..MAX_EVENTS {
+    ) -> bool {
+        let Some(first) = first_told(rt, events, mode) else {
+            return false;
+        };
+        self.take(rt, first, world);
+        for _ in 1..MAX_EVENTS {
             let Ok(event) = events.try_recv(rt) else {
                 break;
             };
             self.take(rt, event, world);
         }
+        true
     }
 
     /// Takes what was told.
-    fn take<R: Threads + Wait + Log + Copy + Send + 'static, S: Sessions>(
+    fn take<R: Threads + Wait + Clock + Log + Copy + Send + 'static, S: Sessions>(
         &mut self,
         rt: &R,
         event: Event,
@@ -173,7 +192,7 @@ impl Owner {
     }
 
     /// A client has come.
-    fn begin<R: Threads + Wait + Log + Copy + Send + 'static, S: Sessions>(
+    fn begin<R: Threads + Wait + Clock + Log + Copy + Send + 'static, S: Sessions>(
         &mut self,
         rt: &R,
         stream: TcpStream,
@@ -291,6 +310,31 @@ impl Owner {
             self.stop_is_told = true;
             error!(rt; "the member has stopped: {stop}");
         }
+    }
+}
+
+/// The first that is told: what was told already, or what comes while the owner waits. `None` where nothing does.
+fn first_told<R: Wait + Clock>(rt: &R, events: &Receiver<Event>, mode: Mode) -> Option<Event> {
+    match mode {
+        Mode::Busy | Mode::Rests => events.try_recv(rt).ok(),
+        Mode::Pauses => events.recv_timeout(rt, Duration::from_millis(PAUSE)).ok(),
+        Mode::Sleeps => events.recv(rt).ok(),
+    }
+}
+
+/// How the owner goes on, which was told something, or not, and did something, or not. After a pause the world takes a step for
+/// idle time, and goes on so until something is told.
+fn next_mode<S: Sessions>(mode: Mode, told: bool, goes_on: bool, world: &mut S) -> Mode {
+    if goes_on {
+        return Mode::Busy;
+    }
+    if told || mode == Mode::Busy {
+        return Mode::Pauses;
+    }
+    if world.rest() {
+        Mode::Rests
+    } else {
+        Mode::Sleeps
     }
 }
 
