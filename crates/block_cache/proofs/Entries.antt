@@ -53,6 +53,20 @@ module _ (block : ℕ) where
     ]
   ]) refl
 
+  -- what is taken out and put in front is kept, as are the others
+  pub fronted_keeps : (es : Blocks) (e f : ℕ × List ℕ) → lookup_entry (nat_eq block) es ≡ Some f → Contains es e → Contains (f ∷ remove_entry (nat_eq block) es) e
+  fronted_keeps [] e f is c = absurd (Contains-nil e c)
+  fronted_keeps (g ∷ es) e f is c = (elim (nat_eq block g.0) as (λ y. nat_eq block g.0 ≡ y → Contains (f ∷ remove_entry (nat_eq block) (g ∷ es)) e) [
+    | true ↦ λ t. let is' = rw t at is in let same : g ≡ f = cc in rw t (subst (λ (h : ℕ × List ℕ). Contains (h ∷ es) e) same c)
+    | false ↦ λ t. let is' = rw t at is in elim (Contains-cons g es e c) [
+      | inl same ↦ rw t (Contains-tail f (g ∷ remove_entry (nat_eq block) es) e (subst (Contains (g ∷ remove_entry (nat_eq block) es)) same (Contains-head g (remove_entry (nat_eq block) es))))
+      | inr rest ↦ elim (Contains-cons f (remove_entry (nat_eq block) es) e (fronted_keeps es e f is' rest)) [
+        | inl same ↦ rw t (subst (Contains (f ∷ g ∷ remove_entry (nat_eq block) es)) same (Contains-head f (g ∷ remove_entry (nat_eq block) es)))
+        | inr stays ↦ rw t (Contains-tail f (g ∷ remove_entry (nat_eq block) es) e (Contains-tail g (remove_entry (nat_eq block) es) e stays))
+      ]
+    ]
+  ]) refl
+
   -- what a look-up finds is kept
   pub looked_up : (es : Blocks) (bytes : List ℕ) → lookup (nat_eq block) es ≡ Some bytes → Keeps es block bytes
   looked_up es bytes is =
@@ -88,6 +102,11 @@ module _ (old new : LruCache ℕ (List ℕ)) (block : ℕ) (bytes : List ℕ) wh
     | inr rest ↦ absurd (removed_differs block old.entries distinct (block, image) rest refl)
   ]
 
+  others_cases : (found : Option (ℕ × List ℕ)) → lookup_entry (nat_eq block) old.entries ≡ found → IsCached old.entries block → (b : ℕ) (image : List ℕ) → b ≢ block
+      → Keeps old.entries b image → Keeps (put_entries nat_eq old block bytes) b image
+  others_cases None is cached b image apart there = absurd (none_cached is cached)
+  others_cases (Some f) is cached b image apart there = rw is (Contains-tail (f.0, bytes) (remove_entry (nat_eq block) old.entries) (b, image) (removed_keeps block old.entries (b, image) apart there))
+
   module _ {T E : Type 0} where
     pub put_keeps : (result : Result T E) → OnOk result After → OnErr result (new ≡ old)
         → (b : ℕ) (image : List ℕ) → Keeps new.entries b image → Keeps old.entries b image ⊎ ((b ≡ block) × (image ≡ bytes))
@@ -96,6 +115,11 @@ module _ (old new : LruCache ℕ (List ℕ)) (block : ℕ) (bytes : List ℕ) wh
       | inl was ↦ inl was
       | inr (is, either) ↦ inr (⊎_elim (λ same. same) (λ (w, was, passes). sym (eqb-true block b passes)) either, is)
     ]
+
+    pub put_others : (result : Result T E) → OnOk result After → OnErr result (new ≡ old) → IsCached old.entries block
+        → (b : ℕ) (image : List ℕ) → b ≢ block → Keeps old.entries b image → Keeps new.entries b image
+    put_others (Err e) ok err cached b image apart there = subst (λ (c : LruCache ℕ (List ℕ)). Keeps c.entries b image) (sym err) there
+    put_others (Ok v) ok err cached b image apart there = subst (λ (c : LruCache ℕ (List ℕ)). Keeps c.entries b image) (sym ok) (others_cases (lookup_entry (nat_eq block) old.entries) refl cached b image apart there)
 
     pub put_renews : (result : Result T E) → OnOk result After → (IsSome (lookup (nat_eq block) old.entries) → IsOk result) → IsCached old.entries block → Keeps new.entries block bytes
     put_renews (Err e) ok succeeds cached = cc (succeeds ((found_is_cached block old.entries).1 cached))
@@ -111,6 +135,14 @@ module _ (old new : LruCache ℕ (List ℕ)) (block : ℕ) (bytes : List ℕ) wh
 -- a block that was looked up goes first
 pub promoted_keeps : (block : ℕ) (es : Blocks) (b : ℕ) (image : List ℕ) → Keeps (promoted (nat_eq block) es) b image → Keeps es b image
 promoted_keeps block es b image there = Contains-promoted (nat_eq block) es (b, image) there
+
+promoted_cases : (block : ℕ) (es : Blocks) (found : Option (ℕ × List ℕ)) → lookup_entry (nat_eq block) es ≡ found → (b : ℕ) (image : List ℕ) → Keeps es b image → Keeps (promoted (nat_eq block) es) b image
+promoted_cases block es None is b image there = rw is there
+promoted_cases block es (Some f) is b image there = rw is (fronted_keeps block es (b, image) f is there)
+
+-- and the others stay behind it
+pub promoted_has : (block : ℕ) (es : Blocks) (b : ℕ) (image : List ℕ) → Keeps es b image → Keeps (promoted (nat_eq block) es) b image
+promoted_has block es b image there = promoted_cases block es (lookup_entry (nat_eq block) es) refl b image there
 
 -- bytes written over a block, and the other blocks
 module _ (home : List ℕ) (block : ℕ) (bytes : List ℕ) (whole : length bytes ≡ 4096) (room : 4096 * (block + 1) ≤ length home) where

@@ -98,6 +98,7 @@ impl Cache {
         ensures agrees { D.keeps_model → Agrees self.old (inside (home_part home.now.superblock.geometry) (D.gives disk.old))
             → Agrees self.new (inside (home_part home.now.superblock.geometry) (D.gives disk.new)) }
         ensures hit { IsCached self.old block → IsOk result × (disk.new ≡ disk.old) }
+        ensures kept { IsCached self.old block → (b : ℕ) (image : List ℕ) → Keeps self.old b image → Keeps self.new b image }
         ensures reads { D.keeps_model → OnlyReads D.gives D.may_leave_now D.moment D.may_have_left_since disk.old disk.new }
         ensures size { D.size disk.new ≡ D.size disk.old }
         ensures cause { HasCause DiskError.ReadFault (D.failures disk.old) (D.failures disk.new) result }
@@ -131,6 +132,7 @@ impl Cache {
         ensures kept { (b : ℕ) (image : List ℕ) → Keeps self.new b image → Keeps self.old b image ⊎ ((b ≡ block) × (image ≡ bytes.now)) }
         ensures renewed { IsCached self.old block → Keeps self.new block bytes.now }
         ensures once { IsDistinct nat_eq (keys_of self.old) → IsCached self.old block → (image : List ℕ) → Keeps self.new block image → image ≡ bytes.now }
+        ensures others { IsCached self.old block → (b : ℕ) (image : List ℕ) → b ≢ block → Keeps self.old b image → Keeps self.new b image }
     {
         let mut image = [0; BLOCK_BYTES];
         image.copy_from_slice(bytes);
@@ -144,6 +146,7 @@ impl Cache {
         ensures agrees { (home : List ℕ) → 4096 * (block + 1) ≤ length home → Agrees self.old home → Agrees self.new (put home (4096 * block) image.now) }
         ensures renewed { IsCached self.old block → Keeps self.new block image.now }
         ensures absent { ¬ IsCached self.old block → self.new ≡ self.old }
+        ensures others { (b : ℕ) (bytes : List ℕ) → b ≢ block → Keeps self.old b bytes → Keeps self.new b bytes }
     {
         if self.contains(block) {
             self.keep(block, image);

@@ -118,6 +118,8 @@ impl FileDisk {
         ensures len { file_len self.new ≡ file_len self.old }
         ensures failures { file_failures self.new ≡ (if is_ok done then file_failures self.old else file_failures self.old + 1) }
         ensures broken { file_is_broken self.new ≡ not (is_ok done) }
+        ensures kept { OnOk done (file_last_error self.new ≡ file_last_error self.old) }
+        ensures noted { IfErr done (λ e. file_last_error self.new ≡ raw_os_error e) }
     {
         self.broken = done.is_err();
         self.settle(done, fault)
@@ -157,7 +159,7 @@ fn folder_of(path: &str) -> &str {
 impl Disk for FileDisk {
     ghost use Rattle.std.specs.Prelude.{◌≡◌, ◌⊎◌, ◌↔◌, ◌+◌, ◌-◌, ◌^◌, ◌≤◌, [], length, IsTrue, IsErr, OnOk, IsErrOf};
     ghost use Rattle.disk_model.specs.Error.{HasCause};
-    ghost use Rattle.disk_model.specs.File.{file_len, file_failures, file_is_broken};
+    ghost use Rattle.disk_model.specs.File.{file_len, file_failures, file_is_broken, file_last_error};
 
     ghost keeps_model = { ⊥ };
 
@@ -194,6 +196,7 @@ impl Disk for FileDisk {
         ensures memory { IsErrOf result DiskError.Memory ↔ (file_failures self.old ≡ 2 ^ 64 - 1) }
         ensures cause { HasCause DiskError.ReadFault (file_failures self.old) (file_failures self.new) result }
         ensures latch { file_is_broken self.new ≡ file_is_broken self.old }
+        ensures kept { OnOk result (file_last_error self.new ≡ file_last_error self.old) }
     {
         if self.failures == u64::MAX {
             return Err(DiskError::Memory);
@@ -210,6 +213,8 @@ impl Disk for FileDisk {
         ensures cause { HasCause DiskError.WriteFault (file_failures self.old) (file_failures self.new) result }
         ensures latched { IsTrue (file_is_broken self.old) → IsErr result }
         ensures latch { IsTrue (file_is_broken self.new) ↔ (IsTrue (file_is_broken self.old) ⊎ IsErrOf result DiskError.WriteFault) }
+        ensures kept { OnOk result (file_last_error self.new ≡ file_last_error self.old) }
+        ensures unmade { IsTrue (file_is_broken self.old) → file_last_error self.new ≡ file_last_error self.old }
     {
         if self.failures == u64::MAX {
             return Err(DiskError::Memory);
@@ -228,6 +233,8 @@ impl Disk for FileDisk {
         ensures cause { HasCause DiskError.SyncFault (file_failures self.old) (file_failures self.new) result }
         ensures latched { IsTrue (file_is_broken self.old) → IsErr result }
         ensures latch { IsTrue (file_is_broken self.new) ↔ (IsTrue (file_is_broken self.old) ⊎ IsErrOf result DiskError.SyncFault) }
+        ensures kept { OnOk result (file_last_error self.new ≡ file_last_error self.old) }
+        ensures unmade { IsTrue (file_is_broken self.old) → file_last_error self.new ≡ file_last_error self.old }
     {
         if self.failures == u64::MAX {
             return Err(DiskError::Memory);

@@ -1,6 +1,6 @@
 //! A client, as the owner has it: its two threads, and how far they are.
-ghost use Rattle.std.specs.Prelude.{◌≡◌, IfOk, IfSome, true};
-ghost use Rattle.server.specs.Flow.{HasRoom, MayWrite};
+ghost use Rattle.std.specs.Prelude.{◌≡◌, ◌⊎◌, IfOk, IfSome, IsNone, IsSome, true, false};
+ghost use Rattle.server.specs.Flow.{Fed, Given, HasRoom, Leave, MayWrite, Written, after};
 
 use crate::event::{Event, PIECE, Piece};
 use crate::flow::Flow;
@@ -37,7 +37,8 @@ impl Client {
         stream: TcpStream,
         events: &Sender<Event>,
     ) -> Result<Client, Refusal>
-        ensures { IfOk result (λ client. client.session ≡ session) }
+        ensures session { IfOk result (λ client. client.session ≡ session) }
+        ensures flow { IfOk result (λ client. client.flow ≡ record { reading = false; writing = false; ahead = false; ended = false; told = false; closed = false }) }
     {
         // It only makes small replies quicker.
         let _ = stream.set_nodelay(true);
@@ -73,9 +74,12 @@ impl Client {
         })
     }
 
-    /// The reader may read a piece.
+    /// The reader may read a piece, unless it is to end, or has the buffer.
     pub(crate) fn let_read<R: Wait>(&mut self, rt: &R)
         requires { HasRoom self.old.flow }
+        ensures leave { IsSome self.old.buffers → IsSome self.old.spare → self.new.flow ≡ after self.old.flow Leave }
+        ensures none { (IsNone self.old.buffers ⊎ IsNone self.old.spare) → self.new.flow ≡ self.old.flow }
+        ensures session { self.new.session ≡ self.old.session }
     {
         if let Some(buffers) = &self.buffers
             && let Some(spare) = self.spare.take()
@@ -87,7 +91,10 @@ impl Client {
     }
 
     /// The reader's piece was fed.
-    pub(crate) fn take_back(&mut self, piece: Piece) {
+    pub(crate) fn take_back(&mut self, piece: Piece)
+        ensures flow { self.new.flow ≡ after self.old.flow Fed }
+        ensures session { self.new.session ≡ self.old.session }
+    {
         self.flow.feed();
         self.spare = Some(piece.buffer);
     }
@@ -95,6 +102,8 @@ impl Client {
     /// The writer is to write.
     pub(crate) fn write<R: Wait>(&mut self, rt: &R, bytes: BytesMut)
         requires { MayWrite self.old.flow }
+        ensures flow { (self.new.flow ≡ after self.old.flow Given) ⊎ (self.new.flow ≡ after self.old.flow Written) }
+        ensures session { self.new.session ≡ self.old.session }
     {
         self.flow.give_bytes();
         if self.outputs.send(rt, bytes).is_err() {
@@ -104,7 +113,8 @@ impl Client {
 
     /// The session is told that its input has ended, if it wasn't told yet.
     pub(crate) fn end<S: Sessions>(&mut self, world: &mut S)
-        ensures { self.new.flow ≡ record self.old.flow { told = true } }
+        ensures flow { self.new.flow ≡ record self.old.flow { told = true } }
+        ensures session { self.new.session ≡ self.old.session }
     {
         if !self.flow.told {
             self.flow.told = true;
@@ -113,7 +123,10 @@ impl Client {
     }
 
     /// Nothing more is to be read or written: both threads end.
-    pub(crate) fn hang_up(&mut self) {
+    pub(crate) fn hang_up(&mut self)
+        ensures flow { self.new.flow ≡ self.old.flow }
+        ensures session { self.new.session ≡ self.old.session }
+    {
         self.buffers = None;
         // It may be shut down already.
         let _ = self.stream.shutdown(Shutdown::Both);

@@ -1,6 +1,7 @@
 //! The owner of all sessions, and the loop in which it plays.
-ghost use Rattle.std.specs.Prelude.{◌≡◌, ◌<◌, ◌≤◌, length, IfErr, IfSome};
-ghost use Rattle.server.specs.Flow.{MayWrite};
+ghost use Rattle.std.specs.Prelude.{◌≡◌, ◌≢◌, ◌⊎◌, ◌↔◌, ◌<◌, ◌≤◌, Some, true, false, All, length, slice_get, IfErr, IfNone, IfSome, IsTrue};
+ghost use Rattle.server.specs.Flow.{IsDone, MayWrite};
+ghost use Rattle.server.specs.Owner.{IsOver, WantsMore};
 
 use crate::client::Client;
 use crate::event::{Event, Piece};
@@ -138,17 +139,24 @@ impl Owner {
     }
 
     /// Whether another client is to come.
-    fn wants_more(&self) -> bool {
+    fn wants_more(&self) -> bool
+        ensures { IsTrue result ↔ WantsMore self.now }
+    {
         self.refusal.is_none() && (self.wanted == 0 || self.begun < self.wanted)
     }
 
     /// Whether no client is there, and none comes.
-    fn is_done(&self) -> bool {
+    fn is_done(&self) -> bool
+        ensures { IsTrue result ↔ IsOver self.now }
+    {
         !self.wants_more() && self.clients.is_empty() && !self.accepting
     }
 
     /// Lets the acceptor accept a client, while there is room for one.
-    fn let_come<R: Wait>(&mut self, rt: &R) {
+    fn let_come<R: Wait>(&mut self, rt: &R)
+        ensures lets { self.new.accepting ≡ true → (self.old.accepting ≡ true) ⊎ (WantsMore self.old × (length self.old.clients.items < MAX_CLIENTS)) }
+        ensures stays { self.new ≡ record self.old { accepting = self.new.accepting } }
+    {
         if self.wants_more() && !self.accepting && self.clients.len() < MAX_CLIENTS {
             self.accepting = self.leaves.send(rt, ()).is_ok();
         }
@@ -218,7 +226,10 @@ impl Owner {
     }
 
     /// No client can come any more; those that are there are hung up.
-    fn fail(&mut self, reason: io::Error) {
+    fn fail(&mut self, reason: io::Error)
+        ensures refusal { self.new.refusal ≡ Some reason }
+        ensures accepting { self.new.accepting ≡ false }
+    {
         self.accepting = false;
         self.refusal = Some(reason);
         for client in self.clients.iter_mut() {
@@ -228,7 +239,9 @@ impl Owner {
 
     /// The place of a session's client.
     fn place_of(&self, session: u64) -> Option<usize>
-        ensures { IfSome result (λ place. place < length self.now.clients.items) }
+        ensures within { IfSome result (λ place. place < length self.now.clients.items) }
+        ensures session { IfSome result (λ place. IfSome (slice_get self.now.clients.items place) (λ client. client.session ≡ session)) }
+        ensures none { IfNone result (All (λ client. client.session ≢ session) self.now.clients.items) }
     {
         self.clients
             .iter()
@@ -296,7 +309,9 @@ impl Owner {
 
     /// The place of a client that is gone.
     fn place_of_gone(&self) -> Option<usize>
-        ensures { IfSome result (λ place. place < length self.now.clients.items) }
+        ensures within { IfSome result (λ place. place < length self.now.clients.items) }
+        ensures gone { IfSome result (λ place. IfSome (slice_get self.now.clients.items place) (λ client. IsDone client.flow)) }
+        ensures none { IfNone result (All (λ client. ¬ IsDone client.flow) self.now.clients.items) }
     {
         self.clients.iter().position(|client| client.flow.is_done())
     }

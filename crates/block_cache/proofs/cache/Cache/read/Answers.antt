@@ -4,7 +4,7 @@ use Rattle.home_blocks.specs.Places.{home_part}
 use Rattle.lru.specs.LruCache.{LruCache}
 use Rattle.volume.specs.Writes.{block_of}
 use Rattle.block_cache.specs.Cache.{Blocks, IsCached, Keeps}
-use Rattle.block_cache.proofs.Entries.{looked_up, nothing_kept, promoted_keeps}
+use Rattle.block_cache.proofs.Entries.{looked_up, nothing_kept, promoted_has, promoted_keeps}
 use Rattle.block_cache.proofs.cache.Cache.read.Goals as goal
 
 pub returns-in-Some-clause-read : goal.returns-in-Some-clause-read
@@ -41,4 +41,17 @@ returns-clause-agrees g c = λ keeps agrees b image there.
 
 pub returns-clause-hit : goal.returns-clause-hit
 returns-clause-hit g c = λ cached.
+    absurd (nothing_kept c.args.block c.self.inside.blocks.entries (sym c.get.ensures.value ∙ sym c.in_default.ensures) (subst (λ (es : Blocks). IsCached es c.args.block) (sym c.self.view_is) cached))
+
+pub returns-in-Some-clause-kept : goal.returns-in-Some-clause-kept
+returns-in-Some-clause-kept g c = λ cached b image there.
+    subst (λ (l : LruCache ℕ (List ℕ)). Keeps l.entries b image) (sym c.get.follows.holds-at-none)
+    (promoted_has c.args.block c.self.inside.blocks.entries b image (subst (λ (es : Blocks). Keeps es b image) (sym c.self.view_is) there))
+
+pub returns-in_err-read_home-clause-kept : goal.returns-in_err-read_home-clause-kept
+returns-in_err-read_home-clause-kept g c = λ cached b image there.
+    absurd (nothing_kept c.args.block c.self.inside.blocks.entries (sym c.get.ensures.value ∙ sym c.in_default.ensures) (subst (λ (es : Blocks). IsCached es c.args.block) (sym c.self.view_is) cached))
+
+pub returns-clause-kept : goal.returns-clause-kept
+returns-clause-kept g c = λ cached b image there.
     absurd (nothing_kept c.args.block c.self.inside.blocks.entries (sym c.get.ensures.value ∙ sym c.in_default.ensures) (subst (λ (es : Blocks). IsCached es c.args.block) (sym c.self.view_is) cached))

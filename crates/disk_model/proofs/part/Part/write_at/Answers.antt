@@ -1,4 +1,4 @@
-use Rattle.std.proofs.Common.{◌≤◌, ◌+◌, length, sym, ap, subst, arith, refl}
+use Rattle.std.proofs.Common.{◌≤◌, ◌+◌, length, sym, subst, arith, refl}
 use Rattle.std.proofs.lemmas.Result.{on_err_weaker, on_ok_weaker}
 use Rattle.disk_model.specs.Disk.{Torn}
 use Rattle.disk_model.specs.Part.{inside}
