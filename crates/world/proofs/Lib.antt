@@ -1,3 +1,4 @@
+pub mod Accounts
 mod AlikeSteps
 mod BeginningSteps
 mod CallSteps

@@ -12,7 +12,7 @@ use Rattle.version_table.specs.Held.{Held as Table, IsClean, applied_of, writes_
 use Rattle.version_table.specs.Marks.{ReachesBlock}
 use Rattle.version_table.specs.declared.kept.Kept.{Kept}
 use Rattle.version_table.specs.declared.kept.Origin.{Origin}
-use Rattle.volume.specs.Writes.{Fits, IsTouched, Placed, KnowsAndHas, patched}
+use Rattle.volume.specs.Writes.{Fits, IsTouched, Placed, Overlaps, patched}
 use Rattle.volume.specs.Volumes.{length-patched, range-patched_apart}
 use Rattle.chain_steps.specs.Node.{epoch_of}
 use Rattle.chain_steps.specs.Steps.{flush, read_asked, submit}
@@ -62,7 +62,7 @@ length_folded size volume (k ∷ ks) sized inside =
     length_folded size (patched volume k.write) ks (length-patched volume k.write fits ∙ sized) (All-tail (λ (x : Kept). Fits size x.write) k ks inside)
 
 -- a write that reaches a range touches one of its blocks
-reaches_block : (w : Placed) (offset len : ℕ) → KnowsAndHas w offset len → (b : ℕ) × ReachesBlock offset len b × IsTouched w b
+reaches_block : (w : Placed) (offset len : ℕ) → Overlaps w offset len → (b : ℕ) × ReachesBlock offset len b × IsTouched w b
 reaches_block w offset len (left, right, some, long) =
     let x : ℕ = max w.offset offset in
     let b : ℕ = x / 4096 in
@@ -76,7 +76,7 @@ unreached : (size offset len : ℕ) (volume : List ℕ) (ks : List Kept) → len
 unreached size offset len volume [] sized inside clean = refl
 unreached size offset len volume (k ∷ ks) sized inside clean =
     let fits : Fits (length volume) k.write = subst (λ (n : ℕ). Fits n k.write) (sym sized) (All-head (λ (x : Kept). Fits size x.write) k ks inside) in
-    let apart : ¬ KnowsAndHas k.write offset len = (λ reaches. let (b, in_range, touched) = reaches_block k.write offset len reaches in All-head (λ (x : Kept). ¬ IsTouched x.write b) k ks (clean b in_range) touched) in
+    let apart : ¬ Overlaps k.write offset len = (λ reaches. let (b, in_range, touched) = reaches_block k.write offset len reaches in All-head (λ (x : Kept). ¬ IsTouched x.write b) k ks (clean b in_range) touched) in
     unreached size offset len (patched volume k.write) ks (length-patched volume k.write fits ∙ sized) (All-tail (λ (x : Kept). Fits size x.write) k ks inside)
     (λ b in_range. All-tail (λ (x : Kept). ¬ IsTouched x.write b) k ks (clean b in_range))
     ∙ range-patched_apart volume k.write offset len fits apart

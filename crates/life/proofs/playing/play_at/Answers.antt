@@ -35,7 +35,7 @@ returns-in-Look g c = record {
 
 pub returns-in-AnswerFront : goal.returns-in-AnswerFront
 returns-in-AnswerFront g c = record {
-  does = rw c.in-AnswerFront.is (c.answer_front.result, c.told-in-AnswerFront.ensures, record { did = c.answer_front.ensures.answered; idle = c.answer_front.ensures.stopped });
+  does = rw c.in-AnswerFront.is (c.answer_front.result, c.told-in-AnswerFront.ensures, record { answered = record { did = c.answer_front.ensures.answered; idle = c.answer_front.ensures.stopped }; any_moment = c.answer_front.ensures.any_moment });
   one_volume = λ premise. told_so g.S.StoreLike.about g.S.StoreLike.keeps g.S.StoreLike.may_leave_now _ _ no_one _ c.answer_front.result c.told-in-AnswerFront.ensures (c.answer_front.ensures.one_volume premise);
 }
 
