@@ -4,7 +4,7 @@
  *     gcc -O2 -Wall -pthread -o load load.c
  *     load PORT KIND ORDER SIZE DEPTH CLIENTS SECONDS
  *         KIND: read, write, fua, flush (a write and a FLUSH behind it count as one); ORDER: random, sequential
- *     load sync FILE SECONDS      the rate of a write of 4 KiB and fdatasync, in a file that is made and removed
+ *     load sync FILE SIZE SECONDS  the rate of a write of SIZE and fdatasync, in a file that is made and removed
  *
  * It needs Linux. Each client is a session in a thread of its own, with DEPTH requests in flight. All replies that one
  * recv gives are taken, and as many requests then go out in one sendmsg: so it costs little beside the server. The data
@@ -279,21 +279,23 @@ static double percentile(const struct client *all, double share)
 }
 
 /* Writes 4 KiB and syncs them, for so many seconds. */
-static int measure_sync(const char *path, double length)
+static int measure_sync(const char *path, size_t size, double length)
 {
-    char block[4096];
-    memset(block, 0x5a, sizeof block);
+    char *block = malloc(size);
+    if (block == NULL)
+        fail("finding memory");
+    memset(block, 0x5a, size);
     int file = open(path, O_RDWR | O_CREAT | O_TRUNC, 0600);
     if (file < 0)
         fail(path);
     for (int n = 0; n < 256; n++)
-        if (pwrite(file, block, sizeof block, n * 4096) != 4096)
+        if (pwrite(file, block, size, (off_t)n * (off_t)size) != (ssize_t)size)
             fail("writing");
     if (fsync(file) != 0)
         fail("syncing");
     uint64_t from = now(), until = from + (uint64_t)(length * 1e9), done = 0, time;
     while ((time = now()) < until) {
-        if (pwrite(file, block, sizeof block, (off_t)(done % 256) * 4096) != 4096 || fdatasync(file) != 0)
+        if (pwrite(file, block, size, (off_t)(done % 256) * (off_t)size) != (ssize_t)size || fdatasync(file) != 0)
             fail("syncing");
         done++;
     }
@@ -306,8 +308,8 @@ static int measure_sync(const char *path, double length)
 /* Reads the words of the command line, plays all clients and prints what they took. */
 int main(int count_of_words, char **words)
 {
-    if (count_of_words == 4 && strcmp(words[1], "sync") == 0)
-        return measure_sync(words[2], atof(words[3]));
+    if (count_of_words == 5 && strcmp(words[1], "sync") == 0)
+        return measure_sync(words[2], (size_t)atoi(words[3]), atof(words[4]));
     if (count_of_words != 8) {
         fprintf(stderr, "load: what to do? The beginning of load.c says how\n");
         return 1;

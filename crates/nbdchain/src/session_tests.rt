@@ -3,7 +3,7 @@ use crate::tests::{played, shown};
 use flush_barrier::SessionId;
 use life::{Act, Answer, Step};
 use simulator::NEGOTIATION;
-use std::alloc::Global;
+use std::alloc::{AllocError, Global};
 use std::test::Fail;
 use volume::{Geometry, least_area};
 
@@ -178,31 +178,34 @@ const FIRST_WRITE: [u8; 31] = [
     0, 3, 0x41, 0x42, 0x43,
 ];
 
+/// A session that negotiates, sends these bytes, and ends; and the member takes what it demands.
+fn session_of(alloc: Global, bytes: &[u8]) -> Result<Vec<Step>, AllocError> {
+    let session = SessionId(1);
+    let hello = Vec::from_slice(alloc, &NEGOTIATION)?;
+    let piece = Vec::from_slice(alloc, bytes)?;
+    Ok(vec![in alloc;
+        Step::Connect { session, at: 0 },
+        Step::Bytes {
+            session,
+            piece: hello
+        },
+        Step::HandOut { session },
+        Step::Bytes { session, piece },
+        Step::End { session },
+        Step::HandOut { session },
+        Step::Member {
+            at: 0,
+            act: Act::Take
+        },
+    ]?)
+}
+
 #[test]
 fn cut_requests(rt: HostRuntime) -> Result<(), Fail> {
     let alloc = rt.alloc();
-    let session = SessionId(1);
     let geometry = Geometry::new(8, least_area(4_096), 4_096)?;
     for cut in 1..FIRST_WRITE.len() {
-        let (hello, piece) = (
-            Vec::from_slice(alloc, &NEGOTIATION)?,
-            Vec::from_slice(alloc, &FIRST_WRITE[..cut])?,
-        );
-        let steps = vec![in alloc;
-            Step::Connect { session, at: 0 },
-            Step::Bytes {
-                session,
-                piece: hello
-            },
-            Step::HandOut { session },
-            Step::Bytes { session, piece },
-            Step::End { session },
-            Step::HandOut { session },
-            Step::Member {
-                at: 0,
-                act: Act::Take
-            },
-        ]?;
+        let steps = session_of(alloc, &FIRST_WRITE[..cut])?;
         let mut world = life::begin(alloc, geometry, 1)?;
         let (mut last, mut before) = (Answer::Skipped, Answer::Skipped);
         for step in &steps {

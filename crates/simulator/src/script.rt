@@ -130,19 +130,7 @@ pub fn parse(alloc: Global, line: &[u8]) -> Result<Option<ScriptCommand>, LineEr
     let text = str::from_utf8(line).map_err(|_| LineError::NotText)?;
     let words: Vec<&str> = text.split(' ').collect(alloc)?;
     let command = match words.as_slice() {
-        ["new", members, blocks, max_payload] => ScriptCommand::New {
-            members: number(members)?,
-            blocks: length(blocks)?,
-            max_payload: length(max_payload)?,
-        },
-        ["connect", session, member] => ScriptCommand::Connect {
-            session: SessionId(number(session)?),
-            member: number(member)?,
-        },
-        ["session", session, member] => ScriptCommand::Session {
-            session: SessionId(number(session)?),
-            member: number(member)?,
-        },
+        ["new" | "connect" | "session", ..] => beginning(&words)?,
         ["write" | "fua" | "read" | "flush", ..] => request_command(alloc, &words)?,
         ["bytes", session, first, others @ ..] => ScriptCommand::Bytes {
             session: SessionId(number(session)?),
@@ -168,6 +156,26 @@ pub fn parse(alloc: Global, line: &[u8]) -> Result<Option<ScriptCommand>, LineEr
         _ => return Err(LineError::Malformed),
     };
     Ok(Some(command))
+}
+
+/// A world or a session begins.
+fn beginning(words: &[&str]) -> Result<ScriptCommand, LineError> {
+    match words {
+        ["new", members, blocks, max_payload] => Ok(ScriptCommand::New {
+            members: number(members)?,
+            blocks: length(blocks)?,
+            max_payload: length(max_payload)?,
+        }),
+        ["connect", session, member] => Ok(ScriptCommand::Connect {
+            session: SessionId(number(session)?),
+            member: number(member)?,
+        }),
+        ["session", session, member] => Ok(ScriptCommand::Session {
+            session: SessionId(number(session)?),
+            member: number(member)?,
+        }),
+        _ => Err(LineError::Malformed),
+    }
 }
 
 /// A request from a session's client.
