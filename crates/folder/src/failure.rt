@@ -1,5 +1,6 @@
 use crate::{FileName, Refusal};
 use disk_model::FileDisk;
+use std::io::ErrorKind;
 use std::{fmt, io};
 
 /// Why a folder wasn't formatted or opened: the refusal, the file, and the system's reason, where it gave one. It prints
@@ -15,12 +16,15 @@ pub struct Failure {
 }
 
 impl Failure {
-    ghost use Rattle.std.specs.Prelude.{◌≡◌};
+    ghost use Rattle.std.specs.Prelude.{◌≡◌, ◌↔◌, Some, None, IfSome, IsNone, IsSomeAnd, IsTrue};
+    ghost use Rattle.std.specs.IoError.{error_kind, raw_os_error};
+    ghost use Rattle.disk_model.specs.File.{file_last_error};
 
     /// The refusal of a file that the system has refused.
     pub(crate) fn of_file(file: FileName, reason: io::Error) -> Failure
         ensures refusal { result.refusal ≡ Refusal.FileFault }
         ensures file { result.file ≡ file }
+        ensures reason { result.reason ≡ Some reason }
     {
         Failure {
             refusal: Refusal::FileFault,
@@ -33,6 +37,8 @@ impl Failure {
     pub(crate) fn of_disk(file: FileName, refusal: Refusal, disk: &FileDisk) -> Failure
         ensures refusal { result.refusal ≡ refusal }
         ensures file { result.file ≡ file }
+        ensures reason { IfSome (file_last_error disk.now) (λ number. IfSome result.reason (λ said. raw_os_error said ≡ Some number)) }
+        ensures none { IsNone result.reason ↔ IsNone (file_last_error disk.now) }
     {
         let reason = match disk.last_error() {
             Some(number) => Some(io::Error::from_raw_os_error(number)),
@@ -46,9 +52,11 @@ impl Failure {
     }
 
     /// Whether the system said that there is no such file.
-    pub(crate) fn is_not_found(&self) -> bool {
+    pub(crate) fn is_not_found(&self) -> bool
+        ensures { IsTrue result ↔ IsSomeAnd self.now.reason (λ said. error_kind said ≡ ErrorKind.NotFound) }
+    {
         match &self.reason {
-            Some(reason) => reason.kind() == io::ErrorKind::NotFound,
+            Some(reason) => reason.kind() == ErrorKind::NotFound,
             None => false,
         }
     }
@@ -57,6 +65,7 @@ impl Failure {
     pub(crate) fn of_memory(file: FileName) -> Failure
         ensures refusal { result.refusal ≡ Refusal.Memory }
         ensures file { result.file ≡ file }
+        ensures reason { result.reason ≡ None }
     {
         Failure {
             refusal: Refusal::Memory,

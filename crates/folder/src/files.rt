@@ -1,5 +1,5 @@
 //! A folder of files. No contract can say what a file holds; the disks' own clauses say what follows from the disk model.
-ghost use Rattle.std.specs.Prelude.{◌≡◌, ◌<◌, ◌≤◌, [], ◌∷◌, IfErr, IfOk, length};
+ghost use Rattle.std.specs.Prelude.{◌≡◌, ◌<◌, ◌≤◌, [], ◌∷◌, ◌++◌, IfErr, IfNone, IfOk, IfSome, OnOk, length, slice_get};
 ghost use Rattle.disk_model.specs.File.{file_len};
 ghost use Rattle.folder.specs.Chain as records;
 ghost use Rattle.folder.specs.Found.{IsRunning, member_in};
@@ -195,7 +195,10 @@ fn open_if_there<R: Files<File = File> + AllocGlobal>(
 }
 
 impl Members {
-    fn add(&mut self, slot: Slot, disk: FileDisk) -> Result<(), AllocError> {
+    fn add(&mut self, slot: Slot, disk: FileDisk) -> Result<(), AllocError>
+        ensures slot { OnOk result (self.new.slots.items ≡ self.old.slots.items ++ slot ∷ []) }
+        ensures disk { OnOk result (self.new.disks.items ≡ self.old.disks.items ++ disk ∷ []) }
+    {
         self.slots.push(slot)?;
         self.disks.push(disk)?;
         Ok(())
@@ -204,7 +207,9 @@ impl Members {
 
 /// Which file a refusal is of.
 fn blamed(slots: &[Slot], refused: &Refused<FileDisk>) -> Failure
-    ensures { result.refusal ≡ refused.now.refusal }
+    ensures refusal { result.refusal ≡ refused.now.refusal }
+    ensures member { IfSome refused.now.fault (λ fault. IfSome (slice_get slots.now fault.place) (λ slot. result.file ≡ FileName.Slot slot)) }
+    ensures config { IfNone refused.now.fault (result.file ≡ FileName.Config) }
 {
     match &refused.fault {
         Some(fault) => {
