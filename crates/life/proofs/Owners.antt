@@ -224,7 +224,7 @@ module _ {S : Type 0} (about : S → About) where
       | inr (others, refusal, did, replies) ↦ refused at is.demand others refusal old.chain new.chain did
     ]
 
-    take_first : (at : ℕ) (given : Option Told) (old new : Seen S) → TakesFirst premise about keeps moment left_since failures at given old new → StayOwn old.chain new.chain
+    take_first : (at : ℕ) (given : Option Told) (old new : Seen S) → TakesFirst premise about keeps is_pending may_leave_now moment left_since failures at given old new → StayOwn old.chain new.chain
     take_first at (Some told) old new is = takes at told old new is.taken
     take_first at None old new is = stay_same old.chain new.chain (ap (λ w. w.chain) is.none.1)
 

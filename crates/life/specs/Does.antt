@@ -129,7 +129,7 @@ module _ {S : Type 0} (premise : Type 0) (about : S → About) (keeps : S → Li
 
   -- what the member at the place did
   abbrev pub Acts : Act → ℕ → Answer → Seen S → Seen S → Type 0
-  Acts acts.Take at answer old new = IsTold answer (λ given. TakesFirst premise about keeps moment left_since failures at given old new)
+  Acts acts.Take at answer old new = IsTold answer (λ given. TakesFirst premise about keeps is_pending may_leave_now moment left_since failures at given old new)
   Acts acts.Number at answer old new = IsTried answer (λ given. Numbers at given old new)
   Acts acts.Put at answer old new = IsTried answer (λ given. TakesPut at given old new)
   Acts acts.Ack at answer old new = IsTried answer (λ given. TakesAck at given old new)

@@ -9,6 +9,7 @@ mod InnerSteps
 mod JoinedSteps
 mod ReceptionSteps
 mod Results
+mod StoppingSteps
 mod TakenSteps
 mod TakingSteps
 mod TellingSteps

@@ -7,6 +7,6 @@ returns-in_default c = record { lost = c.tell_all.result; events = c.tell_all.en
 
 pub returns : goal.returns
 returns c =
-    let all = c.tell_all_out.ensures.told in
-    told_out c.told_with.result c.tell_all_out.result c.args.replies.items c.args.clients.now c.tell_all_out.new.clients all.0 all.1
+    let all = c.tell_all_out-lost.ensures.told in
+    told_out c.told_with.result c.tell_all_out-lost.result c.args.replies.items c.args.clients.now c.tell_all_out-lost.new.clients all.0 all.1
     c.told_with.ensures.room (c.told_with.ensures.outputs ∙ all.2.1 ∙ ap (λ l. l ++ all.0) c.in-Ok.ensures.items) c.told_with.ensures.loss all.2.0

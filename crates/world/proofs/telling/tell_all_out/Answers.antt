@@ -10,11 +10,11 @@ pub loop-served-preserved : goal.loop-served-preserved
 loop-served-preserved c = record {
   goes =
       λ final more outputs events told.
-          let given = c.tell_one_out.result.0 in
-          let one = c.tell_one_out.result.1 in
-          let all = c.loop-served.invariant.goes final (one || more) (option_to_list given ++ outputs) (c.tell_one_out.ensures.0 ++ events)
-          (told_before true one more c.loop-served.served-iterator.rest.items c.next.new.self.rest.items c.reply.result c.in-Some.served c.loop-served.clients c.tell_one_out.new.clients final given outputs c.tell_one_out.ensures.0 events
-          c.in-Some.ensures.steps.0 c.reply.ensures c.tell_one_out.ensures.1 told) in (
+          let given = c.tell_one_out-given.result.0 in
+          let one = c.tell_one_out-given.result.1 in
+          let all = c.loop-served.invariant.goes final (one || more) (option_to_list given ++ outputs) (c.tell_one_out-given.ensures.0 ++ events)
+          (told_before true one more c.loop-served.served-iterator.rest.items c.next.new.self.rest.items c.reply.result c.in-Some.served c.loop-served.clients c.tell_one_out-given.new.clients final given outputs c.tell_one_out-given.ensures.0 events
+          c.in-Some.ensures.steps.0 c.reply.ensures c.tell_one_out-given.ensures.1 told) in (
             all.0,
             all.1,
             (

@@ -14,12 +14,12 @@ returns-in_default c = record {
 
 pub returns : goal.returns
 returns c =
-    let all = c.tell_all_out.ensures.told in
-    let lost = c.tell_all_out.result in
-    let given = c.tell_one_out.result.0 in
-    let one = c.tell_one_out.result.1 in
-    told_out c.told_with.result (lost || one) (c.args.replies.items ++ c.args.last ∷ []) c.args.clients.now c.tell_one_out.new.clients (all.0 ++ option_to_list given) (all.1 ++ c.tell_one_out.ensures.0)
+    let all = c.tell_all_out-lost.ensures.told in
+    let lost = c.tell_all_out-lost.result in
+    let given = c.tell_one_out-given.result.0 in
+    let one = c.tell_one_out-given.result.1 in
+    told_out c.told_with.result (lost || one) (c.args.replies.items ++ c.args.last ∷ []) c.args.clients.now c.tell_one_out-given.new.clients (all.0 ++ option_to_list given) (all.1 ++ c.tell_one_out-given.ensures.0)
     c.told_with.ensures.room
     (c.told_with.ensures.outputs ∙ c.keep.ensures.kept ∙ ap (λ l. l ++ option_to_list given) (all.2.1 ∙ ap (λ l. l ++ all.0) c.in-Ok.ensures.items))
     c.told_with.ensures.loss
-    (told_more true lost one c.args.replies.items c.args.last c.args.clients.now c.tell_all_out.new.clients c.tell_one_out.new.clients all.0 given all.1 c.tell_one_out.ensures.0 all.2.0 c.tell_one_out.ensures.1)
+    (told_more true lost one c.args.replies.items c.args.last c.args.clients.now c.tell_all_out-lost.new.clients c.tell_one_out-given.new.clients all.0 given all.1 c.tell_one_out-given.ensures.0 all.2.0 c.tell_one_out-given.ensures.1)

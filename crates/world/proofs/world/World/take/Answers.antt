@@ -46,3 +46,9 @@ returns-clause-one_volume g c = λ premise. rw (← c.self.view_is) (
     let here = queue_at _ _ c.args.at _ c.self.view_is c.self.invariant c.requires c.index_mut.ensures.value in
     either_so g.S.StoreLike.about g.S.StoreLike.keeps g.S.StoreLike.may_leave_now _ _ c.args.at c.in_ok-demand.demand c.take.new.self (here ∙ ap Some c.in_ok-demand.ensures.first) refl _ _ _ _ _ _ c.ask-replies.result.refused
     (c.ask-replies.ensures.takes premise) (c.ask-replies.ensures.one_volume premise) c.ask-replies.ensures.refused c.tell_with.ensures.comes)
+
+pub returns-in_err-demand-clause-any_moment : goal.returns-in_err-demand-clause-any_moment
+returns-in_err-demand-clause-any_moment g c = λ premise. rw c.from_residual.ensures tt
+
+pub returns-clause-any_moment : goal.returns-clause-any_moment
+returns-clause-any_moment g c = λ premise. rw (← c.self.view_is) (c.ask-replies.ensures.any_moment premise)
