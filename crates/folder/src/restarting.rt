@@ -50,6 +50,21 @@ pub struct Refused<D> {
     pub fault: Option<Fault<D>>,
 }
 
+impl<D: Drop> Refused<D> {
+    ghost use Rattle.std.specs.Prelude.{◌≡◌, None};
+
+    /// A refusal in which no other disk is at fault.
+    fn alone(refusal: Refusal, config: D) -> Refused<D>
+        ensures { result ≡ record { refusal = refusal; config = config; fault = None } }
+    {
+        Refused {
+            refusal,
+            config,
+            fault: None,
+        }
+    }
+}
+
 /// A chain of one goes on: the recorded chain is read from the configuration's disk, each disk that returned is opened,
 /// the rule of recovery chooses the source among them, and the source alone is recorded, with the next epoch. Nothing else
 /// is written: the disks that returned are only read.
@@ -92,13 +107,7 @@ pub fn restart<D: Disk + Drop>(
     let mut config = config;
     let mut configs = match open_config(alloc, &mut config) {
         Ok(configs) => configs,
-        Err(refusal) => {
-            return Err(Refused {
-                refusal: Refusal::Chain(refusal),
-                config,
-                fault: None,
-            });
-        }
+        Err(refusal) => return Err(Refused::alone(Refusal::Chain(refusal), config)),
     };
     let found = match find_all(alloc, disks) {
         Ok(found) => found,
@@ -112,13 +121,7 @@ pub fn restart<D: Disk + Drop>(
     };
     let chosen = match choose_from(alloc, configs.current(), found) {
         Ok(chosen) => chosen,
-        Err(refusal) => {
-            return Err(Refused {
-                refusal,
-                config,
-                fault: None,
-            });
-        }
+        Err(refusal) => return Err(Refused::alone(refusal, config)),
     };
     match record_alone(alloc, &mut configs, &mut config, member_of(&chosen.store)) {
         Ok(record) => Ok(Opened {
