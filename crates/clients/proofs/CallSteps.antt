@@ -416,11 +416,11 @@ module _ (reply : GivenReply) (old : Sessions) (are : AreSessions old) (place : 
       → AreKept old.clients kept → AreKept later.clients kept
   keeps_answering keep session = stay_kept old.clients place before after here
       (λ held keeps.
-          let had = keeps_answered keep before (reply_seen reply) held keeps in (
-            had.0,
-            subst (λ (s : State). Holds s had.0) (sym session) had.1,
-            had.2 ∙ ap (λ (s : State). map (held_under s.id) had.0) (sym session),
-          ))
+      let had = keeps_answered keep before (reply_seen reply) held keeps in (
+        had.0,
+        subst (λ (s : State). Holds s had.0) (sym session) had.1,
+        had.2 ∙ ap (λ (s : State). map (held_under s.id) had.0) (sym session),
+      ))
 
   answers_so : RepliesAreLawful → after.session.id ≡ before.session.id → after.session ≡ answered before.session (reply_seen reply)
       → (events : List ClientEvent) → events ≡ owed_events → GoOn old.clients later.clients no_one no_one no_one events

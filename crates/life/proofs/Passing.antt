@@ -110,18 +110,18 @@ module _ {S : Type 0} (about : S → About) (keeps : S → List ℕ → Type 0) 
       sent_then = record {
         accounted =
             λ id place there.
-                subst (λ l. IsAccounted (IsOver id new.sessions.clients) (get_or v.kept place []) l (map (held_under id) (one.asked id ++ two.asked id)) (get_or two.w.kept place [])) (sym (sent_both id))
-                (subst (λ l. IsAccounted (IsOver id new.sessions.clients) (get_or v.kept place []) (sent_in id one.events ++ sent_in id two.events) l (get_or two.w.kept place [])) (sym (asked_both id)) (each_accounted id place there));
+            subst (λ l. IsAccounted (IsOver id new.sessions.clients) (get_or v.kept place []) l (map (held_under id) (one.asked id ++ two.asked id)) (get_or two.w.kept place [])) (sym (sent_both id))
+            (subst (λ l. IsAccounted (IsOver id new.sessions.clients) (get_or v.kept place []) (sent_in id one.events ++ sent_in id two.events) l (get_or two.w.kept place [])) (sym (asked_both id)) (each_accounted id place there));
         over =
             λ id over.
-                let first = one.sent.over id over in
-                let then = two.sent.over id first.0 in
-                (then.0, sent_both id ∙ none_both (sent_in id one.events) (sent_in id two.events) first.1 then.1, none_both (one.asked id) (two.asked id) first.2 then.2);
+            let first = one.sent.over id over in
+            let then = two.sent.over id first.0 in
+            (then.0, sent_both id ∙ none_both (sent_in id one.events) (sent_in id two.events) first.1 then.1, none_both (one.asked id) (two.asked id) first.2 then.2);
         nobody =
             λ id none.
-                let first = one.sent.nobody id (not_before mid.sessions new.sessions two.remain id (place_of id mid.sessions.clients) refl none) in
-                let then = two.sent.nobody id none in
-                (sent_both id ∙ none_both (sent_in id one.events) (sent_in id two.events) first.0 then.0, none_both (one.asked id) (two.asked id) first.1 then.1);
+            let first = one.sent.nobody id (not_before mid.sessions new.sessions two.remain id (place_of id mid.sessions.clients) refl none) in
+            let then = two.sent.nobody id none in
+            (sent_both id ∙ none_both (sent_in id one.events) (sent_in id two.events) first.0 then.0, none_both (one.asked id) (two.asked id) first.1 then.1);
       }
 
     pub passes_then : IsOfOneVolume about keeps may_leave_now fed handed old mid → IsOfOneVolume about keeps may_leave_now fed2 handed2 mid new

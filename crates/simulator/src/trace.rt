@@ -100,7 +100,10 @@ impl fmt::Display for Became<'_> {
                 }
             }
             Answer::Taken(Told::Lost(_)) => {
-                write!(f, "taken; memory for a reply ran out, and its session ended")
+                write!(
+                    f,
+                    "taken; memory for a reply ran out, and its session ended"
+                )
             }
             Answer::Taken(Told::Withheld) => write!(f, "taken; memory for its replies ran out"),
             Answer::HandedOut(output) => {

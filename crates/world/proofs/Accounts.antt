@@ -78,5 +78,5 @@ accounted_then kept sent asked mid sent2 asked2 rest stays (inr (over, none, los
       none_left mid sent2 asked2 rest none silent quiet two,
       lost,
       ap (λ l. kept ++ (sent ++ l)) silent ∙ ap (λ l. kept ++ l) (append-nil sent) ∙ one
-      ∙ ap (λ l. l ++ lost) (sym (append-nil asked)) ∙ ap (λ l. (asked ++ l) ++ lost) (sym quiet),
+          ∙ ap (λ l. l ++ lost) (sym (append-nil asked)) ∙ ap (λ l. (asked ++ l) ++ lost) (sym quiet),
     )

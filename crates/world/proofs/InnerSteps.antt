@@ -57,8 +57,8 @@ module _ {S : Type 0} (about : S → About) (keeps : S → List ℕ → Type 0) 
         sent = record {
           accounted =
               λ id place there.
-                  subst (λ (l : List (List Held)). IsAccounted (IsOver id new.sessions.clients) (get_or l place []) (sent_in id events) [] (get_or less.kept place [])) kept
-                  (subst (λ (l : List Held). IsAccounted (IsOver id new.sessions.clients) (get_or w.kept place []) l [] (get_or less.kept place [])) (sym (silent id)) (less.each id place there));
+              subst (λ (l : List (List Held)). IsAccounted (IsOver id new.sessions.clients) (get_or l place []) (sent_in id events) [] (get_or less.kept place [])) kept
+              (subst (λ (l : List Held). IsAccounted (IsOver id new.sessions.clients) (get_or w.kept place []) l [] (get_or less.kept place [])) (sym (silent id)) (less.each id place there));
           over = λ id is. (told_over room lost replies old.sessions new.sessions outputs events told id is, silent id, refl);
           nobody = λ id none. (silent id, refl);
         };

@@ -314,9 +314,9 @@ module _ {S : Type 0} (about : S → About) (keeps : S → List ℕ → Type 0) 
       accounted = fed_accounted id old.sessions.board old.sessions.export.size fed.demands old.sessions.clients sessions.clients v.kept fed.own takes fed.places.ids;
       over =
           λ other is.
-              let silent = others_silent id old.sessions.board old.sessions.export.size fed.demands old.sessions.clients sessions.clients v.kept fed.own takes fed.places.ids other
-              (over_apart id other old.sessions.clients fed.did.place fed.did.before fed.did.there fed.did.here fed.did.did.takes_input is) in
-              (fed.over other is, silent.0, silent.1);
+          let silent = others_silent id old.sessions.board old.sessions.export.size fed.demands old.sessions.clients sessions.clients v.kept fed.own takes fed.places.ids other
+          (over_apart id other old.sessions.clients fed.did.place fed.did.before fed.did.there fed.did.here fed.did.did.takes_input is) in
+          (fed.over other is, silent.0, silent.1);
       nobody = λ other none. others_silent id old.sessions.board old.sessions.export.size fed.demands old.sessions.clients sessions.clients v.kept fed.own takes fed.places.ids other
           (not_there_apart id old.sessions.board old.sessions.export.size fed.demands old.sessions.clients sessions.clients v.kept fed.own takes fed.places.ids other none);
     };

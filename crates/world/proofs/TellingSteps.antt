@@ -101,8 +101,8 @@ one_over room lost r old new given now told id is = hands_over room r.session gi
 
 pub told_over : (room lost : Bool) (rs : List GivenReply) (old new : Sessions) (outputs : List Output) (events : List ClientEvent) → AreTold room lost rs old new outputs events → StayOver old.clients new.clients
 told_over room lost [] old new outputs events told = still_over old.clients new.clients (ap (λ (s : Sessions). s.clients) told.0)
-told_over room lost (r ∷ rs) old new outputs events (mid, given, rest, now, later, one, further, first, others, are, seen, loss) id is =
-    told_over room further rs mid new rest later others id (one_over room one r old mid given now first id is)
+told_over room lost (r ∷ rs) old new outputs events (mid, given, rest, now, later, one, further, first, others, are, seen, loss) =
+    λ id is. told_over room further rs mid new rest later others id (one_over room one r old mid given now first id is)
 
 one_keeps : (size : ℕ) (room lost : Bool) (r : GivenReply) (old new : Sessions) (given : Option Output) (now : List ClientEvent) (v : View) → IsTold room lost r old new given now → AreKept old.clients v.kept → KeepsThen size v new.clients
 one_keeps size room lost r old new given now v told are = by_case told.came (told.delivers.keeps v.kept are)

@@ -1,5 +1,5 @@
 //! Replies come to their sessions.
-ghost use Rattle.std.specs.Prelude.{◌≡◌, ◌++◌, ◌∷◌, ◌+◌, ◌<◌, ◌≤◌, Bool, None, true, false, [], List, length, vec_capacity, vec_len};
+ghost use Rattle.std.specs.Prelude.{◌≡◌, ◌++◌, ◌∷◌, ◌+◌, ◌<◌, ◌≤◌, ◌||◌, None, true, false, [], List, length, vec_capacity, vec_len};
 ghost use Rattle.std.specs.Option.{option_to_list};
 ghost use Rattle.world_model.specs.Event.{ClientEvent};
 ghost use Rattle.world.specs.Telling.{AreTold, IsTold, Tells, TellsLoss, has_room, is_lost, outputs_of};
@@ -19,6 +19,13 @@ fn is_lost(delivered: Delivered) -> bool
         Delivered::ToSession | Delivered::Dropped => false,
         Delivered::OutOfMemory => true,
     }
+}
+
+/// Whether one of two is so.
+fn either(one: bool, other: bool) -> bool
+    ensures { result ≡ (one || other) }
+{
+    one || other
 }
 
 /// A reply comes to its session. Whether it was lost.
@@ -56,7 +63,7 @@ fn tell_all(clients: &mut Clients, replies: Vec<Served>) -> bool
     let mut lost = false;
     for served in replies {
         let one = tell_one(clients, served.reply());
-        lost = lost || one;
+        lost = either(lost, one);
     }
     lost
 }
@@ -73,7 +80,7 @@ fn tell_all_out(clients: &mut Clients, replies: Vec<Served>, outputs: &mut Vec<O
     for served in replies {
         let (given, one) = tell_one_out(clients, served.reply());
         keep(outputs, given);
-        lost = lost || one;
+        lost = either(lost, one);
     }
     lost
 }
@@ -115,7 +122,7 @@ fn tell_behind(alloc: Global, clients: &mut Clients, replies: Vec<Served>, last:
     let lost = tell_all_out(clients, replies, &mut outputs);
     let (given, one) = tell_one_out(clients, last);
     keep(&mut outputs, given);
-    told_with(outputs, lost || one)
+    told_with(outputs, either(lost, one))
 }
 
 /// The same, with one more reply behind them, if there is one.

@@ -10,18 +10,18 @@ pub loop-served-preserved : goal.loop-served-preserved
 loop-served-preserved c = record {
   goes =
       λ final more outputs events told.
-          let given = c.tell_one_out-given.result.0 in
-          let one = c.tell_one_out-given.result.1 in
-          let all = c.loop-served.invariant.goes final (one || more) (option_to_list given ++ outputs) (c.tell_one_out-given.ensures.0 ++ events)
-          (told_before true one more c.loop-served.served-iterator.rest.items c.next.new.self.rest.items c.reply.result c.in-Some.served c.loop-served.clients c.tell_one_out-given.new.clients final given outputs c.tell_one_out-given.ensures.0 events
-          c.in-Some.ensures.steps.0 c.reply.ensures c.tell_one_out-given.ensures.1 told) in (
-            all.0,
-            all.1,
-            (
-              subst (λ (lost : Bool). AreTold true lost c.args.replies.items c.args.clients.now final all.0 all.1) (or_then c.loop-served.lost one more) all.2.0,
-              out_then c.loop-served.outputs.items c.keep.new.outputs.items _ outputs given (sym all.2.1) c.keep.ensures.kept,
-            ),
-          );
+      let given = c.tell_one_out-given.result.0 in
+      let one = c.tell_one_out-given.result.1 in
+      let all = c.loop-served.invariant.goes final (one || more) (option_to_list given ++ outputs) (c.tell_one_out-given.ensures.0 ++ events)
+      (told_before true one more c.loop-served.served-iterator.rest.items c.next.new.self.rest.items c.reply.result c.in-Some.served c.loop-served.clients c.tell_one_out-given.new.clients final given outputs c.tell_one_out-given.ensures.0 events
+      c.in-Some.ensures.steps.0 c.reply.ensures c.tell_one_out-given.ensures.1 told) in (
+        all.0,
+        all.1,
+        (
+          subst (λ (lost : Bool). AreTold true lost c.args.replies.items c.args.clients.now final all.0 all.1) (or_then c.loop-served.lost one more ∙ ap (λ (b : Bool). b || more) (sym c.either-lost.ensures)) all.2.0,
+          out_then c.loop-served.outputs.items c.keep.new.outputs.items _ outputs given (sym all.2.1) c.keep.ensures.kept,
+        ),
+      );
   room = omega (arith, ap length c.in-Some.ensures.steps.0, c.keep.ensures.len, c.keep.ensures.capacity, c.loop-served.invariant.room);
   len = omega (arith, ap length c.in-Some.ensures.steps.0, c.keep.ensures.len, c.loop-served.invariant.len);
   capacity = c.keep.ensures.capacity ∙ c.loop-served.invariant.capacity;
