@@ -151,7 +151,7 @@ impl Beside {
         match answer {
             Answer::Taken(Told::Out(outputs)) => {
                 self.hear_all(rt, &outputs)?;
-                self.follow(step)?;
+                self.follow(world, step)?;
                 Ok(if outputs.is_empty() {
                     Came::Quiet
                 } else {
@@ -265,18 +265,24 @@ impl Beside {
     }
 
     /// What a step that was taken has moved.
-    fn follow(&mut self, step: &Step) -> Result<(), Fail> {
+    fn follow(&mut self, world: &Disks, step: &Step) -> Result<(), Fail> {
         match step {
             Step::Connect { session, at } => {
                 Ok(self.clients.push(Client::new(self.alloc, *session, *at))?)
             }
             Step::Bytes { session, piece } => self.feed(*session, piece),
-            Step::Member { at, act: Act::Take } => self.take(*at),
-            Step::Member {
-                at,
-                act: Act::Number,
-            } => self.number(*at),
-            Step::Member { .. } | Step::End { .. } | Step::HandOut { .. } => Ok(()),
+            Step::End { session } => {
+                if let Some(client) = self.client(*session) {
+                    client.end();
+                }
+                Ok(())
+            }
+            Step::Member { at, act } => match act {
+                Act::Take => self.take(world, *at),
+                Act::Number => self.number(*at),
+                _ => Ok(()),
+            },
+            Step::HandOut { .. } => Ok(()),
         }
     }
 
@@ -297,15 +303,16 @@ impl Beside {
         Ok(())
     }
 
-    /// The member at a place took a demand. A write that isn't refused is on its way to the head.
-    fn take(&mut self, at: usize) -> Result<(), Fail> {
+    /// The member at a place took a demand. A write is on its way to the head then, unless it was refused: a stopped member refuses all.
+    fn take(&mut self, world: &Disks, at: usize) -> Result<(), Fail> {
         let Some(place) = self.places.get_mut(at) else {
             return Err(Fail::from("there is no such member"));
         };
         let Some(demanded) = place.demands.pop_front() else {
             return Err(Fail::from("a member took what nobody sent"));
         };
-        if demanded.is_write && self.plain.owes(demanded.name) {
+        let runs = at < world.len() && world.cause(at).is_none();
+        if demanded.is_write && runs && self.plain.owes(demanded.name) {
             place.submits.push_back(demanded.name)?;
         }
         Ok(())

@@ -5,12 +5,12 @@ use crate::beside::{Beside, Disks, Header, Tally};
 use disk_model::{Cut, MemDisk};
 use flush_barrier::SessionId;
 use life::{Act, Step};
-use nbd_codec::constants::{FLAG_FUA, REQUEST_FLUSH, REQUEST_READ, REQUEST_WRITE};
+use nbd_codec::constants::{FLAG_FUA, REQUEST_DISC, REQUEST_FLUSH, REQUEST_READ, REQUEST_WRITE};
 use std::alloc::Global;
 use std::mem;
 use std::process::Abort;
 use std::test::Fail;
-use volume::{Geometry, least_area};
+use volume::{BLOCK_SIZE, Geometry, least_area};
 
 /// The blocks of the volume.
 const BLOCKS: u32 = 3;
@@ -33,13 +33,25 @@ const CLIENTS: u64 = 5;
 /// The most requests that wait for their answers before a client sends another one.
 const MOST_OWED: usize = 40;
 
+/// One more than the bytes of the longest piece, where a request isn't sent whole.
+const LONGEST_PIECE: usize = 48;
+
+/// A client leaves.
+const DISC: Header = Header {
+    flags: 0,
+    kind: REQUEST_DISC,
+    cookie: 0,
+    offset: 0,
+    length: 0,
+};
+
 /// The lengths of requests, in bytes.
 const LENGTHS: [u32; 16] = [
     0, 1, 2, 3, 4, 5, 6, 7, 8, 11, 13, 16, 100, 4_096, 4_099, 8_192,
 ];
 
 /// What members do by chance; what stands more often comes more often.
-const ACTS: [Act; 24] = [
+const ACTS: [Act; 25] = [
     Act::Take,
     Act::Take,
     Act::Number,
@@ -64,6 +76,7 @@ const ACTS: [Act; 24] = [
     Act::EndCommit,
     Act::Post,
     Act::Tick,
+    Act::Checkpoint,
 ];
 
 /// Numbers by chance, the same from the same seed: Marsaglia's xorshift of 64 bits, by 13, 7 and 17.
@@ -166,8 +179,11 @@ impl Play {
         };
         let place = self.chance.place(LENGTHS.len());
         let length = LENGTHS.get(place).copied().unwrap_or(1);
-        let block = self.chance.below(13) / 4 * 4_096;
-        let offset = (block + self.chance.below(16)).saturating_sub(8);
+        let block = self.chance.below(13) / 4;
+        let offset = block
+            .saturating_mul(BLOCK_SIZE)
+            .saturating_add(self.chance.below(16))
+            .saturating_sub(8);
         let is_flush = kind == REQUEST_FLUSH;
         let header = Header {
             flags,
@@ -201,20 +217,18 @@ impl Play {
         } else {
             Vec::new(self.alloc)
         };
-        let whole = self.chance.is_one_of(2);
-        let part = self.chance.number();
+        let most = if self.chance.is_one_of(2) {
+            usize::MAX
+        } else {
+            self.chance.place(LONGEST_PIECE)
+        };
         let Some(sender) = self.senders.get_mut(place) else {
             return Ok(());
         };
         sender.rest.extend_from_slice(&fresh)?;
-        let len = sender.rest.len();
-        let count = if whole {
-            len
-        } else {
-            part as usize % (len + 1)
-        };
-        let piece = Vec::from_slice(self.alloc, &sender.rest[..count.min(len)])?;
-        sender.rest = Vec::from_slice(self.alloc, &sender.rest[count.min(len)..])?;
+        let count = sender.rest.len().min(most);
+        let piece = Vec::from_slice(self.alloc, &sender.rest[..count])?;
+        sender.rest = Vec::from_slice(self.alloc, &sender.rest[count..])?;
         let session = sender.session;
         beside.bytes(rt, world, session, piece)?;
         if self.chance.is_one_of(2) {
@@ -291,11 +305,27 @@ impl Play {
         self.end(rt, beside, world)?;
         assert_eq!(rt; beside.tally().refused, 0, "requests that were refused");
         self.steps(rt, beside, world, count / 2)?;
+        self.lose_some(rt, beside, world)?;
+        self.steps(rt, beside, world, count / 8)
+    }
+
+    /// A session ends, another is left by its client, and a member may stop.
+    fn lose_some(
+        &mut self,
+        rt: &impl Abort,
+        beside: &mut Beside,
+        world: &mut Disks,
+    ) -> Result<(), Fail> {
+        let session = SessionId(self.chance.below(CLIENTS));
+        beside.play(rt, world, &Step::End { session })?;
+        let session = SessionId(self.chance.below(CLIENTS));
+        let piece = DISC.with(self.alloc, &[])?;
+        beside.bytes(rt, world, session, piece)?;
         if self.chance.is_one_of(2) {
             let at = self.chance.place(world.len());
             beside.act(rt, world, at, Act::Stop)?;
         }
-        self.steps(rt, beside, world, count / 8)
+        Ok(())
     }
 
     /// The steps of a chain of one that goes on after a cut, as the machine does from its front. At the end all that was asked may be

@@ -196,6 +196,13 @@ impl Client {
         Ok(())
     }
 
+    /// Its input has ended, and with it what its session kept.
+    pub(crate) fn end(&mut self) {
+        self.phase = Phase::Over;
+        self.input.clear();
+        self.turns.clear();
+    }
+
     /// It hears these bytes: what stands behind its session's own answers. `None` where others than those come first.
     pub(crate) fn hear<'a>(&mut self, bytes: &'a [u8]) -> Option<&'a [u8]> {
         if self.negotiates {

@@ -56,6 +56,20 @@ pub(crate) struct Tally {
     pub(crate) refused: u64,
 }
 
+impl Tally {
+    /// One more request was answered, with this error's number.
+    fn add(&mut self, error: u32, ask: Ask) {
+        let count = match ask {
+            _ if error != NO_ERROR => &mut self.refused,
+            Ask::Read { .. } => &mut self.reads,
+            Ask::Write { fua: true, .. } => &mut self.fuas,
+            Ask::Write { fua: false, .. } => &mut self.writes,
+            Ask::Flush => &mut self.flushes,
+        };
+        *count = count.saturating_add(1);
+    }
+}
+
 /// The machine, and what it owes.
 #[derive(Drop)]
 pub(crate) struct Plain {
@@ -221,6 +235,7 @@ impl Plain {
         if place < self.owed.len() {
             self.owed.remove(place);
         }
+        self.tally.add(heard.error, owed.ask);
         Ok(true)
     }
 
@@ -245,7 +260,6 @@ impl Plain {
         };
         for front in owed.mark..self.volumes.len() {
             if self.has_at(front, offset, payload) {
-                self.tally.reads = self.tally.reads.saturating_add(1);
                 let read = read(&mut self.machine, self.size, owed.name, front)?;
                 return Ok(read.is_some_and(|bytes| bytes.as_slice() == payload));
             }
@@ -272,23 +286,19 @@ impl Plain {
         }
         let place = at.saturating_add(1);
         if fua {
-            self.tally.fuas = self.tally.fuas.saturating_add(1);
             self.machine.answer_fua(name, place)
         } else {
-            self.tally.writes = self.tally.writes.saturating_add(1);
             self.machine.answer_write(name, place)
         }
     }
 
     /// Whether it can show that a FLUSH was done.
     fn shows_flushed(&mut self, name: u64) -> bool {
-        self.tally.flushes = self.tally.flushes.saturating_add(1);
         !self.machine.is_full() && self.machine.answer_flush(name)
     }
 
     /// Whether it can show that a request was refused.
     fn shows_refused(&mut self, name: u64) -> bool {
-        self.tally.refused = self.tally.refused.saturating_add(1);
         !self.machine.is_full() && self.machine.refuse(name)
     }
 
