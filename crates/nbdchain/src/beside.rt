@@ -109,11 +109,6 @@ impl Beside {
         self.plain.tally()
     }
 
-    /// How many steps were played.
-    pub(crate) fn steps(&self) -> u64 {
-        self.steps
-    }
-
     /// Whether a device met its stop.
     pub(crate) fn is_stopped(&self) -> bool {
         self.stopped
