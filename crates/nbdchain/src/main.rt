@@ -26,6 +26,12 @@ use command::refused;
 pub use simulator::{Refusal, sim_on};
 
 #[cfg(test)]
+mod beside;
+#[cfg(test)]
+mod beside_rows;
+#[cfg(test)]
+mod beside_tests;
+#[cfg(test)]
 mod chain_rows;
 #[cfg(test)]
 mod crash_rows;
