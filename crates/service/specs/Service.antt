@@ -1,14 +1,16 @@
 -- What contracts see of a service, and what its calls do.
-use Rattle.std.specs.Prelude.{◌≡◌, ◌⊎◌, ℕ, ℤ, ◌<◌, false, Option, None, Some, List, [], ◌∷◌, ◌++◌, length}
+use Rattle.std.specs.Prelude.{◌≡◌, ◌⊎◌, ℕ, ℤ, ◌<◌, false, Option, None, Some, List, [], ◌∷◌, ◌++◌, length, unwrap_or}
 use Rattle.std.specs.List.{flat_map}
 use Rattle.flush_barrier.specs.declared.session_id.SessionId.{SessionId}
 use Rattle.local_store.specs.About.{About}
+use Rattle.chain_steps.specs.Cause.{number_of}
 use Rattle.chain_steps.specs.declared.cause.Cause.{Cause}
 use Rattle.chain_steps.specs.declared.cause.Cause.TheVariants.{Told, Memory, Device, LastTicket, Disorder}
 use Rattle.clients.specs.Calls.{PutsOut}
 use Rattle.clients.specs.Clients.{no_one, of_session}
 use Rattle.clients.specs.declared.output.Output.{Output}
 use Rattle.server.specs.declared.sessions.Output as server
+use Rattle.server.specs.declared.sessions.Stop.{Stop}
 use Rattle.world.specs.Reception.{Receives}
 use Rattle.world.specs.Telling.{handed_by}
 use Rattle.world.specs.World.{IsOfOneVolume, Seen}
@@ -108,3 +110,7 @@ error_of last Memory = None
 error_of last (Device error) = last
 error_of last LastTicket = None
 error_of last Disorder = None
+
+-- what the server is told of a member that stopped for this reason
+abbrev pub stop_of : Option ℤ → Cause → Stop
+stop_of last cause = record { number = unwrap_or (number_of cause) 154; error = error_of last cause }

@@ -1,6 +1,5 @@
 //! The service, as a server has it.
-ghost use Rattle.std.specs.Prelude.{◌≡◌, ◌⊎◌, ◌<◌, ◌↔◌, true, false, IfNone, IfSome, IsTrue, if◌then◌else◌, unwrap_or};
-ghost use Rattle.chain_steps.specs.Cause.{number_of};
+ghost use Rattle.std.specs.Prelude.{◌≡◌, ◌⊎◌, ◌<◌, ◌↔◌, true, false, IfNone, IfSome, IsTrue, if◌then◌else◌, option_map, slice_get};
 ghost use Rattle.nbd_codec.specs.declared.constants.TheConstants.{MAX_IN_FLIGHT as most};
 ghost use Rattle.nbd_session.specs.Progress.{is_over};
 ghost use Rattle.clients.specs.Calls.{Begins, Ends};
@@ -8,7 +7,7 @@ ghost use Rattle.clients.specs.Clients.{HasClient, no_one, of_session};
 ghost use Rattle.world.specs.Reception.{Feeds, Receives};
 ghost use Rattle.world.specs.World.{IsOfOneVolume};
 ghost use Rattle.service.specs.Idle.{HasNoDemand, HasNoRoom, HasNothingLeft, IsIdle, JournalsNone, NumbersNone, PlaysNone, RaisesNone};
-ghost use Rattle.service.specs.Service.{HasNoneWaiting, IsHandedOut, IsOfKept, IsPutOut, Serves, error_of, given_bytes, put_out};
+ghost use Rattle.service.specs.Service.{HasNoneWaiting, IsHandedOut, IsOfKept, IsPutOut, Serves, given_bytes, put_out, stop_of};
 
 use crate::has_error::HasError;
 use crate::members::{MANY_KNOWN, ONLY};
@@ -110,7 +109,9 @@ impl<S: StoreLike + HasError + Drop> Sessions for Service<S> {
         }
     }
 
-    fn stop(&self) -> Option<Stop> {
+    fn stop(&self) -> Option<Stop>
+        ensures { IfSome (slice_get self.now.world.chain.members 0) (λ m. result ≡ option_map (stop_of (S.error_of m.node.store)) m.node.state.stopped) }
+    {
         if !self.has_member() {
             return None;
         }
@@ -121,8 +122,7 @@ impl<S: StoreLike + HasError + Drop> Sessions for Service<S> {
 
 /// How the server tells why the member stopped.
 fn stop_of<S: HasError>(cause: Cause, store: &S) -> Stop
-    ensures number { result.number ≡ unwrap_or (number_of cause) STOPPED }
-    ensures error { result.error ≡ error_of (S.error_of store.now) cause }
+    ensures { result ≡ stop_of (S.error_of store.now) cause }
 {
     let error = match cause {
         Cause::Device(_) => store.last_error(),
