@@ -9,6 +9,7 @@ ghost use Rattle.chain.specs.Member.{HasCalled};
 ghost use Rattle.chain_steps.specs.Node.{durable_of, is_stopped, last_of};
 ghost use Rattle.board.specs.Seats.{FoundFront};
 ghost use Rattle.chain.specs.Chain.{Changes, IsOfOneVolume, RestsAt};
+ghost use Rattle.chain.specs.Commits.{LeavesAt};
 ghost use Rattle.chain.specs.Fronts.{HasKnown, HasLooked, HasRaised, IsNoTail, RaisesAt};
 ghost use Rattle.chain.specs.LoneBoard.{raised};
 
@@ -127,6 +128,9 @@ impl<S: StoreLike + Drop> Chain<S> {
             ⊎ IsStepTo new.state out (stop Cause.Memory old.state)))
             ⊎ HasBrokenOff S.about S.failures old new out) replies.items)) }
         ensures stopped { IfNone result (RestsAt at self.old self.new) }
+
+        // A stop at any moment of the call leaves what the member was shown with.
+        ensures any_moment { S.keeps_model → LeavesAt S.about S.keeps S.may_leave_now S.moment S.may_have_left_since at self.old self.new }
         ensures one_volume { S.keeps_model → IfSome result (λ replies. IsOfOneVolume S.about S.keeps S.may_leave_now self.old self.new replies.items) }
     {
         self.members[at].answer_front()

@@ -1,6 +1,14 @@
-use Rattle.std.proofs.Common.{refl}
-use Rattle.std.specs.Prelude.{IfSome, Option, Some, None}
+use Rattle.std.proofs.Common.{◌≡◌, ℕ, List, refl, subst, sym}
+use Rattle.std.specs.Prelude.{IfNone, IfSome, Option, Some, None, slice_get, slice_set}
+use Rattle.disk_model.specs.Disk.{LeavesOnly}
+use Rattle.disk_model.specs.Moments.{started}
+use Rattle.local_store.specs.About.{About, meaning_with}
+use Rattle.local_store.specs.Meaning.{Means}
+use Rattle.chain.specs.Chain.{Chained}
+use Rattle.chain.specs.Commits.{LeavesAt, MeansOld}
+use Rattle.chain.specs.Member.{Linked}
 use Rattle.chain.proofs.AnswerSteps.{answered_goes, formed_answered}
+use Rattle.chain.proofs.CommitSteps.{is_old, rests_leaves, runs_leaves}
 use Rattle.chain.proofs.FloorSteps.{either, none_then, some_then, stands_now}
 use Rattle.chain.proofs.Stepping.{read_at, same_then, formed_still}
 use Rattle.chain.proofs.chain.Chain.answer_front.Goals as goal
@@ -25,6 +33,34 @@ pub returns-clause-stopped : goal.returns-clause-stopped
 returns-clause-stopped g c = none_then c.answer_front.result _ _ c.answer_front.ensures.stopped (λ idle. rw (← c.self.view_is)
     (let here = read_at _ _ c.args.at _ c.self.view_is c.requires c.index_mut.ensures.value in
     record { member = c.index_mut.result.now; here = here; stopped = idle.0; same = same_then _ c.args.at _ _ here idle.1 }))
+
+-- what a call with a reply leaves, and one that does nothing
+leaves_either : {T A : Type 0} {B R : A → Type 0} (o : Option T) (P : T → Type 0) (N C : Type 0) → IfSome o P → IfNone o N → ((a : A) → B a → IfSome o (λ t. R a))
+    → ((x : T) → P x → ((a : A) → B a → R a) → C) → (N → C) → C
+leaves_either None P N C some none run f h = h none
+leaves_either (Some x) P N C some none run f h = f x some run
+
+module _ {S : Type 0} (about : S → About) (keeps : S → List ℕ → Type 0) (may_leave_now : S → List ℕ → Type 0) (moment : S → ℕ) (left_since : S → ℕ → List ℕ → Type 0)
+    (old : Chained S) (at : ℕ) (before : Linked S) (here : slice_get old.members at ≡ Some before) (after : Linked S) where
+  abbrev Leaves : Type 0
+  Leaves = LeavesAt about keeps may_leave_now moment left_since at old (record old { members = slice_set old.members at after })
+
+  answers_leave : before.node.state.stopped ≡ None
+      → ((volume : List ℕ) → keeps before.node.store volume → LeavesOnly moment left_since before.node.store after.node.store (Means (meaning_with (about before.node.store) volume))) → Leaves
+  answers_leave runs run = runs_leaves about keeps may_leave_now old at before here (MeansOld about) (is_old about keeps may_leave_now old at before here) moment left_since after runs run
+
+  idle_leaves : ((store : S) (volume c : List ℕ) → keeps store volume → may_leave_now store c → Means (meaning_with (about store) volume) c)
+      → ((store : S) (c : List ℕ) → left_since store (moment store) c → may_leave_now store c) → after ≡ before → Leaves
+  idle_leaves means_now only_now same = rests_leaves about keeps may_leave_now old at before here moment left_since after same only_now
+      (λ volume keep. subst (λ (m : Linked S). LeavesOnly moment left_since before.node.store m.node.store (Means (meaning_with (about before.node.store) volume))) (sym same)
+      (started moment left_since before.node.store (Means (meaning_with (about before.node.store) volume)) (λ c left. means_now before.node.store volume c keep (only_now before.node.store c left))))
+
+pub returns-clause-any_moment : goal.returns-clause-any_moment
+returns-clause-any_moment g c = λ premise. rw (← c.self.view_is) (
+    let here = read_at _ _ c.args.at _ c.self.view_is c.requires c.index_mut.ensures.value in
+    leaves_either c.answer_front.result _ _ _ c.answer_front.ensures.answered c.answer_front.ensures.stopped (c.answer_front.ensures.any_moment premise)
+    (λ replies did run. answers_leave g.S.StoreLike.about g.S.StoreLike.keeps g.S.StoreLike.may_leave_now g.S.StoreLike.moment g.S.StoreLike.may_have_left_since _ c.args.at _ here _ did.runs run)
+    (λ idle. idle_leaves g.S.StoreLike.about g.S.StoreLike.keeps g.S.StoreLike.may_leave_now g.S.StoreLike.moment g.S.StoreLike.may_have_left_since _ c.args.at _ here _ (g.met.S.StoreLike.means_now premise) (g.met.S.StoreLike.only_now premise) idle.1))
 
 pair_some : {T : Type 0} (o : Option T) (P Q : T → Type 0) → IfSome o P → IfSome o Q → IfSome o (λ x. P x × Q x)
 pair_some None P Q p q = p
