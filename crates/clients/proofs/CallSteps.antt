@@ -1,8 +1,9 @@
 -- What a call to one client is for all sessions: lemmas.
-use Rattle.std.proofs.Common.{◌≡◌, ℕ, ◌<◌, Bool, true, false, Option, Some, None, List, [], ◌∷◌, ◌++◌, length, map, set, get_or, refl, sym, ◌∙◌, ap, subst, inl, inr}
-use Rattle.std.specs.Prelude.{All, IfSome, if◌then◌else◌, slice_get}
+use Rattle.std.proofs.Common.{◌≡◌, ℕ, ◌+◌, ◌-◌, ◌<◌, Bool, true, false, Option, Some, None, Result, Ok, Err, List, [], ◌∷◌, ◌++◌, length, map, set, get_or, refl, sym, ◌∙◌, ap, subst, inl, inr}
+use Rattle.std.specs.Prelude.{All, IfOk, IfSome, OnErr, if◌then◌else◌, slice_get}
 use Rattle.std.specs.List.{AllPairs}
 use Rattle.std.proofs.Math.Seq.{map-set_same}
+use Rattle.std.proofs.lemmas.Bool.{cases_eq}
 use Rattle.std.proofs.lemmas.List.{map-append, set-get_or}
 use Rattle.std.proofs.lemmas.List.Elements.{All-head, All-push, All-set, All-tail, All-weaker}
 use Rattle.std.proofs.lemmas.List.Quantifiers.{all_pairs_push}
@@ -13,20 +14,27 @@ use Rattle.flush_barrier.specs.declared.session_id.SessionId.{SessionId}
 use Rattle.nbd_session.specs.Begun.{greeted, greeted_holds_none}
 use Rattle.nbd_session.specs.Demand.{Asked, IsAskedInside, asked_by, owed_by}
 use Rattle.nbd_session.specs.Laws.{HistoriesAreLawful, HoldsInOneWay, OutputIsLawful, OutputKeeps, RepliesAreLawful, RepliesKeep}
-use Rattle.nbd_session.specs.Progress.{is_over, progress_in}
+use Rattle.nbd_codec.specs.Reply.{encoding}
+use Rattle.nbd_session.proofs.Courses.{is_over-phase_after}
+use Rattle.nbd_session.specs.Progress.{is_over, phase_after, progress_in}
 use Rattle.nbd_session.specs.Replies.{WireReply, answered, is_owed, reply_seen}
 use Rattle.nbd_session.specs.Session.{Holds, MakesFirst, State}
 use Rattle.nbd_session.specs.declared.answer.Export.{Export}
 use Rattle.nbd_session.specs.declared.demand.Demand.{Demand}
+use Rattle.nbd_session.specs.declared.phase.Phase.{Phase}
+use Rattle.nbd_session.specs.declared.phase.Phase.TheVariants.{Greeted, Negotiating, Skipping, Transmitting, Leaving, Over}
 use Rattle.world_model.specs.Chain.{ArePutOut, reply_event}
 use Rattle.world_model.specs.Event.{ClientEvent}
 use Rattle.world_model.specs.Requests.{Held}
-use Rattle.clients.specs.Calls.{AreAtPlaces, BeginsToKeep, Delivers, EndsInput, HasNothing, IsDemandOf, IsHanded, IsSameClient, PutsOut, TakesReply, TakesUp, bytes_out, ended, has_waiting}
-use Rattle.clients.specs.Clients.{AreKept, AreSessions, Client, GoOn, HasClient, IsOf, Keeps, Sessions, held_of, held_under, no_one, of_session, place_of}
+use Rattle.world_model.specs.Standing.{get_set}
+use Rattle.clients.specs.Calls.{AreAtPlaces, BeginsToKeep, Delivers, EndsInput, GivesUp, HasNothing, IsDemandOf, IsHanded, IsSameClient, PutsOut, StayOver, TakesPiece, TakesReply, TakesUp, bytes_out, ended, has_waiting, is_closed}
+use Rattle.clients.specs.Clients.{AreKept, AreSessions, Client, GoOn, HasClient, IsOf, IsOver, Keeps, Sessions, held_of, held_under, no_one, of_session, place_of}
+use Rattle.clients.specs.declared.delivered.Delivered.{Delivered}
+use Rattle.clients.specs.declared.delivered.Delivered.TheVariants.{ToSession, Dropped, OutOfMemory}
 use Rattle.clients.specs.declared.output.Output.{Output}
 use Rattle.clients.proofs.Histories.{go_on_answered, go_on_ended, go_on_handed, go_on_none, go_on_still}
-use Rattle.clients.proofs.Places.{IsApart, apart_by_ids, ids_stay, none_there, place_is}
-use Rattle.clients.proofs.Zips.{zip_get, zip_push, zip_set, zip_swap}
+use Rattle.clients.proofs.Places.{IsApart, apart_by_ids, ids_stay, none_there, place_before, place_by_ids, place_is}
+use Rattle.clients.proofs.Zips.{get_before, get_past, zip_get, zip_push, zip_set, zip_swap}
 
 -- ---- the sessions stay sessions, at their places
 
@@ -108,6 +116,58 @@ begun_are_sessions old client none own are = record {
   own = All-push (IsOf old.board old.export) old.clients client are.own own;
 }
 
+-- ---- who takes no more input takes none from then on
+
+-- the client takes no more input
+abbrev pub TakesNone : Client → Type 0
+TakesNone client = is_over client.session.phase ≡ true
+
+pub changed_stay_over : (cs : List Client) (place : ℕ) (before after : Client) → slice_get cs place ≡ Some before
+    → after.session.id ≡ before.session.id → (TakesNone before → TakesNone after) → StayOver cs (set cs place after)
+changed_stay_over cs place before after here same stays id has =
+    let there : place_of id (set cs place after) ≡ Some has.place =
+    place_by_ids id (set cs place after) cs (ids_stay cs place before after here same) ∙ has.there in
+    elim (cases_eq has.place place) [
+      | inl at ↦
+          let is : has.client ≡ before = same_Some has.client before (sym has.here ∙ ap (slice_get cs) at ∙ here) in
+          record {
+            place = place;
+            client = after;
+            there = there ∙ ap Some at;
+            here = get_set cs place before after here;
+            is = stays (subst TakesNone is has.is);
+          }
+      | inr apart ↦
+          record {
+            place = has.place;
+            client = has.client;
+            there = there;
+            here = get_past cs place has.place after apart ∙ has.here;
+            is = has.is;
+          }
+    ]
+
+pub begun_stay_over : (cs : List Client) (client : Client) → StayOver cs (cs ++ client ∷ [])
+begun_stay_over cs client id has = record {
+  place = has.place;
+  client = has.client;
+  there = place_before id cs client has.place has.there;
+  here = get_before cs (client ∷ []) has.place has.client has.here;
+  is = has.is;
+}
+
+pub still_over : (old new : List Client) → new ≡ old → StayOver old new
+still_over old new same id has = subst (IsOver id) (sym same) has
+
+-- there is none
+pub over_at : (id : SessionId) (cs : List Client) (place : ℕ) (client : Client) → place_of id cs ≡ Some place → slice_get cs place ≡ Some client
+    → TakesNone client → IsOver id cs
+over_at id cs place client there here is = record { place = place; client = client; there = there; here = here; is = is }
+
+-- whoever takes input isn't over
+pub not_over : {A : Type 0} (client : Client) → is_over client.session.phase ≡ false → TakesNone client → A
+not_over client takes over = let wrong : true ≡ false = sym over ∙ takes in absurd cc
+
 -- ---- what they keep
 
 pub keeps_ended : (client : Client) → Keeps (ended client) []
@@ -139,6 +199,22 @@ stay_kept old place before after here stays kept are = zip_swap Keeps old kept p
 pub forget_kept : (old : List Client) (place : ℕ) (after : Client) → Keeps after [] → (kept : List (List Held)) → AreKept old kept
     → AreKept (set old place after) (set kept place [])
 forget_kept old place after none kept are = zip_set Keeps old kept place after [] are none
+
+-- the session of the client at the place gives it up, and takes no more input
+pub gives_up : (id : SessionId) (old : List Client) (place : ℕ) (before after : Client) → place_of id old ≡ Some place
+    → slice_get old place ≡ Some before → after ≡ ended before → (kept : List (List Held)) → AreKept old kept
+    → GivesUp id (set old place after) kept
+gives_up id old place before after there here is kept are =
+    let same : after.session.id ≡ before.session.id = ap (λ (c : Client). c.session.id) is in
+    let there_then : place_of id (set old place after) ≡ Some place =
+    place_by_ids id (set old place after) old (ids_stay old place before after here same) ∙ there in
+    record {
+      place = place;
+      there = there_then;
+      over = over_at id (set old place after) place after there_then (get_set old place before after here)
+          (ap (λ (c : Client). is_over c.session.phase) is);
+      keeps = forget_kept old place after (subst (λ (c : Client). Keeps c []) (sym is) (keeps_ended before)) kept are;
+    }
 
 -- the requests of demands of the session
 held_all : (id : SessionId) (demands : List Demand) → All (λ demand. (owed_by demand).session ≡ id) demands
@@ -200,6 +276,12 @@ demands_of id old place before demands are there here all =
     })
     demands all
 
+-- who takes no more input takes no piece
+pub feed_stays : {R E : Type 0} (result : Result R E) (demands_in : R → List Demand) (piece : List ℕ) (at : ℕ) (before after : Client)
+    → IfOk result (λ r. TakesPiece piece at (demands_in r) before after) → OnErr result (after ≡ before) → TakesNone before → TakesNone after
+feed_stays (Ok r) demands_in piece at before after fed err over = not_over before fed.takes_input over
+feed_stays (Err e) demands_in piece at before after fed err over = subst TakesNone (sym err) over
+
 -- ---- input ends
 
 pub ends_same : (before after : Client) → EndsInput before after → IsSameClient before after
@@ -209,6 +291,11 @@ pub end_same : (result : Bool) (before after : Client) → (result ≡ true → 
     → (result ≡ false → (is_over before.session.phase ≡ true) × (after ≡ before)) → IsSameClient before after
 end_same true before after done idle = ends_same before after (done refl)
 end_same false before after done idle = same_client before after (idle refl).1
+
+pub end_stays : (result : Bool) (before after : Client) → (result ≡ true → EndsInput before after)
+    → (result ≡ false → (is_over before.session.phase ≡ true) × (after ≡ before)) → TakesNone before → TakesNone after
+end_stays true before after done idle over = not_over before (done refl).takes_input over
+end_stays false before after done idle over = subst TakesNone (sym (idle refl).1) over
 
 -- ---- what waits goes out
 
@@ -221,6 +308,11 @@ module _ (before after : Client) where
       → (result ≡ None → HasNothing before after) → IsSameClient before after
   put_same None out none = same_client before after (none refl).same
   put_same (Some output) out none = handed_same output before after out
+
+  pub put_stays : (result : Option Output) → IfSome result (λ output. IsHanded output before after)
+      → (result ≡ None → HasNothing before after) → TakesNone before → TakesNone after
+  put_stays None out none over = subst TakesNone (sym (none refl).same) over
+  put_stays (Some output) out none over = ap (λ (c : Client). is_over c.session.phase) out.are ∙ over
 
   pub put_keeps : OutputKeeps → (result : Option Output) → IfSome result (λ output. IsHanded output before after)
       → (result ≡ None → HasNothing before after) → (held : List Held) → Keeps before held → Keeps after held
@@ -262,12 +354,49 @@ put_goes_on cs apart id place before after there here laws (Some output) out non
 
 -- ---- a reply comes
 
-pub taken_same : (reply : GivenReply) (before after : Client) (events : List ClientEvent) → TakesReply reply before after events
-    → IsSameClient before after
-taken_same reply before after events (inl put) =
-    subst (IsSameClient before) (sym put.0) (record { id = refl; board = refl; export = refl; at = refl })
-taken_same reply before after events (inr gave_up) =
-    subst (IsSameClient before) (sym gave_up.1) (record { id = refl; board = refl; export = refl; at = refl })
+pub closed_is : (phase : Phase) → is_closed phase ≡ true → phase ≡ Over
+closed_is Greeted closed = let wrong : false ≡ true = closed in absurd cc
+closed_is (Negotiating no_zeroes) closed = let wrong : false ≡ true = closed in absurd cc
+closed_is (Skipping no_zeroes option left) closed = let wrong : false ≡ true = closed in absurd cc
+closed_is Transmitting closed = let wrong : false ≡ true = closed in absurd cc
+closed_is Leaving closed = let wrong : false ≡ true = closed in absurd cc
+closed_is Over closed = refl
+
+pub open_is : (phase : Phase) → (phase ≡ Over → ⊥) → is_closed phase ≡ false
+open_is Greeted running = refl
+open_is (Negotiating no_zeroes) running = refl
+open_is (Skipping no_zeroes option left) running = refl
+open_is Transmitting running = refl
+open_is Leaving running = refl
+open_is Over running = absurd (running refl)
+
+-- a session that has ended drops the reply
+pub answered_over : (s : State) (reply : WireReply) → s.phase ≡ Over → answered s reply ≡ record s { in_flight = s.in_flight - 1 }
+answered_over s reply over =
+    let Drops : Phase → Type 0 = λ phase.
+    ◌≡◌ {A = State} (record s {
+      phase = phase_after phase (s.in_flight - 1);
+      in_flight = s.in_flight - 1;
+      output = if is_owed phase s.in_flight then s.output ++ encoding reply else s.output;
+    }) (record s { phase = phase; in_flight = s.in_flight - 1 }) in
+    subst Drops (sym over) refl
+
+pub taken_same : (reply : GivenReply) (came : Delivered) (before after : Client) (events : List ClientEvent)
+    → TakesReply reply came before after events → IsSameClient before after
+taken_same reply ToSession before after events did =
+    subst (IsSameClient before) (sym did.1) (record { id = refl; board = refl; export = refl; at = refl })
+taken_same reply Dropped before after events did =
+    subst (IsSameClient before) (sym did.1) (record { id = refl; board = refl; export = refl; at = refl })
+taken_same reply OutOfMemory before after events did =
+    subst (IsSameClient before) (sym did.1) (record { id = refl; board = refl; export = refl; at = refl })
+
+pub taken_stays : (reply : GivenReply) (came : Delivered) (before after : Client) (events : List ClientEvent)
+    → TakesReply reply came before after events → TakesNone before → TakesNone after
+taken_stays reply ToSession before after events did over =
+    ap (λ (c : Client). is_over c.session.phase) did.1
+    ∙ is_over-phase_after before.session.phase (before.session.in_flight - 1) ∙ over
+taken_stays reply Dropped before after events did over = ap (λ (c : Client). is_over c.session.phase) did.1 ∙ over
+taken_stays reply OutOfMemory before after events did over = ap (λ (c : Client). is_over c.session.phase) did.1
 
 -- a reply that is owed is put out
 put_out_if : (owed : Bool) (reply : GivenReply) → ArePutOut (reply ∷ []) (if owed then reply_event reply ∷ [] else [])
@@ -276,43 +405,76 @@ put_out_if false reply = inl refl
 
 module _ (reply : GivenReply) (old : Sessions) (are : AreSessions old) (place : ℕ) (before after : Client)
     (there : place_of reply.session old.clients ≡ Some place) (here : slice_get old.clients place ≡ Some before) where
-  pub delivers : HistoriesAreLawful → RepliesAreLawful → RepliesKeep → (events : List ClientEvent) → TakesReply reply before after events
-      → Delivers reply old (record old { clients = set old.clients place after }) events
-  delivers histories replies keep events (inl put) =
-      let same = taken_same reply before after events (inl put) in
-      let session : after.session ≡ answered before.session (reply_seen reply) = ap (λ (c : Client). c.session) put.0 in
+  abbrev later : Sessions
+  later = record old { clients = set old.clients place after }
+
+  -- what the events of a reply that a session takes are
+  abbrev owed_events : List ClientEvent
+  owed_events = if is_owed before.session.phase before.session.in_flight then reply_event reply ∷ [] else []
+
+  keeps_answering : RepliesKeep → after.session ≡ answered before.session (reply_seen reply) → (kept : List (List Held))
+      → AreKept old.clients kept → AreKept later.clients kept
+  keeps_answering keep session = stay_kept old.clients place before after here
+      (λ held keeps.
+      let had = keeps_answered keep before (reply_seen reply) held keeps in (
+        had.0,
+        subst (λ (s : State). Holds s had.0) (sym session) had.1,
+        had.2 ∙ ap (λ (s : State). map (held_under s.id) had.0) (sym session),
+      ))
+
+  answers_so : RepliesAreLawful → after.session.id ≡ before.session.id → after.session ≡ answered before.session (reply_seen reply)
+      → (events : List ClientEvent) → events ≡ owed_events → GoOn old.clients later.clients no_one no_one no_one events
+  answers_so replies same session events are_owed =
+      subst (λ (e : List ClientEvent). GoOn old.clients later.clients no_one no_one no_one e) (sym are_owed)
+      (go_on_answered old.clients are.apart reply.session place before after there here same replies reply refl session)
+
+  pub delivers : HistoriesAreLawful → RepliesAreLawful → RepliesKeep → (came : Delivered) (events : List ClientEvent)
+      → TakesReply reply came before after events → Delivers reply came old later events
+  delivers histories replies keep ToSession events did =
+      let same = taken_same reply ToSession before after events did in
+      let session : after.session ≡ answered before.session (reply_seen reply) = ap (λ (c : Client). c.session) did.1 in
       record {
-        did = inl (record { place = place; before = before; after = after; there = there; here = here; did = inl put; are = refl });
-        put_out = subst (ArePutOut (reply ∷ [])) (sym put.1) (put_out_if (is_owed before.session.phase before.session.in_flight) reply);
-        keeps = λ kept had. inl (stay_kept old.clients place before after here
-            (λ held keeps. subst (λ (c : Client). Keeps c held) (sym put.0)
-            (keeps_answered keep before (reply_seen reply) held keeps)) kept had);
-        lawful = subst (λ (e : List ClientEvent). GoOn old.clients (set old.clients place after) no_one no_one no_one e) (sym put.1)
-            (go_on_answered old.clients are.apart reply.session place before after there here same.id replies reply refl session);
+        did = inl (record { place = place; before = before; after = after; there = there; here = here; did = did; are = refl });
+        put_out = subst (ArePutOut (reply ∷ [])) (sym did.2) (put_out_if (is_owed before.session.phase before.session.in_flight) reply);
+        keeps = keeps_answering keep session;
+        over = changed_stay_over old.clients place before after here same.id (taken_stays reply ToSession before after events did);
+        lawful = answers_so replies same.id session events did.2;
         places = changed_at_places old place before after here same;
       }
-  delivers histories replies keep events (inr gave_up) =
-      let same = taken_same reply before after events (inr gave_up) in
+  delivers histories replies keep Dropped events did =
+      let same = taken_same reply Dropped before after events did in
+      let over = closed_is before.session.phase did.0 in
+      let session : after.session ≡ answered before.session (reply_seen reply) =
+      ap (λ (c : Client). c.session) did.1 ∙ sym (answered_over before.session (reply_seen reply) over) in
+      let none : owed_events ≡ [] =
+      ap (λ (phase : Phase). if is_owed phase before.session.in_flight then reply_event reply ∷ [] else []) over in
       record {
-        did = inl (record { place = place; before = before; after = after; there = there; here = here; did = inr gave_up; are = refl });
-        put_out = inl gave_up.2;
-        keeps =
-            λ kept had. inr (
-              place,
-              forget_kept old.clients place after
-                  (subst (λ (c : Client). Keeps c []) (sym gave_up.1) (keeps_ended before)) kept had,
-            );
-        lawful = subst (λ (e : List ClientEvent). GoOn old.clients (set old.clients place after) no_one no_one no_one e) (sym gave_up.2)
+        did = inl (record { place = place; before = before; after = after; there = there; here = here; did = did; are = refl });
+        put_out = inl did.2;
+        keeps = keeps_answering keep session;
+        over = changed_stay_over old.clients place before after here same.id (taken_stays reply Dropped before after events did);
+        lawful = answers_so replies same.id session events (did.2 ∙ sym none);
+        places = changed_at_places old place before after here same;
+      }
+  delivers histories replies keep OutOfMemory events did =
+      let same = taken_same reply OutOfMemory before after events did in
+      record {
+        did = inl (record { place = place; before = before; after = after; there = there; here = here; did = did; are = refl });
+        put_out = inl did.2;
+        keeps = gives_up reply.session old.clients place before after there here did.1;
+        over = changed_stay_over old.clients place before after here same.id (taken_stays reply OutOfMemory before after events did);
+        lawful = subst (λ (e : List ClientEvent). GoOn old.clients later.clients no_one no_one no_one e) (sym did.2)
             (go_on_ended old.clients are.apart reply.session place before after there here same.id histories
-            (ap (λ (c : Client). c.session) gave_up.1));
+            (ap (λ (c : Client). c.session) did.1));
         places = changed_at_places old place before after here same;
       }
 
-pub drops : (reply : GivenReply) (old : Sessions) → place_of reply.session old.clients ≡ None → Delivers reply old old []
+pub drops : (reply : GivenReply) (old : Sessions) → place_of reply.session old.clients ≡ None → Delivers reply Dropped old old []
 drops reply old none = record {
-  did = inr (record { none = none; same = refl; unseen = refl });
+  did = inr (record { dropped = refl; none = none; same = refl; unseen = refl });
   put_out = inl refl;
-  keeps = λ kept are. inl are;
+  keeps = λ kept are. are;
+  over = λ id has. has;
   lawful = go_on_still old.clients;
   places = at_same_places old;
 }

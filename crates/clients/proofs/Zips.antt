@@ -1,6 +1,6 @@
 -- Two lists of which each pair is related: lemmas.
-use Rattle.std.proofs.Common.{◌≡◌, ℕ, zero, suc, Some, List, [], ◌∷◌, ◌++◌, length, take, drop, set, refl, subst}
-use Rattle.std.specs.Prelude.{slice_get}
+use Rattle.std.proofs.Common.{◌≡◌, ℕ, zero, suc, Some, None, List, [], ◌∷◌, ◌++◌, length, take, drop, set, refl, ap, subst}
+use Rattle.std.specs.Prelude.{◌≢◌, slice_get}
 use Rattle.std.specs.List.{AllZip}
 use Rattle.std.proofs.lemmas.Option.{same_Some}
 
@@ -35,3 +35,17 @@ module _ {A B : Type 0} (R : A → B → Type 0) where
   zip_push [] (b ∷ ys) x y all r = absurd all
   zip_push (a ∷ xs) [] x y all r = absurd all
   zip_push (a ∷ xs) (b ∷ ys) x y all r = (all.0, zip_push xs ys x y all.1 r)
+
+-- what stands at another place than the one that changed
+pub get_past : {A : Type 0} (xs : List A) (i k : ℕ) (y : A) → k ≢ i → slice_get (set xs i y) k ≡ slice_get xs k
+get_past [] i k y apart = refl
+get_past (x ∷ xs) zero zero y apart = absurd (apart refl)
+get_past (x ∷ xs) zero (suc k) y apart = refl
+get_past (x ∷ xs) (suc i) zero y apart = refl
+get_past (x ∷ xs) (suc i) (suc k) y apart = get_past xs i k y (λ same. apart (ap (λ n. suc n) same))
+
+-- what stands before one more
+pub get_before : {A : Type 0} (xs ys : List A) (k : ℕ) (x : A) → slice_get xs k ≡ Some x → slice_get (xs ++ ys) k ≡ Some x
+get_before [] ys k x here = let none : None ≡ Some x = here in absurd cc
+get_before (a ∷ xs) ys zero x here = here
+get_before (a ∷ xs) ys (suc k) x here = get_before xs ys k x here

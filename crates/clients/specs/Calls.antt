@@ -1,5 +1,5 @@
 -- What each call does to the sessions, and what that is in the model of the one volume.
-use Rattle.std.specs.Prelude.{◌≡◌, ◌⊎◌, ◌≤◌, ◌+◌, ℕ, Bool, true, false, not, ◌&&◌, ◌||◌, nat_lt, None, Option, Some, List, [], ◌∷◌, ◌++◌, if◌then◌else◌, length, map, set, slice_get, slice_set}
+use Rattle.std.specs.Prelude.{◌≡◌, ◌⊎◌, ◌≤◌, ◌+◌, ◌-◌, ℕ, Bool, true, false, not, ◌&&◌, ◌||◌, nat_lt, None, Option, Some, List, [], ◌∷◌, ◌++◌, if◌then◌else◌, length, map, set, slice_get, slice_set}
 use Rattle.std.specs.List.{insert}
 use Rattle.board.specs.Seats.{BoardId}
 use Rattle.flush_barrier.specs.Reply.{GivenReply}
@@ -16,7 +16,9 @@ use Rattle.nbd_session.specs.declared.phase.Phase.TheVariants.{Greeted, Negotiat
 use Rattle.world_model.specs.Chain.{ArePutOut, reply_event}
 use Rattle.world_model.specs.Event.{ClientEvent}
 use Rattle.world_model.specs.Requests.{Held}
-use Rattle.clients.specs.Clients.{AreKept, Client, GoOn, HasClient, Sessions, held_of, no_one, place_of}
+use Rattle.clients.specs.Clients.{AreKept, Client, GoOn, HasClient, IsOver, Sessions, held_of, no_one, place_of}
+use Rattle.clients.specs.declared.delivered.Delivered.{Delivered}
+use Rattle.clients.specs.declared.delivered.Delivered.TheVariants.{ToSession, Dropped, OutOfMemory}
 use Rattle.clients.specs.declared.output.Output.{Output}
 
 -- the client of this session became another, and nothing else changed
@@ -42,6 +44,10 @@ pub record IsSameClient (before after : Client) : Type 0 where
   pub board : after.session.board ≡ before.session.board
   pub export : after.session.export ≡ before.session.export
   pub at : after.at ≡ before.at
+
+-- a session that takes no more input takes none from then on
+abbrev pub StayOver : List Client → List Client → Type 0
+StayOver old new = (id : SessionId) → IsOver id old → IsOver id new
 
 -- ---- a session begins
 
@@ -100,9 +106,15 @@ pub record EndsInput (before after : Client) : Type 0 where
 abbrev pub Ends : SessionId → Sessions → Sessions → Type 0
 Ends id old new = Changes id old new EndsInput
 
--- in the model a session gives up what it kept
-abbrev pub Forgets : List Client → List Client → Type 0
-Forgets old new = (kept : List (List Held)) → AreKept old kept → (at : ℕ) × AreKept new (set kept at [])
+-- In the model the session gives up what it kept: it takes no more input then.
+pub record GivesUp (id : SessionId) (new : List Client) (kept : List (List Held)) : Type 0 where
+  pub place : ℕ
+  pub there : place_of id new ≡ Some place
+  pub over : IsOver id new
+  pub keeps : AreKept new (set kept place [])
+
+abbrev pub Forgets : SessionId → List Client → List Client → Type 0
+Forgets id old new = (kept : List (List Held)) → AreKept old kept → GivesUp id new kept
 
 -- ---- replies come
 
@@ -115,25 +127,38 @@ is_closed Transmitting = false
 is_closed Leaving = false
 is_closed Over = true
 
--- the session takes the reply, which goes out where one is owed; or it has no memory for it, and ends without it
-abbrev pub TakesReply : GivenReply → Client → Client → List ClientEvent → Type 0
-TakesReply reply before after events =
-    ((after ≡ record before { session = answered before.session (reply_seen reply) })
-    × (events ≡ (if is_owed before.session.phase before.session.in_flight then reply_event reply ∷ [] else [])))
-    ⊎ ((is_closed before.session.phase ≡ false) × (after ≡ ended before) × (events ≡ []))
+-- The session takes the reply, which goes out behind what waits, if the session owes one; or it has ended, and nothing goes out; or it has
+-- no memory for it, and ends without it.
+abbrev pub TakesReply : GivenReply → Delivered → Client → Client → List ClientEvent → Type 0
+TakesReply reply ToSession before after events =
+    (is_closed before.session.phase ≡ false)
+    × (after ≡ record before { session = answered before.session (reply_seen reply) })
+    × (events ≡ (if is_owed before.session.phase before.session.in_flight then reply_event reply ∷ [] else []))
+TakesReply reply Dropped before after events =
+    (is_closed before.session.phase ≡ true)
+    × (after ≡ record before { session = record before.session { in_flight = before.session.in_flight - 1 } })
+    × (events ≡ [])
+TakesReply reply OutOfMemory before after events = (is_closed before.session.phase ≡ false) × (after ≡ ended before) × (events ≡ [])
 
 -- there is no such session: the reply is dropped
-pub record IsDropped (reply : GivenReply) (old new : Sessions) (events : List ClientEvent) : Type 0 where
+pub record IsDropped (reply : GivenReply) (came : Delivered) (old new : Sessions) (events : List ClientEvent) : Type 0 where
+  pub dropped : came ≡ Dropped
   pub none : place_of reply.session old.clients ≡ None
   pub same : new ≡ old
   pub unseen : events ≡ []
 
--- The reply comes to its session, and clients see these events.
-pub record Delivers (reply : GivenReply) (old new : Sessions) (events : List ClientEvent) : Type 0 where
-  pub did : Changes reply.session old new (λ before after. TakesReply reply before after events) ⊎ IsDropped reply old new events
+-- in the model the sessions keep what they kept; one that ends where memory runs out gives it up
+abbrev pub KeepAfter : Delivered → SessionId → List Client → List (List Held) → Type 0
+KeepAfter ToSession id new kept = AreKept new kept
+KeepAfter Dropped id new kept = AreKept new kept
+KeepAfter OutOfMemory id new kept = GivesUp id new kept
+
+-- The reply comes to its session, if it is there, and clients see these events.
+pub record Delivers (reply : GivenReply) (came : Delivered) (old new : Sessions) (events : List ClientEvent) : Type 0 where
+  pub did : Changes reply.session old new (λ before after. TakesReply reply came before after events) ⊎ IsDropped reply came old new events
   pub put_out : ArePutOut (reply ∷ []) events
-  pub keeps : (kept : List (List Held)) → AreKept old.clients kept
-      → AreKept new.clients kept ⊎ ((at : ℕ) × AreKept new.clients (set kept at []))
+  pub keeps : (kept : List (List Held)) → AreKept old.clients kept → KeepAfter came reply.session new.clients kept
+  pub over : StayOver old.clients new.clients
   pub lawful : GoOn old.clients new.clients no_one no_one no_one events
   pub places : AreAtPlaces old new
 

@@ -1,11 +1,12 @@
 -- The sessions of a chain's clients: what holds of all of them, what they keep of the clients' requests, and how their histories go on.
-use Rattle.std.specs.Prelude.{◌≡◌, ◌≢◌, ◌⊎◌, ◌==◌, ℕ, None, Option, Some, Bool, List, [], ◌∷◌, ◌++◌, All, if◌then◌else◌, map, position, slice_get}
+use Rattle.std.specs.Prelude.{◌≡◌, ◌≢◌, ◌⊎◌, ◌==◌, ℕ, None, Option, Some, Bool, true, List, [], ◌∷◌, ◌++◌, All, if◌then◌else◌, map, position, slice_get}
 use Rattle.std.specs.List.{AllPairs, AllZip, flat_map}
 use Rattle.board.specs.Seats.{BoardId}
 use Rattle.flush_barrier.specs.declared.session_id.SessionId.{SessionId}
 use Rattle.nbd_session.specs.Demand.{Asked, asked_by, owed_by}
 use Rattle.nbd_session.specs.Demand as demands
 use Rattle.nbd_session.specs.Lawful.{History, IsLawful, HasHistory, nothing, sent_by}
+use Rattle.nbd_session.specs.Progress.{is_over}
 use Rattle.nbd_session.specs.Replies.{WireReply, seen_with}
 use Rattle.nbd_session.specs.Session.{Holds, State}
 use Rattle.nbd_session.specs.declared.answer.Export.{Export}
@@ -38,6 +39,10 @@ pub record HasClient (id : SessionId) (clients : List Client) (Is : Client → T
   pub there : place_of id clients ≡ Some place
   pub here : slice_get clients place ≡ Some client
   pub is : Is client
+
+-- there is a session of this number, and it takes no more input
+abbrev pub IsOver : SessionId → List Client → Type 0
+IsOver id clients = HasClient id clients (λ client. is_over client.session.phase ≡ true)
 
 -- the client's session is of this board, and has this export
 pub record IsOf (board : BoardId) (export : Export) (client : Client) : Type 0 where

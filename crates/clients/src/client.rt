@@ -8,6 +8,7 @@ ghost use Rattle.nbd_session.specs.Progress.{is_over};
 ghost use Rattle.nbd_session.specs.Session.{MakesFirst};
 ghost use Rattle.world_model.specs.Event.{ClientEvent};
 
+use crate::delivered::Delivered;
 use crate::output::Output;
 use board::Board;
 use flush_barrier::{Reply, SessionId};
@@ -113,12 +114,19 @@ impl Client {
     }
 
     /// Takes the reply to one of its demands. A session without memory for it ends.
-    pub(crate) fn take_reply(&mut self, reply: Reply)
+    pub(crate) fn take_reply(&mut self, reply: Reply) -> Delivered
         requires { reply.session ≡ self.old.session.id }
-        ensures { (events : List ClientEvent) × TakesReply reply self.old self.new events }
+        ensures { (events : List ClientEvent) × TakesReply reply result self.old self.new events }
     {
+        let ended = self.session.closed();
         if self.session.done(reply).is_err() {
             self.session.give_up();
+            return Delivered::OutOfMemory;
+        }
+        if ended {
+            Delivered::Dropped
+        } else {
+            Delivered::ToSession
         }
     }
 

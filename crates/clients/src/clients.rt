@@ -5,6 +5,7 @@ ghost use Rattle.nbd_session.specs.Progress.{is_over};
 ghost use Rattle.world_model.specs.Event.{ClientEvent};
 
 use crate::client::Client;
+use crate::delivered::Delivered;
 use crate::output::Output;
 use board::Board;
 use flush_barrier::{BoardName, Reply, SessionId};
@@ -41,7 +42,7 @@ impl Model for Clients {
 }
 
 impl Clients {
-    ghost use Rattle.clients.specs.Calls.{AreAtPlaces, BeginsToKeep, Begins, Changes, Delivers, Ends, Forgets, IsDemandOf, KeepsAll, PutsOut, TakesPiece, TakesUp, bytes_out};
+    ghost use Rattle.clients.specs.Calls.{AreAtPlaces, BeginsToKeep, Begins, Changes, Delivers, Ends, Forgets, IsDemandOf, KeepsAll, PutsOut, StayOver, TakesPiece, TakesUp, bytes_out};
     ghost use Rattle.clients.specs.Clients.{AreKept, AreSessions, GoOn, HasClient, no_one, of_session, place_of};
 
     /// No sessions of a board's chain. They will be at an export of `size` bytes that takes payloads of up to `max_payload` bytes.
@@ -69,6 +70,7 @@ impl Clients {
         ensures known { IfOk result (λ begun. begun ≡ false → IsSome (place_of id self.old.clients) × (self.new ≡ self.old)) }
         ensures err { OnErr result (self.new ≡ self.old) }
         ensures keeps { IfOk result (λ begun. begun ≡ true → BeginsToKeep self.old.clients self.new.clients) }
+        ensures stay_over { StayOver self.old.clients self.new.clients }
         ensures lawful { IfOk result (λ begun. begun ≡ true → GoOn self.old.clients self.new.clients no_one no_one no_one []) }
     {
         if self.position(id).is_some() {
@@ -97,6 +99,7 @@ impl Clients {
             HasClient id self.old.clients (λ client. is_over client.session.phase ≡ true)) }
         ensures err { IfSome result (λ fed. OnErr fed (self.new ≡ self.old)) }
         ensures places { AreAtPlaces self.old self.new }
+        ensures stay_over { StayOver self.old.clients self.new.clients }
         ensures takes_up { IfSome result (λ fed. IfOk fed (λ r. TakesUp id r.1.items self.old.clients self.new.clients)) }
         ensures lawful { IfSome result (λ fed. IfOk fed (λ r.
             GoOn self.old.clients self.new.clients (of_session id piece.now) no_one (of_session id (map asked_by r.1.items)) [])) }
@@ -118,7 +121,8 @@ impl Clients {
         ensures idle { result ≡ false →
             (HasClient id self.old.clients (λ client. is_over client.session.phase ≡ false) → ⊥) × (self.new ≡ self.old) }
         ensures places { AreAtPlaces self.old self.new }
-        ensures forgets { result ≡ true → Forgets self.old.clients self.new.clients }
+        ensures stay_over { StayOver self.old.clients self.new.clients }
+        ensures forgets { result ≡ true → Forgets id self.old.clients self.new.clients }
         ensures lawful { GoOn self.old.clients self.new.clients no_one no_one no_one [] }
     {
         feeds_are_lawful();
@@ -128,15 +132,16 @@ impl Clients {
         }
     }
 
-    /// A reply comes to the session of its demand, which puts it out where one is owed. A session without memory for it ends. Where there
-    /// is no such session, or it has ended, the reply is dropped.
-    pub fn reply(&mut self, reply: Reply)
-        ensures { (events : List ClientEvent) × Delivers reply self.old self.new events }
+    /// A reply comes to the session of its demand, which puts it out where one is owed. Where there is no such session, or it has ended,
+    /// the reply is dropped. Where memory runs out, and only there, the session ends without it.
+    pub fn reply(&mut self, reply: Reply) -> Delivered
+        ensures { (events : List ClientEvent) × Delivers reply result self.old self.new events }
     {
         feeds_are_lawful();
         requests_are_held();
-        if let Some(place) = self.position(reply.session()) {
-            self.clients[place].take_reply(reply);
+        match self.position(reply.session()) {
+            Some(place) => self.clients[place].take_reply(reply),
+            None => Delivered::Dropped,
         }
     }
 
@@ -145,6 +150,7 @@ impl Clients {
     pub fn put_out(&mut self, id: SessionId) -> Option<Output>
         ensures out { PutsOut id self.old result self.new }
         ensures places { AreAtPlaces self.old self.new }
+        ensures stay_over { StayOver self.old.clients self.new.clients }
         ensures keeps { KeepsAll self.old.clients self.new.clients }
         ensures lawful { GoOn self.old.clients self.new.clients no_one (of_session id (bytes_out result)) no_one [] }
     {

@@ -8,9 +8,11 @@
 
 mod client;
 mod clients;
+mod delivered;
 mod laws;
 mod output;
 
 pub use clients::Clients;
+pub use delivered::Delivered;
 pub use laws::sessions_are_lawful;
 pub use output::Output;

@@ -2,9 +2,8 @@
 use Rattle.std.proofs.Common.{◌≡◌, ℕ, ◌<◌, ◌≤◌, arith, Bool, true, false, cond, List, [], length, refl, ap, inl, sym, subst, ◌∙◌}
 use Rattle.std.specs.Prelude.{None, Option, Some, Result, Ok, Err, get_or, ◌==◌}
 use Rattle.std.proofs.Math.Nat.{le_refl}
-use Rattle.std.proofs.lemmas.List.{append-nil}
 use Rattle.chain_core.specs.declared.refusal.Refusal.{Refusal}
-use Rattle.clients.specs.Clients.{no_one, of_session}
+use Rattle.clients.specs.Clients.{IsOver, no_one, of_session}
 use Rattle.flush_barrier.specs.declared.session_id.SessionId.{SessionId}
 use Rattle.local_store.specs.About.{About}
 use Rattle.clients.specs.declared.output.Output.{Output}
@@ -12,6 +11,7 @@ use Rattle.world.specs.Reception.{fed_in, given_to}
 use Rattle.world.specs.Telling.{handed_by, handed_if, handed_in, handed_some, outputs_of}
 use Rattle.world.specs.World.{IsOfOneVolume, Seen}
 use Rattle.world.specs.declared.told.Told.{Told}
+use Rattle.world.proofs.Accounts.{none_asked, nothing_sent}
 use Rattle.world.proofs.Going.{goes_nowhere}
 use Rattle.world.proofs.GoingOn.{go_on_as, go_on_still}
 use Rattle.life.specs.Played.{fed_to, handed_of, told_in, tried_in, went_in}
@@ -88,7 +88,7 @@ still about keeps may_leave_now w v s shows stands = record {
   shows = shows;
   goes = goes_nowhere v;
   go_on = go_on_still w.sessions.clients;
-  sent = λ id place there. inl (append-nil (get_or v.kept place []));
+  sent = none_asked w.sessions.clients w.sessions.clients v v (λ id is. is) (λ id place there. nothing_sent (IsOver id w.sessions.clients) (get_or v.kept place []) (get_or v.kept place []) refl);
   remain = record { places = λ id place there. there; came = λ id place there. inl there; many = le_refl (length w.sessions.clients); export = refl };
 }
 

@@ -1,5 +1,5 @@
-mod Among
 mod Answering
+mod Beside
 mod Leading
 mod Lives
 mod Owners

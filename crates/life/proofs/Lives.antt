@@ -27,15 +27,14 @@ use Rattle.chain.proofs.Cells.{place_of as cell_of, twin_of}
 use Rattle.clients.specs.Clients.{AllGo, AreKept, AreSessions, Client, Extends, IsOf, Sessions, held_under, place_of, replies_in}
 use Rattle.clients.specs.Laws.{FirstHasNone, IsLawfulFor, OutputsAreLawful}
 use Rattle.clients.proofs.Places.{same_id}
-use Rattle.world.specs.World.{IsJoined, IsOfOneVolume, Seen, Shows, sent_in}
+use Rattle.world.specs.World.{HappensSo, IsJoined, IsOfOneVolume, Seen, Shows, sent_in}
 use Rattle.life.specs.Begun.{BeginsWith, export_of}
-use Rattle.life.specs.Headline.{IsLawfulEra, IsLawfulSession, IsOneLife, RestartsBetween, Trace, fed_in, handed_in, told_in}
+use Rattle.life.specs.Headline.{IsLawfulEra, IsLawfulSession, IsOneLife, IsSent, RestartsBetween, Trace, fed_in, handed_in, told_in}
 use Rattle.life.specs.Lived.{Continues, IsFresh, Lives}
-use Rattle.life.specs.Passing.{AreAmong, PassAsOne, Passes}
 use Rattle.life.specs.declared.era.Answers.{Answers}
 use Rattle.life.specs.declared.era.Era.{Era}
-use Rattle.life.proofs.Among.{all_more, among_cut}
-use Rattle.life.proofs.Passing.{goes_plays, one_passes, pass_as, passes_then}
+use Rattle.life.proofs.Beside.{all_more}
+use Rattle.life.proofs.Passing.{goes_plays, pass_as, passes_then}
 use Rattle.life.specs.Played.{fed_by, handed_by}
 use Rattle.life.specs.declared.answer.Answer.{Answer}
 use Rattle.life.specs.declared.era.Deed.{Deed}
@@ -101,7 +100,7 @@ none_kept (c ∷ cs) kept none are = absurd (cc)
 
 module _ {S : Type 0} (about : S → About) (keeps : S → List ℕ → Type 0) (may_leave_now : S → List ℕ → Type 0) where
   -- an era of sessions that all began in it
-  pub era_lawful : (old new : Seen S) (told : Trace) (v : View) (one : Passes about keeps may_leave_now old new (fed_in told) (handed_in told) v) → FirstHasNone → OutputsAreLawful
+  pub era_lawful : (old new : Seen S) (told : Trace) (v : View) (one : HappensSo about keeps may_leave_now old new (fed_in told) (handed_in told) v) → FirstHasNone → OutputsAreLawful
       → old.sessions.clients ≡ [] → v.kept ≡ [] → AreSessions new.sessions → IsLawfulEra new.sessions.export told one.events
   era_lawful old new told v one first lawful none kept are = record {
     asked = one.asked;
@@ -128,14 +127,17 @@ module _ {S : Type 0} (about : S → About) (keeps : S → List ℕ → Type 0) 
       extends : (id : SessionId) → Extends nothing (later id) (fed_in told id) (handed_in told id) (one.asked id) (replies_in id one.events)
       extends = (one.go_on (λ id. nothing) going).2
 
-      by_place : (id : SessionId) (place : Option ℕ) → place_of id new.sessions.clients ≡ place → AreAmong (map (held_under id) (one.asked id)) (sent_in id one.events)
+      by_place : (id : SessionId) (place : Option ℕ) → place_of id new.sessions.clients ≡ place → IsSent id (sent_in id one.events) (one.asked id)
       by_place id None there =
-          let silent : one.asked id ≡ [] = sym (was_nothing (later id).asked [] (one.asked id) (extends id).asked refl) ∙ ap (λ h. h.asked) (all.none id there) in
-          subst (λ l. AreAmong (map (held_under id) l) (sent_in id one.events)) (sym silent) tt
+          let silent = one.sent.nobody id there in
+          ([], silent.0 ∙ ap (λ l. map (held_under id) l ++ []) (sym silent.1))
       by_place id (Some place) there =
           let none_kept : get_or v.kept place [] ≡ [] = ap (λ l. get_or l place []) kept in
-          among_cut (map (held_under id) (one.asked id)) (get_or one.w.kept place []) (sent_in id one.events)
-          (subst (λ l. AreAmong (map (held_under id) (one.asked id) ++ get_or one.w.kept place []) (l ++ sent_in id one.events)) none_kept (one.sent (λ id. nothing) going id place there))
+          let behind : get_or v.kept place [] ++ sent_in id one.events ≡ sent_in id one.events = ap (λ l. l ++ sent_in id one.events) none_kept in
+          elim (one.sent.accounted id place there) [
+            | inl are ↦ (get_or one.w.kept place [], sym behind ∙ are)
+            | inr (over, none, lost, are) ↦ (lost, sym behind ∙ are)
+          ]
 
   -- ---- a cut
 
@@ -181,7 +183,7 @@ module _ {S : Type 0} (about : S → About) (keeps : S → List ℕ → Type 0) 
   pub era_continues : HappeningsAreOfOneVolume → RestartsChain → FirstHasNone → OutputsAreLawful
       → ((one other : Meaning) (bytes : List ℕ) → Means one bytes → Means other bytes → one ≡ other)
       → (old mid new : Seen S) (told : Trace) (at : ℕ) (m : Linked S) (c : List ℕ) (meaning : Meaning) → IsJoined old → IsJoined mid → AreSessions mid.sessions
-      → PassAsOne about keeps may_leave_now (fed_in told) (handed_in told) old mid
+      → IsOfOneVolume about keeps may_leave_now (fed_in told) (handed_in told) old mid
       → slice_get mid.chain.members at ≡ Some m → may_leave_now m.node.store c → Means meaning c
       → export_of meaning.geometry ≡ export_of mid.chain.geometry
       → BeginsWith about keeps may_leave_now meaning.geometry meaning.front meaning.volume new
@@ -211,14 +213,13 @@ module _ {S : Type 0} (about : S → About) (keeps : S → List ℕ → Type 0) 
 
   -- one deed more
   pub pass_more : HappeningsAreOfOneVolume → (old mid new : Seen S) → IsJoined old → IsJoined mid → (told : Trace) (deed : Deed) (answer : Answer)
-      → PassAsOne about keeps may_leave_now (fed_in told) (handed_in told) old mid → IsOfOneVolume about keeps may_leave_now (fed_by deed answer) (handed_by deed answer) mid new
-      → PassAsOne about keeps may_leave_now (fed_in (told ++ (deed, answer) ∷ [])) (handed_in (told ++ (deed, answer) ∷ [])) old new
+      → IsOfOneVolume about keeps may_leave_now (fed_in told) (handed_in told) old mid → IsOfOneVolume about keeps may_leave_now (fed_by deed answer) (handed_by deed answer) mid new
+      → IsOfOneVolume about keeps may_leave_now (fed_in (told ++ (deed, answer) ∷ [])) (handed_in (told ++ (deed, answer) ∷ [])) old new
   pass_more law old mid new joined joined_then told deed answer first one =
       pass_as about keeps may_leave_now old new (λ id. fed_in told id ++ fed_by deed answer id) (fed_in (told ++ (deed, answer) ∷ [])) (λ id. handed_in told id ++ handed_by deed answer id) (handed_in (told ++ (deed, answer) ∷ []))
       (λ id. sym (flat_map-append (fed_one id) told ((deed, answer) ∷ []) ∙ ap (λ l. fed_in told id ++ l) (append-nil (fed_by deed answer id))))
       (λ id. sym (flat_map-append (handed_one id) told ((deed, answer) ∷ []) ∙ ap (λ l. handed_in told id ++ l) (append-nil (handed_by deed answer id))))
-      (passes_then about keeps may_leave_now law old mid new joined joined_then (fed_in told) (fed_by deed answer) (handed_in told) (handed_by deed answer) first
-      (one_passes about keeps may_leave_now mid new (fed_by deed answer) (handed_by deed answer) one))
+      (passes_then about keeps may_leave_now law old mid new joined joined_then (fed_in told) (fed_by deed answer) (handed_in told) (handed_by deed answer) first one)
     where
       fed_one : SessionId → Deed × Answer → List ℕ
       fed_one id one = fed_by one.0 one.1 id

@@ -224,7 +224,7 @@ module _ {S : Type 0} (about : S → About) where
       | inr (others, refusal, did, replies) ↦ refused at is.demand others refusal old.chain new.chain did
     ]
 
-    take_first : (at : ℕ) (given : Option Told) (old new : Seen S) → TakesFirst premise about keeps moment left_since failures at given old new → StayOwn old.chain new.chain
+    take_first : (at : ℕ) (given : Option Told) (old new : Seen S) → TakesFirst premise about keeps is_pending may_leave_now moment left_since failures at given old new → StayOwn old.chain new.chain
     take_first at (Some told) old new is = takes at told old new is.taken
     take_first at None old new is = stay_same old.chain new.chain (ap (λ w. w.chain) is.none.1)
 
@@ -305,7 +305,7 @@ module _ {S : Type 0} (about : S → About) where
     acts_stay acts.Ack at answer old new (given, tells, did) = comes_or _ _ _ given old new _ did (λ replies is. ack_stays at old.chain new.chain replies is)
     acts_stay acts.Look at answer old new (taken, tells, did) = moves_or taken old new _ _ did (λ is. stay_changed at old.chain new.chain _ is (λ m n so. ap own_of so.are)) (rests at old.chain new.chain)
     acts_stay acts.AnswerFront at answer old new (given, tells, did) =
-        answers_or given old new _ _ did (λ replies is. stay_changed at old.chain new.chain _ is (λ m n so. front_answered m n so.out _ so.did)) (rests at old.chain new.chain)
+        answers_or given old new _ _ did.answered (λ replies is. stay_changed at old.chain new.chain _ is (λ m n so. front_answered m n so.out _ so.did)) (rests at old.chain new.chain)
     acts_stay acts.Raise at answer old new (taken, tells, did) = moves_or taken old new _ _ did (raises at old.chain new.chain) (no_tail at old.chain new.chain)
     acts_stay acts.Raised at answer old new (given, tells, did) =
         answers_or given old new _ _ did (λ replies is. stay_changed at old.chain new.chain _ is (λ m n so. step_or_stop m.node n.node so.out _ so.did)) (rests at old.chain new.chain)

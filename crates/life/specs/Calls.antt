@@ -127,24 +127,24 @@ Settles at given old new = AnswersOr given old new (λ replies old new. Changes 
 abbrev pub Stops : {S : Type 0} → ℕ → Told → Seen S → Seen S → Type 0
 Stops at told old new = Answers told old new (λ replies old new. Changes at old new (HasStoppedTold replies))
 
--- The first demand of the member's sessions was taken; or none waited.
-pub record TakesFirst {S : Type 0} (premise : Type 0) (about : S → About) (keeps : S → List ℕ → Type 0) (moment : S → ℕ) (left_since : S → ℕ → List ℕ → Type 0) (failures : S → ℕ)
-    (at : ℕ) (given : Option Told) (old new : Seen S) : Type 0 where
-  pub taken : IfSome given (λ told. Takes premise about failures keeps moment left_since at told old new)
-  pub none : IfNone given ((slice_get old.queues at ≡ Some []) × (new ≡ old))
-
--- the member went on with the front that it looked up
-abbrev pub AnswersFront : {S : Type 0} → Type 0 → (S → About) → (S → List ℕ → Type 0) → (S → ℕ) → (S → ℕ → List ℕ → Type 0) → (S → ℕ) → ℕ → Option Told → Seen S → Seen S → Type 0
-AnswersFront premise about keeps moment left_since failures at given old new =
-    AnswersOr given old new (λ replies old new. Changes at old new (HasCalled (λ old new out. (HasOnlyRead premise about failures keeps moment left_since old.store new.store
-    × (IsStepOver premise (keeps old.store) new.state out (λ volume. answer_front volume old.state)
-    ⊎ IsStepTo new.state out (stop causes.Memory old.state)))
-    ⊎ HasBrokenOff about failures old new out) replies)) (RestsAt at)
-
 -- ---- of stores
 
 module _ {S : Type 0} (premise : Type 0) (about : S → About) (keeps : S → List ℕ → Type 0) (is_pending : S → ℕ → Type 0) (may_leave_now : S → List ℕ → Type 0) (moment : S → ℕ)
     (left_since : S → ℕ → List ℕ → Type 0) (failures : S → ℕ) where
+  -- The first demand of the member's sessions was taken; or none waited.
+  pub record TakesFirst (at : ℕ) (given : Option Told) (old new : Seen S) : Type 0 where
+    pub taken : IfSome given (λ told. Takes premise about failures keeps moment left_since at told old new)
+    pub none : IfNone given ((slice_get old.queues at ≡ Some []) × (new ≡ old))
+    pub any_moment : premise → IfSome given (λ told. LeavesAt about keeps may_leave_now moment left_since at old.chain new.chain)
+
+  -- The member went on with the front that it looked up; or it has stopped.
+  pub record AnswersFront (at : ℕ) (given : Option Told) (old new : Seen S) : Type 0 where
+    pub answered : AnswersOr given old new (λ replies old new. Changes at old new (HasCalled (λ old new out. (HasOnlyRead premise about failures keeps moment left_since old.store new.store
+        × (IsStepOver premise (keeps old.store) new.state out (λ volume. answer_front volume old.state)
+        ⊎ IsStepTo new.state out (stop causes.Memory old.state)))
+        ⊎ HasBrokenOff about failures old new out) replies)) (RestsAt at)
+    pub any_moment : premise → LeavesAt about keeps may_leave_now moment left_since at old.chain new.chain
+
   -- The member ended the commit under way; or it has stopped.
   pub record EndsCommit (at : ℕ) (given : Option Told) (old new : Seen S) : Type 0 where
     pub ended : IfSome given (λ told. Answers told old new (λ replies old new. Changes at old new (HasEndedCommit premise about is_pending failures keeps replies)))

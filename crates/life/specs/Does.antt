@@ -11,7 +11,7 @@ use Rattle.local_store.specs.About.{About}
 use Rattle.nbd_session.specs.Refusal as session
 use Rattle.nbd_session.specs.declared.refusal.Refusal as sessions
 use Rattle.std.specs.declared.alloc.AllocError.{AllocError}
-use Rattle.world.specs.Telling.{has_room, outputs_of}
+use Rattle.world.specs.Telling.{is_whole, outputs_of}
 use Rattle.world.specs.World.{Seen}
 use Rattle.world.specs.declared.told.Told.{Told}
 use Rattle.life.specs.Calls.{AnswersFront, Arms, BeginsCommits, Checkpoints, Connects, EndsCommit, EndsInput, FindsFront, Gauges, HandsOut, LooksUp, MustersCrew, Numbers, Posts, Raises, Settles, Stops, TakesAck, TakesFirst, TakesIn, TakesPut, TakesRaised, Ticks}
@@ -29,7 +29,7 @@ use Rattle.life.specs.declared.step.Step.TheVariants.{Connect, Bytes, End, HandO
 
 -- it was taken, and told nobody anything
 abbrev pub IsSilent : Answer → Type 0
-IsSilent (Taken told) = (has_room told ≡ true) × (outputs_of told ≡ [])
+IsSilent (Taken told) = (is_whole told ≡ true) × (outputs_of told ≡ [])
 IsSilent (HandedOut output) = ⊥
 IsSilent (Refused number) = ⊥
 IsSilent Skipped = ⊥
@@ -129,12 +129,12 @@ module _ {S : Type 0} (premise : Type 0) (about : S → About) (keeps : S → Li
 
   -- what the member at the place did
   abbrev pub Acts : Act → ℕ → Answer → Seen S → Seen S → Type 0
-  Acts acts.Take at answer old new = IsTold answer (λ given. TakesFirst premise about keeps moment left_since failures at given old new)
+  Acts acts.Take at answer old new = IsTold answer (λ given. TakesFirst premise about keeps is_pending may_leave_now moment left_since failures at given old new)
   Acts acts.Number at answer old new = IsTried answer (λ given. Numbers at given old new)
   Acts acts.Put at answer old new = IsTried answer (λ given. TakesPut at given old new)
   Acts acts.Ack at answer old new = IsTried answer (λ given. TakesAck at given old new)
   Acts acts.Look at answer old new = IsDone answer (λ taken. LooksUp at taken old new)
-  Acts acts.AnswerFront at answer old new = IsTold answer (λ given. AnswersFront premise about keeps moment left_since failures at given old new)
+  Acts acts.AnswerFront at answer old new = IsTold answer (λ given. AnswersFront premise about keeps is_pending may_leave_now moment left_since failures at given old new)
   Acts acts.Raise at answer old new = IsDone answer (λ taken. Raises at taken old new)
   Acts acts.Raised at answer old new = IsTold answer (λ given. TakesRaised at given old new)
   Acts acts.FindFront at answer old new = IsDone answer (λ taken. FindsFront at taken old new)

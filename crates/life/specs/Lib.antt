@@ -3,7 +3,6 @@ pub mod Calls
 pub mod Does
 pub mod Headline
 pub mod Lived
-pub mod Passing
 pub mod Played
 pub mod Plays
 pub mod Refusal

@@ -8,7 +8,6 @@ ghost use Rattle.std.specs.List.{AllZip};
 ghost use Rattle.life.specs.Begun.{AreOnDisks, BeginsWith, IsOfMember, export_of};
 ghost use Rattle.life.specs.Headline.{IsOneLife, fed_in, handed_in, told_in};
 ghost use Rattle.life.specs.Lived.{Continues, IsFresh};
-ghost use Rattle.life.specs.Passing.{PassAsOne};
 ghost use Rattle.life.specs.Refusal.{BreaksOff, EndsAtReturn};
 ghost use Rattle.nbd_session.specs.declared.answer.Export.{Export};
 ghost use Rattle.world_model.specs.Chain.{StandsFor, View};
@@ -116,7 +115,7 @@ fn play_all(
     ensures plays { IfOk result (λ answers. DeedsLead ⟦<Store<MemDisk> as StoreLike>⟧.keeps_model ⟦<Store<MemDisk> as StoreLike>⟧.about ⟦<Store<MemDisk> as StoreLike>⟧.keeps ⟦<Store<MemDisk> as StoreLike>⟧.is_pending ⟦<Store<MemDisk> as StoreLike>⟧.may_leave_now
         ⟦<Store<MemDisk> as StoreLike>⟧.moment ⟦<Store<MemDisk> as StoreLike>⟧.may_have_left_since ⟦<Store<MemDisk> as StoreLike>⟧.failures (λ s. s.disk)
         deeds.now answers.items world.old world.new) }
-    ensures pass { IfOk result (λ answers. PassAsOne ⟦<Store<MemDisk> as StoreLike>⟧.about ⟦<Store<MemDisk> as StoreLike>⟧.keeps ⟦<Store<MemDisk> as StoreLike>⟧.may_leave_now
+    ensures pass { IfOk result (λ answers. IsOfOneVolume ⟦<Store<MemDisk> as StoreLike>⟧.about ⟦<Store<MemDisk> as StoreLike>⟧.keeps ⟦<Store<MemDisk> as StoreLike>⟧.may_leave_now
         (fed_in (zip deeds.now answers.items)) (handed_in (zip deeds.now answers.items)) world.old world.new) }
 {
     lives_are_of_one_volume();

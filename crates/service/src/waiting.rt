@@ -38,7 +38,7 @@ impl Waiting {
         ensures none { result ≡ false → self.new.late.items ≡ [] }
     {
         match told {
-            Told::Out(outputs) => {
+            Told::Out(outputs) | Told::Lost(outputs) => {
                 self.late = VecDeque::from_vec(outputs);
                 !self.late.is_empty()
             }

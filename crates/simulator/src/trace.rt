@@ -99,6 +99,12 @@ impl fmt::Display for Became<'_> {
                     _ => write!(f, "taken, with {count} replies"),
                 }
             }
+            Answer::Taken(Told::Lost(_)) => {
+                write!(
+                    f,
+                    "taken; memory for a reply ran out, and its session ended"
+                )
+            }
             Answer::Taken(Told::Withheld) => write!(f, "taken; memory for its replies ran out"),
             Answer::HandedOut(output) => {
                 let len = output.bytes.len();

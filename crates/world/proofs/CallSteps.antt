@@ -4,7 +4,6 @@ use Rattle.std.specs.Prelude.{◌⊎◌, ◌↔◌, IfNone, IfSome, IsErrOf, IsE
 use Rattle.flush_barrier.specs.Reply.{GivenReply}
 use Rattle.local_store.specs.About.{About}
 use Rattle.nbd_session.specs.declared.demand.Demand.{Demand}
-use Rattle.world_model.specs.Event.{ClientEvent}
 use Rattle.world_model.specs.Requests.{Held}
 use Rattle.chain.specs.Asking.{TakesOfOneVolume}
 use Rattle.chain.specs.Chain.{Chained, RestsAt}
@@ -13,7 +12,7 @@ use Rattle.chain.specs.Musters.{LacksAt}
 use Rattle.chain.specs.Passing.{replies_in}
 use Rattle.chain.specs.Chain as chain
 use Rattle.clients.specs.Clients.{Sessions, held_of, no_one}
-use Rattle.world.specs.Telling.{Answers, AreTold, Moves, handed_by, handed_if, handed_in, handed_some, has_room, outputs_of}
+use Rattle.world.specs.Telling.{Answers, Moves, Tells, handed_by, handed_if, handed_in, handed_some, has_room, outputs_of}
 use Rattle.world.specs.World.{IsJoined, IsOfOneVolume, Seen}
 use Rattle.world.specs.declared.told.Told.{Told}
 use Rattle.world.proofs.InnerSteps.{IsAlike, answers_so, joined_so, moves_so, rests_so}
@@ -25,19 +24,19 @@ module _ {S : Type 0} (before after : Chained S) (sessions : Sessions) (queues :
 
   -- ---- replies came to their sessions
 
-  module _ (later : Sessions) (told : Told) (replies : List GivenReply) (tells : (events : List ClientEvent) × AreTold (has_room told) replies sessions later (outputs_of told) events) where
+  module _ (later : Sessions) (told : Told) (replies : List GivenReply) (tells : Tells told replies sessions later) where
     abbrev new : Seen S
     new = record { chain = after; sessions = later; queues = queues }
 
     pub told_joined : IsAlike before after → IsJoined old → IsJoined new
-    told_joined alike joined = joined_so old new alike (told_places (has_room told) replies sessions later (outputs_of told) tells.0 tells.1) refl joined
+    told_joined alike joined = joined_so old new alike (told_places (has_room told) tells.lost replies sessions later (outputs_of told) tells.events tells.comes) refl joined
 
     pub told_did : {Did : List GivenReply → Chained S → Chained S → Type 0} → Did replies before after → Answers told old new Did
-    told_did did = record { replies = replies; events = tells.0; did = did; comes = tells.1; are = refl }
+    told_did did = record { replies = replies; did = did; tells = tells; are = refl }
 
     pub told_so : {about : S → About} {keeps : S → List ℕ → Type 0} {may_leave_now : S → List ℕ → Type 0} → chain.IsOfOneVolume about keeps may_leave_now before after replies
         → IsOfOneVolume about keeps may_leave_now no_one (handed_by (outputs_of told)) old new
-    told_so {about} {keeps} {may_leave_now} lead = answers_so about keeps may_leave_now old new (has_room told) replies (outputs_of told) tells.0 lead tells.1 refl
+    told_so {about} {keeps} {may_leave_now} lead = answers_so about keeps may_leave_now old new (has_room told) tells.lost replies (outputs_of told) tells.events lead tells.comes refl
 
   -- ---- nobody was told anything
 

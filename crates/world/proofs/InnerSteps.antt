@@ -1,6 +1,6 @@
 -- What a call of members and the board is, with its replies told: what happens in the world, and what holds of it then.
 use Rattle.std.proofs.Common.{◌≡◌, ℕ, Bool, List, [], ◌∷◌, ◌++◌, length, refl, ap, sym, subst, ◌∙◌, inl, inr}
-use Rattle.std.specs.Prelude.{◌⊎◌, ◌<◌, ◌*◌, All, get_or, map, true}
+use Rattle.std.specs.Prelude.{◌⊎◌, ◌<◌, ◌*◌, All, get_or, map, false, true}
 use Rattle.std.proofs.lemmas.List.Elements.{All-map}
 use Rattle.std.proofs.lemmas.List.{append-nil, get_or-map, length-map}
 use Rattle.flush_barrier.specs.Reply.{GivenReply}
@@ -8,17 +8,18 @@ use Rattle.flush_barrier.specs.declared.session_id.SessionId.{SessionId}
 use Rattle.local_store.specs.About.{About}
 use Rattle.world_model.specs.Chain.{ArePutOut, View}
 use Rattle.world_model.specs.Event.{ClientEvent}
+use Rattle.world_model.specs.Requests.{Held}
 use Rattle.chain.specs.Chain.{Chained, bytes_of}
 use Rattle.chain.specs.Chain as chain
 use Rattle.chain.proofs.Keeping.{goes_keeps}
 use Rattle.clients.specs.Calls.{AreAtPlaces}
-use Rattle.clients.specs.Clients.{AreKept, Client, held_of, no_one}
+use Rattle.clients.specs.Clients.{AreKept, IsOver, held_of, no_one}
 use Rattle.clients.specs.declared.output.Output.{Output}
 use Rattle.world.specs.Telling.{AreTold, handed_by}
-use Rattle.world.specs.World.{AskWhatWasSent, Goes, HappensSo, IsJoined, IsOfOneVolume, Seen, sent_in}
+use Rattle.world.specs.World.{Goes, HappensSo, IsAccounted, IsJoined, IsOfOneVolume, Seen, sent_in}
 use Rattle.world.proofs.Going.{goes_as, goes_on, goes_same}
 use Rattle.world.proofs.GoingOn.{remain_at}
-use Rattle.world.proofs.TellingSteps.{told_go_on, told_keeps, told_places, told_put_out}
+use Rattle.world.proofs.TellingSteps.{told_go_on, told_keeps, told_over, told_places, told_put_out}
 
 -- ---- nobody sent anything
 
@@ -29,14 +30,6 @@ none_sent id (r ∷ rs) events out = elim out [
   | inr (more, is, rest) ↦ ap (sent_in id) is ∙ none_sent id rs more rest
 ]
 
--- where nobody sent anything, and nobody asked, sessions keep what they kept, or nothing
-pub asks_nothing : (clients : List Client) (v w : View) (events : List ClientEvent) → ((id : SessionId) → sent_in id events ≡ [])
-    → ((place : ℕ) → (get_or w.kept place [] ≡ get_or v.kept place []) ⊎ (get_or w.kept place [] ≡ [])) → AskWhatWasSent clients v w no_one events
-asks_nothing clients v w events none each id place there = elim (each place) [
-  | inl same ↦ inl (ap (λ l. get_or v.kept place [] ++ l) (none id) ∙ append-nil (get_or v.kept place []) ∙ sym same)
-  | inr gone ↦ inr (none id, refl, gone)
-]
-
 -- ---- one call
 
 module _ {S : Type 0} (about : S → About) (keeps : S → List ℕ → Type 0) (may_leave_now : S → List ℕ → Type 0) where
@@ -45,43 +38,47 @@ module _ {S : Type 0} (about : S → About) (keeps : S → List ℕ → Type 0) 
   shows_with c v w told members shows = record { told = told ∙ shows.told; members = rw members shows.members }
 
   -- replies come to their sessions in a world that has come so far
-  pub tells_so : (old new : Seen S) (room : Bool) (replies : List GivenReply) (outputs : List Output) (events : List ClientEvent) (v w : View)
-      → AreTold room replies old.sessions new.sessions outputs events
+  pub tells_so : (old new : Seen S) (room lost : Bool) (replies : List GivenReply) (outputs : List Output) (events : List ClientEvent) (v w : View)
+      → AreTold room lost replies old.sessions new.sessions outputs events
       → chain.Shows about keeps may_leave_now new.chain w → map (λ m. m.demands) w.members ≡ map (map held_of) new.queues → w.kept ≡ v.kept → AreKept old.sessions.clients v.kept
       → Goes (bytes_of old.chain) v w events
       → HappensSo about keeps may_leave_now old new no_one (handed_by outputs) v
-  tells_so old new room replies outputs events v w told shows demands kept are goes =
-      let less = told_keeps (bytes_of old.chain) room replies old.sessions new.sessions outputs events w told (rw kept are) in
+  tells_so old new room lost replies outputs events v w told shows demands kept are goes =
+      let less = told_keeps (bytes_of old.chain) room lost replies old.sessions new.sessions outputs events w told (rw kept are) in
       let then = record w { kept = less.kept } in
+      let silent : (id : SessionId) → sent_in id events ≡ [] = λ id. none_sent id replies events (told_put_out room lost replies old.sessions new.sessions outputs events told) in
       record {
         w = then;
         events = events;
         asked = no_one;
         shows = record { chain = shows_with new.chain w then refl refl shows; demands = demands; kept = less.are };
         goes = goes_same v then (events ++ []) events (append-nil events) (goes_on v w then events [] goes less.goes);
-        go_on = told_go_on room replies old.sessions new.sessions outputs events told;
-        sent = asks_nothing new.sessions.clients v then events (λ id. none_sent id replies events (told_put_out room replies old.sessions new.sessions outputs events told))
-            (λ place. elim (less.each place) [
-              | inl same ↦ inl (same ∙ ap (λ l. get_or l place []) kept)
-              | inr none ↦ inr none
-            ]);
-        remain = remain_at old.sessions new.sessions (told_places room replies old.sessions new.sessions outputs events told);
+        go_on = told_go_on room lost replies old.sessions new.sessions outputs events told;
+        sent = record {
+          accounted =
+              λ id place there.
+              subst (λ (l : List (List Held)). IsAccounted (IsOver id new.sessions.clients) (get_or l place []) (sent_in id events) [] (get_or less.kept place [])) kept
+              (subst (λ (l : List Held). IsAccounted (IsOver id new.sessions.clients) (get_or w.kept place []) l [] (get_or less.kept place [])) (sym (silent id)) (less.each id place there));
+          over = λ id is. (told_over room lost replies old.sessions new.sessions outputs events told id is, silent id, refl);
+          nobody = λ id none. (silent id, refl);
+        };
+        remain = remain_at old.sessions new.sessions (told_places room lost replies old.sessions new.sessions outputs events told);
       }
 
   -- a call of the chain, with its replies
-  pub answers_so : (old new : Seen S) (room : Bool) (replies : List GivenReply) (outputs : List Output) (events : List ClientEvent)
-      → chain.IsOfOneVolume about keeps may_leave_now old.chain new.chain replies → AreTold room replies old.sessions new.sessions outputs events → new.queues ≡ old.queues
+  pub answers_so : (old new : Seen S) (room lost : Bool) (replies : List GivenReply) (outputs : List Output) (events : List ClientEvent)
+      → chain.IsOfOneVolume about keeps may_leave_now old.chain new.chain replies → AreTold room lost replies old.sessions new.sessions outputs events → new.queues ≡ old.queues
       → IsOfOneVolume about keeps may_leave_now no_one (handed_by outputs) old new
-  answers_so old new room replies outputs events lead told queues v s shows stands =
-      let did = lead v s events shows.chain stands (told_put_out room replies old.sessions new.sessions outputs events told) in
+  answers_so old new room lost replies outputs events lead told queues v s shows stands =
+      let did = lead v s events shows.chain stands (told_put_out room lost replies old.sessions new.sessions outputs events told) in
       let stays = goes_keeps v did.0 events did.2 in
-      tells_so old new room replies outputs events v did.0 told did.1 (stays.1 ∙ shows.demands ∙ sym (ap (map (map held_of)) queues)) stays.0 shows.kept (goes_as v did.0 events did.2)
+      tells_so old new room lost replies outputs events v did.0 told did.1 (stays.1 ∙ shows.demands ∙ sym (ap (map (map held_of)) queues)) stays.0 shows.kept (goes_as v did.0 events did.2)
 
   -- a call of the chain without a reply
   pub moves_so : (old new : Seen S) → chain.IsOfOneVolume about keeps may_leave_now old.chain new.chain [] → new ≡ record old { chain = new.chain }
       → IsOfOneVolume about keeps may_leave_now no_one no_one old new
   moves_so old new lead are v s shows stands =
-      answers_so old new true [] [] [] lead (ap (λ w. w.sessions) are, refl, refl) (ap (λ w. w.queues) are) v s shows stands
+      answers_so old new true false [] [] [] lead (ap (λ w. w.sessions) are, refl, refl, refl) (ap (λ w. w.queues) are) v s shows stands
 
   -- nothing changed
   pub rests_so : (old new : Seen S) → new ≡ old → IsOfOneVolume about keeps may_leave_now no_one no_one old new

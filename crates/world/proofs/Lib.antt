@@ -1,3 +1,4 @@
+pub mod Accounts
 mod AlikeSteps
 mod BeginningSteps
 mod CallSteps
@@ -8,6 +9,7 @@ mod InnerSteps
 mod JoinedSteps
 mod ReceptionSteps
 mod Results
+mod StoppingSteps
 mod TakenSteps
 mod TakingSteps
 mod TellingSteps

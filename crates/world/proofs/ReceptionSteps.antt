@@ -16,6 +16,7 @@ use Rattle.local_store.specs.About.{About}
 use Rattle.nbd_session.specs.Begun.{greeted}
 use Rattle.nbd_session.specs.Demand.{Asked, asked_by}
 use Rattle.nbd_session.specs.Demand as demands
+use Rattle.nbd_session.specs.Progress.{is_over}
 use Rattle.nbd_session.specs.declared.demand.Demand.{Demand}
 use Rattle.world_model.specs.Chain.{Member, View}
 use Rattle.world_model.specs.Counting.{all_behind, get_within}
@@ -25,25 +26,16 @@ use Rattle.chain.specs.Chain.{bytes_of}
 use Rattle.chain.specs.Chain as chain
 use Rattle.chain.proofs.Cells.{Place, set_there, zip_at}
 use Rattle.chain.proofs.Cells as cells
-use Rattle.clients.specs.Calls.{AreAtPlaces, Begins, BeginsToKeep, Forgets, IsDemandOf, KeepsAll, TakesUpFrom}
-use Rattle.clients.specs.Clients.{AreKept, Client, GoOn, Keeps, Sessions, held_of, held_under, no_one, of_session, place_of, replies_in}
+use Rattle.clients.proofs.CallSteps.{is_the_client}
+use Rattle.clients.specs.Calls.{AreAtPlaces, Begins, BeginsToKeep, Forgets, IsDemandOf, KeepsAll, StayOver, TakesUpFrom}
+use Rattle.clients.specs.Clients.{AreKept, Client, GoOn, IsOver, Keeps, Sessions, held_of, held_under, no_one, of_session, place_of, replies_in}
 use Rattle.clients.proofs.Places.{place_before, place_by_ids, place_came, same_id}
 use Rattle.world.specs.Reception.{IsFed}
 use Rattle.world.specs.World.{Goes, IsAccounted, IsOfOneVolume, Remain, Seen, Shows, sent_in}
+use Rattle.world.proofs.Accounts.{client_at, given_up, none_asked, nothing_sent}
 use Rattle.world.proofs.Going.{goes_by, goes_nowhere, goes_on, goes_same}
 use Rattle.world.proofs.GoingOn.{go_on_still, remain_at}
 use Rattle.world.proofs.TakingSteps.{WaitsAt, demands_then, shows_demands, waits_at, with_demands}
-use Rattle.world.proofs.TellingSteps.{set_none}
-
--- ---- a session's client
-
--- the client at a session's place is of the session
-client_at : (id : SessionId) (cs : List Client) (place : ℕ) → place_of id cs ≡ Some place
-    → (client : Client) × (slice_get cs place ≡ Some client) × (client.session.id.0 ≡ id.0)
-client_at id [] place there = let none : None ≡ Some place = there in absurd (cc)
-client_at id (c ∷ cs) place there =
-    let is = position-Some (λ (client : Client). client.session.id.0 == id.0) (c ∷ cs) place c there in
-    (get_or (c ∷ cs) place c, slice_get-get_or (c ∷ cs) place c is.0, eqb-true (get_or (c ∷ cs) place c).session.id.0 id.0 is.1)
 
 -- ---- whose requests are sent
 
@@ -115,10 +107,6 @@ more_is_by id board size ds held more rest own whole by =
 
 -- ---- each session asks what its client sent
 
--- it sent nothing and asks nothing
-nothing_sent : (kept rest : List Held) → rest ≡ kept → IsAccounted kept [] [] rest
-nothing_sent kept rest same = inl (append-nil kept ∙ sym same)
-
 module _ (id : SessionId) (board : BoardId) (size : ℕ) (ds : List Demand) (old new : List Client) (kept : List (List Held)) (own : All (IsDemandOf id board size) ds) (takes : TakesUpFrom id ds old new kept)
     (ids : map (λ (c : Client). c.session.id) new ≡ map (λ (c : Client). c.session.id) old) where
   there_then : place_of id new ≡ Some takes.place
@@ -127,7 +115,7 @@ module _ (id : SessionId) (board : BoardId) (size : ℕ) (ds : List Demand) (old
   more_by : All (IsBy id) takes.more
   more_by = more_is_by id board size ds takes.held takes.more takes.rest own takes.whole (kept_is_by id new kept takes.place takes.held takes.rest there_then takes.here takes.keeps)
 
-  own_accounted : IsAccounted (get_or kept takes.place []) (sent_in id (map sent_event takes.more)) (map (held_under id) (map asked_by ds)) (get_or (set kept takes.place takes.rest) takes.place [])
+  own_accounted : IsAccounted (IsOver id new) (get_or kept takes.place []) (sent_in id (map sent_event takes.more)) (map (held_under id) (map asked_by ds)) (get_or (set kept takes.place takes.rest) takes.place [])
   own_accounted = inl (
       ap (λ l. l ++ sent_in id (map sent_event takes.more)) (get_or_from_slice_get kept takes.place takes.held [] takes.here)
       ∙ ap (λ l. takes.held ++ l) (sent_own id takes.more more_by)
@@ -146,21 +134,46 @@ module _ (id : SessionId) (board : BoardId) (size : ℕ) (ds : List Demand) (old
       absurd (cc)
 
   pub fed_accounted : (other : SessionId) (place : ℕ) → place_of other new ≡ Some place
-      → IsAccounted (get_or kept place []) (sent_in other (map sent_event takes.more)) (map (held_under other) (of_session id (map asked_by ds) other)) (get_or (set kept takes.place takes.rest) place [])
+      → IsAccounted (IsOver other new) (get_or kept place []) (sent_in other (map sent_event takes.more)) (map (held_under other) (of_session id (map asked_by ds) other)) (get_or (set kept takes.place takes.rest) place [])
   fed_accounted other place there = elim (cases_Bool (eqb id.0 other.0)) [
     | inl own ↦
         let same : id ≡ other = same_id id other (eqb-true id.0 other.0 own) in
         let at : takes.place ≡ place = same_Some takes.place place (sym there_then ∙ ap (λ i. place_of i new) same ∙ there) in
-        subst (λ (asked : List Asked). IsAccounted (get_or kept place []) (sent_in other (map sent_event takes.more)) (map (held_under other) asked) (get_or (set kept takes.place takes.rest) place []))
+        subst (λ (asked : List Asked). IsAccounted (IsOver other new) (get_or kept place []) (sent_in other (map sent_event takes.more)) (map (held_under other) asked) (get_or (set kept takes.place takes.rest) place []))
         (sym (cond-true (eqb id.0 other.0) (map asked_by ds) [] own))
-        (subst (λ (i : SessionId). IsAccounted (get_or kept place []) (sent_in i (map sent_event takes.more)) (map (held_under i) (map asked_by ds)) (get_or (set kept takes.place takes.rest) place [])) same
-        (subst (λ (p : ℕ). IsAccounted (get_or kept p []) (sent_in id (map sent_event takes.more)) (map (held_under id) (map asked_by ds)) (get_or (set kept takes.place takes.rest) p [])) at own_accounted))
+        (subst (λ (i : SessionId). IsAccounted (IsOver i new) (get_or kept place []) (sent_in i (map sent_event takes.more)) (map (held_under i) (map asked_by ds)) (get_or (set kept takes.place takes.rest) place [])) same
+        (subst (λ (p : ℕ). IsAccounted (IsOver id new) (get_or kept p []) (sent_in id (map sent_event takes.more)) (map (held_under id) (map asked_by ds)) (get_or (set kept takes.place takes.rest) p [])) at own_accounted))
     | inr apart ↦
-        subst (λ (asked : List Asked). IsAccounted (get_or kept place []) (sent_in other (map sent_event takes.more)) (map (held_under other) asked) (get_or (set kept takes.place takes.rest) place []))
+        subst (λ (asked : List Asked). IsAccounted (IsOver other new) (get_or kept place []) (sent_in other (map sent_event takes.more)) (map (held_under other) asked) (get_or (set kept takes.place takes.rest) place []))
         (sym (cond-false (eqb id.0 other.0) (map asked_by ds) [] apart))
-        (subst (λ (sent : List Held). IsAccounted (get_or kept place []) sent [] (get_or (set kept takes.place takes.rest) place [])) (sym (sent_by_other id other takes.more apart more_by))
-        (nothing_sent (get_or kept place []) (get_or (set kept takes.place takes.rest) place []) (get_or-set_other kept takes.place place takes.rest [] (other_place other place apart there))))
+        (subst (λ (sent : List Held). IsAccounted (IsOver other new) (get_or kept place []) sent [] (get_or (set kept takes.place takes.rest) place [])) (sym (sent_by_other id other takes.more apart more_by))
+        (nothing_sent (IsOver other new) (get_or kept place []) (get_or (set kept takes.place takes.rest) place []) (get_or-set_other kept takes.place place takes.rest [] (other_place other place apart there))))
   ]
+
+  -- no request is sent to another session, or asked by it
+  pub others_silent : (other : SessionId) → eqb id.0 other.0 ≡ false → (sent_in other (map sent_event takes.more) ≡ []) × (of_session id (map asked_by ds) other ≡ [])
+  others_silent other apart = (sent_by_other id other takes.more apart more_by, cond-false (eqb id.0 other.0) (map asked_by ds) [] apart)
+
+  pub not_there_apart : (other : SessionId) → place_of other new ≡ None → eqb id.0 other.0 ≡ false
+  not_there_apart other none = elim (cases_Bool (eqb id.0 other.0)) [
+    | inl own ↦
+        let same : id ≡ other = same_id id other (eqb-true id.0 other.0 own) in
+        let no : Some takes.place ≡ None = sym there_then ∙ ap (λ i. place_of i new) same ∙ none in
+        absurd (cc)
+    | inr apart ↦ apart
+  ]
+
+-- a session that takes a piece isn't over
+over_apart : (id other : SessionId) (cs : List Client) (place : ℕ) (client : Client) → place_of id cs ≡ Some place → slice_get cs place ≡ Some client
+    → is_over client.session.phase ≡ false → IsOver other cs → eqb id.0 other.0 ≡ false
+over_apart id other cs place client there here takes over = elim (cases_Bool (eqb id.0 other.0)) [
+  | inl own ↦
+      let same : other ≡ id = sym (same_id id other (eqb-true id.0 other.0 own)) in
+      let is : is_over client.session.phase ≡ true = is_the_client id cs place client (λ c. is_over c.session.phase ≡ true) there here (subst (λ i. IsOver i cs) same over) in
+      let no : true ≡ false = sym is ∙ takes in
+      absurd (cc)
+  | inr apart ↦ apart
+]
 
 -- ---- what happens
 
@@ -226,21 +239,22 @@ module _ {S : Type 0} (about : S → About) (keeps : S → List ℕ → Type 0) 
     shows = shows;
     goes = goes_nowhere v;
     go_on = go_on_still w.sessions.clients;
-    sent = λ id place there. nothing_sent (get_or v.kept place []) (get_or v.kept place []) refl;
+    sent = none_asked w.sessions.clients w.sessions.clients v v (λ id is. is) (λ id place there. nothing_sent (IsOver id w.sessions.clients) (get_or v.kept place []) (get_or v.kept place []) refl);
     remain = record { places = λ id place there. there; came = λ id place there. inl there; many = le_refl (length w.sessions.clients); export = refl };
   }
 
-  pub begins_one_volume : (old : Seen S) (sessions : Sessions) → Remain old.sessions sessions → BeginsToKeep old.sessions.clients sessions.clients
+  pub begins_one_volume : (old : Seen S) (sessions : Sessions) → Remain old.sessions sessions → StayOver old.sessions.clients sessions.clients → BeginsToKeep old.sessions.clients sessions.clients
       → GoOn old.sessions.clients sessions.clients no_one no_one no_one []
       → IsOfOneVolume about keeps may_leave_now no_one no_one old (record old { sessions = sessions })
-  begins_one_volume old sessions stay begins lawful v s shows stands = record {
+  begins_one_volume old sessions stay over begins lawful v s shows stands = record {
     w = record v { kept = insert v.kept (length old.sessions.clients) [] };
     events = [];
     asked = no_one;
     shows = shown_keeping old sessions v (insert v.kept (length old.sessions.clients) []) shows (begins v.kept shows.kept);
     goes = goes_by SessionBegins v (record v { kept = insert v.kept (length old.sessions.clients) [] }) [] (length old.sessions.clients, refl, refl);
     go_on = lawful;
-    sent = λ id place there. nothing_sent (get_or v.kept place []) (get_or (insert v.kept (length old.sessions.clients) []) place []) (kept_then place);
+    sent = none_asked old.sessions.clients sessions.clients v (record v { kept = insert v.kept (length old.sessions.clients) [] }) over
+        (λ id place there. nothing_sent (IsOver id sessions.clients) (get_or v.kept place []) (get_or (insert v.kept (length old.sessions.clients) []) place []) (kept_then place));
     remain = stay;
   }
     where
@@ -256,36 +270,33 @@ module _ {S : Type 0} (about : S → About) (keeps : S → List ℕ → Type 0) 
           ∙ ap (λ (l : List (List Held)). get_or l place []) (insert_end v.kept [])
           ∙ none_behind v.kept place
 
-  pub ends_one_volume : (old : Seen S) (sessions : Sessions) → Remain old.sessions sessions → Forgets old.sessions.clients sessions.clients
+  pub ends_one_volume : (old : Seen S) (sessions : Sessions) (id : SessionId) → Remain old.sessions sessions → StayOver old.sessions.clients sessions.clients → Forgets id old.sessions.clients sessions.clients
       → GoOn old.sessions.clients sessions.clients no_one no_one no_one []
       → IsOfOneVolume about keeps may_leave_now no_one no_one old (record old { sessions = sessions })
-  ends_one_volume old sessions stay forgets lawful v s shows stands =
-      let (at, are) = forgets v.kept shows.kept in
+  ends_one_volume old sessions id stay over forgets lawful v s shows stands =
+      let gives = forgets v.kept shows.kept in
       record {
-        w = record v { kept = set v.kept at [] };
+        w = record v { kept = set v.kept gives.place [] };
         events = [];
         asked = no_one;
-        shows = shown_keeping old sessions v (set v.kept at []) shows are;
-        goes = goes_by SessionEnds v (record v { kept = set v.kept at [] }) [] (at, refl, refl);
+        shows = shown_keeping old sessions v (set v.kept gives.place []) shows gives.keeps;
+        goes = goes_by SessionEnds v (record v { kept = set v.kept gives.place [] }) [] (gives.place, refl, refl);
         go_on = lawful;
-        sent = λ id place there. elim (set_none v.kept at place) [
-          | inl same ↦ nothing_sent (get_or v.kept place []) (get_or (set v.kept at []) place []) same
-          | inr none ↦ inr (refl, refl, none)
-        ];
+        sent = none_asked old.sessions.clients sessions.clients v (record v { kept = set v.kept gives.place [] }) over (given_up id sessions.clients v.kept gives.place gives.there gives.over);
         remain = stay;
       }
 
-  pub hands_one_volume : (old : Seen S) (sessions : Sessions) (handed : SessionId → List ℕ) → Remain old.sessions sessions → KeepsAll old.sessions.clients sessions.clients
+  pub hands_one_volume : (old : Seen S) (sessions : Sessions) (handed : SessionId → List ℕ) → Remain old.sessions sessions → StayOver old.sessions.clients sessions.clients → KeepsAll old.sessions.clients sessions.clients
       → GoOn old.sessions.clients sessions.clients no_one handed no_one []
       → IsOfOneVolume about keeps may_leave_now no_one handed old (record old { sessions = sessions })
-  hands_one_volume old sessions handed stay still lawful v s shows stands = record {
+  hands_one_volume old sessions handed stay over still lawful v s shows stands = record {
     w = v;
     events = [];
     asked = no_one;
     shows = shown_keeping old sessions v v.kept shows (still v.kept shows.kept);
     goes = goes_nowhere v;
     go_on = lawful;
-    sent = λ id place there. nothing_sent (get_or v.kept place []) (get_or v.kept place []) refl;
+    sent = none_asked old.sessions.clients sessions.clients v v over (λ id place there. nothing_sent (IsOver id sessions.clients) (get_or v.kept place []) (get_or v.kept place []) refl);
     remain = stay;
   }
 
@@ -299,7 +310,16 @@ module _ {S : Type 0} (about : S → About) (keeps : S → List ℕ → Type 0) 
     shows = record { chain = record { told = shown.told; members = shown.members }; demands = wait_then; kept = takes.keeps };
     goes = fed_goes (bytes_of old.chain) v at waits.member takes.place takes.held takes.more (map held_of fed.demands) takes.rest waits.here takes.here takes.whole;
     go_on = go_on_sent old.sessions.clients sessions.clients (of_session id piece) no_one (of_session id (map asked_by fed.demands)) takes.more fed.lawful;
-    sent = fed_accounted id old.sessions.board old.sessions.export.size fed.demands old.sessions.clients sessions.clients v.kept fed.own takes fed.places.ids;
+    sent = record {
+      accounted = fed_accounted id old.sessions.board old.sessions.export.size fed.demands old.sessions.clients sessions.clients v.kept fed.own takes fed.places.ids;
+      over =
+          λ other is.
+          let silent = others_silent id old.sessions.board old.sessions.export.size fed.demands old.sessions.clients sessions.clients v.kept fed.own takes fed.places.ids other
+          (over_apart id other old.sessions.clients fed.did.place fed.did.before fed.did.there fed.did.here fed.did.did.takes_input is) in
+          (fed.over other is, silent.0, silent.1);
+      nobody = λ other none. others_silent id old.sessions.board old.sessions.export.size fed.demands old.sessions.clients sessions.clients v.kept fed.own takes fed.places.ids other
+          (not_there_apart id old.sessions.board old.sessions.export.size fed.demands old.sessions.clients sessions.clients v.kept fed.own takes fed.places.ids other none);
+    };
     remain = remain_at old.sessions sessions fed.places;
   }
     where
@@ -334,16 +354,17 @@ module _ {S : Type 0} (about : S → About) (keeps : S → List ℕ → Type 0) 
 
   pub connected_one_volume : {E : Type 0} (w : Seen S) (id : SessionId) (at : ℕ) (sessions : Sessions) (r : Result Bool E)
       → IfOk r (λ begun. begun ≡ true → Begins id at w.sessions sessions)
+      → StayOver w.sessions.clients sessions.clients
       → IfOk r (λ begun. begun ≡ true → BeginsToKeep w.sessions.clients sessions.clients)
       → IfOk r (λ begun. begun ≡ true → GoOn w.sessions.clients sessions.clients no_one no_one no_one []) → IfOk r (λ begun. begun ≡ false → IsSome (place_of id w.sessions.clients) × (sessions ≡ w.sessions)) → OnErr r (sessions ≡ w.sessions)
       → IsOfOneVolume about keeps may_leave_now no_one no_one w (record w { sessions = sessions })
-  connected_one_volume w id at sessions (Ok true) come begins lawful known err = begins_one_volume w sessions (come_behind w.sessions sessions id at (come refl)) (begins refl) (lawful refl)
-  connected_one_volume w id at sessions (Ok false) come begins lawful known err = unchanged w sessions (known refl).1
-  connected_one_volume w id at sessions (Err e) come begins lawful known err = unchanged w sessions err
+  connected_one_volume w id at sessions (Ok true) come over begins lawful known err = begins_one_volume w sessions (come_behind w.sessions sessions id at (come refl)) over (begins refl) (lawful refl)
+  connected_one_volume w id at sessions (Ok false) come over begins lawful known err = unchanged w sessions (known refl).1
+  connected_one_volume w id at sessions (Err e) come over begins lawful known err = unchanged w sessions err
 
-  pub ended_one_volume : {Idle : Type 0} (w : Seen S) (sessions : Sessions) (ended : Bool)
-      → AreAtPlaces w.sessions sessions
-      → (ended ≡ true → Forgets w.sessions.clients sessions.clients)
+  pub ended_one_volume : {Idle : Type 0} (w : Seen S) (sessions : Sessions) (id : SessionId) (ended : Bool)
+      → AreAtPlaces w.sessions sessions → StayOver w.sessions.clients sessions.clients
+      → (ended ≡ true → Forgets id w.sessions.clients sessions.clients)
       → GoOn w.sessions.clients sessions.clients no_one no_one no_one [] → (ended ≡ false → Idle × (sessions ≡ w.sessions)) → IsOfOneVolume about keeps may_leave_now no_one no_one w (record w { sessions = sessions })
-  ended_one_volume w sessions true places forgets lawful idle = ends_one_volume w sessions (remain_at w.sessions sessions places) (forgets refl) lawful
-  ended_one_volume w sessions false places forgets lawful idle = unchanged w sessions (idle refl).1
+  ended_one_volume w sessions id true places over forgets lawful idle = ends_one_volume w sessions id (remain_at w.sessions sessions places) over (forgets refl) lawful
+  ended_one_volume w sessions id false places over forgets lawful idle = unchanged w sessions (idle refl).1

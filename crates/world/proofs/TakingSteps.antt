@@ -129,23 +129,23 @@ module _ {S : Type 0} (about : S → About) (keeps : S → List ℕ → Type 0) 
   some_at : (ms : List Member) → WaitsAt ms at (map held_of (demand ∷ rest)) → IfSome (slice_get ms at) (λ m. m.demands ≡ held_of demand ∷ map held_of rest)
   some_at ms found = subst (λ o. IfSome o (λ m. m.demands ≡ held_of demand ∷ map held_of rest)) (sym found.here) found.waits
 
-  pub taken_so : (room : Bool) (replies : List GivenReply) (outputs : List Output) (events : List ClientEvent) → TakesOfOneVolume about keeps may_leave_now at (held_of demand) old.chain new.chain replies
-      → AreTold room replies old.sessions new.sessions outputs events → IsOfOneVolume about keeps may_leave_now no_one (handed_by outputs) old new
-  taken_so room replies outputs events takes told v s shows stands =
+  pub taken_so : (room lost : Bool) (replies : List GivenReply) (outputs : List Output) (events : List ClientEvent) → TakesOfOneVolume about keeps may_leave_now at (held_of demand) old.chain new.chain replies
+      → AreTold room lost replies old.sessions new.sessions outputs events → IsOfOneVolume about keeps may_leave_now no_one (handed_by outputs) old new
+  taken_so room lost replies outputs events takes told v s shows stands =
       let waits = waits_at v.members old.queues at (demand ∷ rest) shows.demands here in
-      let did = takes v s events (map held_of rest) shows.chain stands (some_at v.members waits) (told_put_out room replies old.sessions new.sessions outputs events told) in
-      tells_so about keeps may_leave_now old new room replies outputs events v did.0 told did.1
+      let did = takes v s events (map held_of rest) shows.chain stands (some_at v.members waits) (told_put_out room lost replies old.sessions new.sessions outputs events told) in
+      tells_so about keeps may_leave_now old new room lost replies outputs events v did.0 told did.1
       (did.2.demands ∙ ap (λ l. slice_set l at (map held_of rest)) shows.demands ∙ queues_then) did.2.kept shows.kept (goes_taking v did.0 events did.2)
 
-  pub refused_so : (room : Bool) (others : List GivenReply) (refusal : Refusal) (outputs : List Output) (events : List ClientEvent) → chain.IsOfOneVolume about keeps may_leave_now old.chain new.chain others
-      → AreTold room (others ++ refusing (owed_by demand) refusal ∷ []) old.sessions new.sessions outputs events → IsOfOneVolume about keeps may_leave_now no_one (handed_by outputs) old new
-  refused_so room others refusal outputs events lead told v s shows stands =
-      let out = put_out_split others (refusing (owed_by demand) refusal ∷ []) events (told_put_out room (others ++ refusing (owed_by demand) refusal ∷ []) old.sessions new.sessions outputs events told) in
+  pub refused_so : (room lost : Bool) (others : List GivenReply) (refusal : Refusal) (outputs : List Output) (events : List ClientEvent) → chain.IsOfOneVolume about keeps may_leave_now old.chain new.chain others
+      → AreTold room lost (others ++ refusing (owed_by demand) refusal ∷ []) old.sessions new.sessions outputs events → IsOfOneVolume about keeps may_leave_now no_one (handed_by outputs) old new
+  refused_so room lost others refusal outputs events lead told v s shows stands =
+      let out = put_out_split others (refusing (owed_by demand) refusal ∷ []) events (told_put_out room lost (others ++ refusing (owed_by demand) refusal ∷ []) old.sessions new.sessions outputs events told) in
       let did = lead v s out.0 shows.chain stands out.2 in
       let stays = goes_keeps v did.0 out.0 did.2 in
       let waits = waits_at did.0.members old.queues at (demand ∷ rest) (stays.1 ∙ shows.demands) here in
       let then = with_demands did.0 at waits.member (map held_of rest) in
-      tells_so about keeps may_leave_now old new room (others ++ refusing (owed_by demand) refusal ∷ []) outputs events v then told
+      tells_so about keeps may_leave_now old new room lost (others ++ refusing (owed_by demand) refusal ∷ []) outputs events v then told
       (shows_demands about keeps may_leave_now new.chain did.0 at waits.member (map held_of rest) waits.here did.1)
       (demands_then did.0 at waits.member (map held_of rest) ∙ ap (λ l. slice_set l at (map held_of rest)) (stays.1 ∙ shows.demands) ∙ queues_then)
       stays.0 shows.kept

@@ -3,7 +3,7 @@ use Rattle.std.specs.Prelude.{◌≡◌, ℕ, Option, Some, None, Result, Ok, Er
 use Rattle.flush_barrier.specs.declared.session_id.SessionId.{SessionId}
 use Rattle.nbd_session.specs.Demand.{asked_by}
 use Rattle.nbd_session.specs.declared.demand.Demand.{Demand}
-use Rattle.clients.specs.Calls.{AreAtPlaces, Changes, IsDemandOf, TakesPiece, TakesUp, bytes_out}
+use Rattle.clients.specs.Calls.{AreAtPlaces, Changes, IsDemandOf, StayOver, TakesPiece, TakesUp, bytes_out}
 use Rattle.clients.specs.Clients.{GoOn, Sessions, no_one, of_session}
 use Rattle.clients.specs.declared.output.Output.{Output}
 use Rattle.world.specs.World.{Seen}
@@ -29,6 +29,7 @@ pub record IsFed (id : SessionId) (piece : List ℕ) (old new : Sessions) (queue
   pub did : Changes id old new (TakesPiece piece at demands)
   pub own : All (IsDemandOf id old.board old.export.size) demands
   pub takes_up : TakesUp id demands old.clients new.clients
+  pub over : StayOver old.clients new.clients
   pub places : AreAtPlaces old new
   pub lawful : GoOn old.clients new.clients (of_session id piece) no_one (of_session id (map asked_by demands)) []
   pub behind : later ≡ queue ++ demands

@@ -16,10 +16,9 @@ use Rattle.chain_steps.specs.declared.waiting.WriteToken.{WriteToken}
 use Rattle.chain_steps.specs.declared.waiting.WriteToken.TheVariants as tokens
 use Rattle.chain_core.specs.declared.refusal.Refusal.{Refusal}
 use Rattle.chain_core.specs.declared.refusal.Refusal.TheVariants.{Memory, Full, NotMember, Early, Busy, Stopped}
-use Rattle.world_model.specs.Event.{ClientEvent}
 use Rattle.chain.specs.Asking.{HasFlushed, HasRead, HasSubmitted, IsTurnedAway, IsUnreadAt, ReadsSo}
 use Rattle.chain.specs.Chain.{Chained, Changes}
-use Rattle.world.specs.Telling.{AreTold, has_room, outputs_of}
+use Rattle.world.specs.Telling.{Tells}
 use Rattle.world.specs.World.{Seen}
 use Rattle.world.specs.declared.told.Told.{Told}
 
@@ -80,9 +79,8 @@ pub record Takes {S : Type 0} (premise : Type 0) (about : S → About) (failures
   pub demand : Demand
   pub rest : List Demand
   pub replies : List GivenReply
-  pub events : List ClientEvent
   pub here : slice_get old.queues at ≡ Some (demand ∷ rest)
   pub did : HasTaken premise about keeps moment left_since at demand replies old.chain new.chain
       ⊎ ((others : List GivenReply) × (refusal : Refusal) × HasRefused premise about failures keeps moment left_since at demand others refusal old.chain new.chain × (replies ≡ others ++ refusing (owed_by demand) refusal ∷ []))
-  pub comes : AreTold (has_room told) replies old.sessions new.sessions (outputs_of told) events
+  pub tells : Tells told replies old.sessions new.sessions
   pub are : new ≡ record { chain = new.chain; sessions = new.sessions; queues = slice_set old.queues at rest }

@@ -4,6 +4,7 @@ ghost use Rattle.chain.specs.Asking.{IsUnnumbered, TakesOfOneVolume, asked_by};
 ghost use Rattle.chain_steps.specs.Waiting.{board_of};
 ghost use Rattle.volume.specs.Writes.{Fits};
 ghost use Rattle.chain.specs.Chain.{IsOfOneVolume, bytes_of};
+ghost use Rattle.chain.specs.Commits.{LeavesAt};
 ghost use Rattle.clients.specs.Clients.{held_of};
 ghost use Rattle.nbd_session.specs.Demand.{owed_by};
 ghost use Rattle.chain_core.specs.declared.refusal.Refusal.{Refusal as Why};
@@ -55,6 +56,7 @@ fn ask_write<S: StoreLike + Drop>(
     ensures taken { IfNone result.refused (HasTakenWrite at token write result.replies.items chain.old chain.new) }
     ensures refused { IfSome result.refused (λ reply. (refusal : Why) × (HasRefusedWrite at result.replies.items refusal chain.old chain.new × (reply ≡ refusing (owed_of token) refusal))) }
     ensures takes { S.keeps_model → IfNone result.refused (TakesOfOneVolume S.about S.keeps S.may_leave_now at (asked_by token write) chain.old chain.new result.replies.items) }
+    ensures any_moment { S.keeps_model → LeavesAt S.about S.keeps S.may_leave_now S.moment S.may_have_left_since at chain.old chain.new }
     ensures one_volume { S.keeps_model → IfSome result.refused (λ reply. IsOfOneVolume S.about S.keeps S.may_leave_now chain.old chain.new result.replies.items) }
 {
     match chain.submit(at, token, write) {
@@ -88,6 +90,7 @@ pub(crate) fn ask<S: StoreLike + Drop>(
     ensures refused { IfSome result.refused (λ reply. (refusal : Why) × (HasRefused S.keeps_model S.about S.failures S.keeps S.moment S.may_have_left_since at demand result.replies.items refusal chain.old chain.new
         × (reply ≡ refusing (owed_by demand) refusal))) }
     ensures takes { S.keeps_model → IfNone result.refused (TakesOfOneVolume S.about S.keeps S.may_leave_now at (held_of demand) chain.old chain.new result.replies.items) }
+    ensures any_moment { S.keeps_model → LeavesAt S.about S.keeps S.may_leave_now S.moment S.may_have_left_since at chain.old chain.new }
     ensures one_volume { S.keeps_model → IfSome result.refused (λ reply. IsOfOneVolume S.about S.keeps S.may_leave_now chain.old chain.new result.replies.items) }
 {
     match demand {

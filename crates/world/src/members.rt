@@ -138,6 +138,9 @@ impl<S: StoreLike + Drop> World<S> {
             ⊎ IsStepTo new.state out (stop Cause.Memory old.state)))
             ⊎ HasBrokenOff S.about S.failures old new out) replies))) }
         ensures stopped { IfNone result (Moves self.old self.new (RestsAt at)) }
+
+        // A stop at any moment of the call leaves what the member was shown with.
+        ensures any_moment { S.keeps_model → LeavesAt S.about S.keeps S.may_leave_now S.moment S.may_have_left_since at self.old.chain self.new.chain }
         ensures one_volume { S.keeps_model → IsOfOneVolume S.about S.keeps S.may_leave_now no_one (handed_some result) self.old self.new }
     {
         let replies = self.chain.answer_front(at)?;

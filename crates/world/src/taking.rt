@@ -1,5 +1,6 @@
 //! A member takes the demands of its sessions.
 ghost use Rattle.std.specs.Prelude.{◌≡◌, ◌<◌, [], length, IfNone, IfSome, Some, slice_get};
+ghost use Rattle.chain.specs.Commits.{LeavesAt};
 ghost use Rattle.clients.specs.Clients.{no_one};
 ghost use Rattle.world.specs.Taking.{Takes, asks_floor};
 ghost use Rattle.world.specs.Telling.{handed_some};
@@ -27,6 +28,9 @@ impl<S: StoreLike + Drop> World<S> {
         requires { at < length self.old.chain.members }
         ensures taken { IfSome result (λ told. Takes S.keeps_model S.about S.failures S.keeps S.moment S.may_have_left_since at told self.old self.new) }
         ensures none { IfNone result ((slice_get self.old.queues at ≡ Some []) × (self.new ≡ self.old)) }
+
+        // A stop at any moment of the call leaves what the member was shown with.
+        ensures any_moment { S.keeps_model → IfSome result (λ told. LeavesAt S.about S.keeps S.may_leave_now S.moment S.may_have_left_since at self.old.chain self.new.chain) }
         ensures one_volume { S.keeps_model → IsOfOneVolume S.about S.keeps S.may_leave_now no_one (handed_some result) self.old self.new }
     {
         let demand = self.queues[at].take()?;

@@ -1,7 +1,7 @@
 use Rattle.std.proofs.Common.{subst}
 use Rattle.std.specs.List.{AllZip}
 use Rattle.life.specs.Begun.{IsCutFrom}
-use Rattle.life.proofs.Among.{ok_then, zip_mapped}
+use Rattle.life.proofs.Beside.{ok_then, zip_mapped}
 use Rattle.life.proofs.Starting.{leaves_now}
 use Rattle.life.proofs.cutting.cut.Goals as goal
 

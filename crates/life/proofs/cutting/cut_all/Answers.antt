@@ -2,7 +2,7 @@ use Rattle.std.proofs.Common.{◌++◌, [], ◌∷◌, length, ap, subst, sym, �
 use Rattle.std.specs.List.{AllZip}
 use Rattle.std.proofs.lemmas.List.{length-append}
 use Rattle.life.specs.Begun.{IsCutFrom}
-use Rattle.life.proofs.Among.{all_more, all_yielded, one_behind}
+use Rattle.life.proofs.Beside.{all_more, all_yielded, one_behind}
 use Rattle.life.proofs.Starting.{leaves_now}
 use Rattle.life.proofs.cutting.cut_all.Goals as goal
 

@@ -7,7 +7,7 @@ use Rattle.life.specs.Headline.{Trace, told_in}
 use Rattle.life.specs.Lived.{Lives}
 use Rattle.life.specs.declared.era.Answers.{Answers}
 use Rattle.life.specs.declared.era.Era.{Era}
-use Rattle.life.proofs.Among.{all_more}
+use Rattle.life.proofs.Beside.{all_more}
 use Rattle.life.proofs.Lives.{begins_life, lives_on, one_life, told_more}
 use Rattle.life.proofs.Leading.{plays_on}
 use Rattle.life.specs.Refusal.{BreaksOff}

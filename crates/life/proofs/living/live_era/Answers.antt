@@ -8,7 +8,7 @@ use Rattle.life.specs.Begun.{IsCutFrom, IsOfMember, export_of}
 use Rattle.life.specs.Lived.{Continues}
 use Rattle.life.specs.Refusal.{EndsAtReturn}
 use Rattle.life.specs.declared.era.Deed.{Deed}
-use Rattle.life.proofs.Among.{zip_there}
+use Rattle.life.proofs.Beside.{zip_there}
 use Rattle.life.proofs.Lives.{era_continues}
 use Rattle.life.proofs.Owners.{deeds_stay}
 use Rattle.life.proofs.Returning.{cut_of_member, disks_stay, ends_as, if_some, many_stay, passed_on}

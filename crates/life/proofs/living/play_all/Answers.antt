@@ -2,7 +2,7 @@ use Rattle.std.proofs.Common.{◌≡◌, ◌+◌, ◌++◌, [], ◌∷◌, List,
 use Rattle.std.specs.Prelude.{zip}
 use Rattle.std.proofs.lemmas.List.{length-append, length-take-le, take_all, take_more}
 use Rattle.life.specs.Headline.{Trace, fed_in, handed_in}
-use Rattle.life.specs.Passing.{PassAsOne}
+use Rattle.world.specs.World.{IsOfOneVolume}
 use Rattle.life.specs.declared.answer.Answer.{Answer}
 use Rattle.life.specs.declared.era.Deed.{Deed}
 use Rattle.life.proofs.Lives.{pass_more, zip_more}
@@ -14,7 +14,7 @@ use Rattle.life.proofs.living.play_all.Goals as goal
 pub loop-deed-init : goal.loop-deed-init
 loop-deed-init c = record {
   plays = subst (λ (l : List Answer). LeadOnDisks [] l c.args.world.now c.args.world.now) (sym c.in_ok-answers.ensures.items) refl;
-  pass = subst (λ (l : List Answer). PassAsOne about_of_store keeps_volume leaves_now (fed_in (zip [] l)) (handed_in (zip [] l)) c.args.world.now c.args.world.now) (sym c.in_ok-answers.ensures.items)
+  pass = subst (λ (l : List Answer). IsOfOneVolume about_of_store keeps_volume leaves_now (fed_in (zip [] l)) (handed_in (zip [] l)) c.args.world.now c.args.world.now) (sym c.in_ok-answers.ensures.items)
       (none_pass about_of_store keeps_volume leaves_now c.args.world.now);
   many = ap length c.in_ok-answers.ensures.items;
   count = c.in_ok-answers.ensures.len;
@@ -41,7 +41,7 @@ loop-deed-preserved c =
       plays = subst (λ (l : List Deed). LeadOnDisks l c.push_reserved.new.self.items c.args.world.now c.play_deed.new.world) (sym here)
           (subst (λ (l : List Answer). LeadOnDisks (take i deeds ++ deed ∷ []) l c.args.world.now c.play_deed.new.world) (sym items)
           (leads_more (Unit {0}) about_of_store keeps_volume pends_in leaves_now moment_in left_in failures_in disk_in (take i deeds) answers c.args.world.now c.loop-deed.world c.play_deed.new.world deed answer inv.plays c.play_deed.ensures.does));
-      pass = subst (λ (l : Trace). PassAsOne about_of_store keeps_volume leaves_now (fed_in l) (handed_in l) c.args.world.now c.play_deed.new.world) (sym told)
+      pass = subst (λ (l : Trace). IsOfOneVolume about_of_store keeps_volume leaves_now (fed_in l) (handed_in l) c.args.world.now c.play_deed.new.world) (sym told)
           (pass_more about_of_store keeps_volume leaves_now c.lives_are_of_one_volume.ensures.happenings c.args.world.now c.loop-deed.world c.play_deed.new.world c.sound.ensures.joined c.sound-in-loop-deed.ensures.joined
           (zip (take i deeds) answers) deed answer inv.pass c.play_deed.ensures.one_volume);
       many = let sum = length-append answers (answer ∷ []) in omega (arith, inv.many, ap length items, sum);
@@ -57,5 +57,5 @@ returns-clause-plays c = subst (λ (l : List Deed). LeadOnDisks l c.loop-deed.an
     (take_all c.loop-deed.deed-index c.args.deeds.now c.loop-deed-test.false) c.loop-deed.invariant.plays
 
 pub returns-clause-pass : goal.returns-clause-pass
-returns-clause-pass c = subst (λ (l : List Deed). PassAsOne about_of_store keeps_volume leaves_now (fed_in (zip l c.loop-deed.answers.items)) (handed_in (zip l c.loop-deed.answers.items)) c.args.world.now c.loop-deed.world)
+returns-clause-pass c = subst (λ (l : List Deed). IsOfOneVolume about_of_store keeps_volume leaves_now (fed_in (zip l c.loop-deed.answers.items)) (handed_in (zip l c.loop-deed.answers.items)) c.args.world.now c.loop-deed.world)
     (take_all c.loop-deed.deed-index c.args.deeds.now c.loop-deed-test.false) c.loop-deed.invariant.pass

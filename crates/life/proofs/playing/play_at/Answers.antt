@@ -5,7 +5,7 @@ use Rattle.life.proofs.playing.play_at.Goals as goal
 
 pub returns-in-Take : goal.returns-in-Take
 returns-in-Take g c = record {
-  does = rw c.in-Take.is (c.take.result, c.told.ensures, record { taken = c.take.ensures.taken; none = c.take.ensures.none });
+  does = rw c.in-Take.is (c.take.result, c.told.ensures, record { taken = c.take.ensures.taken; none = c.take.ensures.none; any_moment = c.take.ensures.any_moment });
   one_volume = λ premise. told_so g.S.StoreLike.about g.S.StoreLike.keeps g.S.StoreLike.may_leave_now _ _ no_one _ c.take.result c.told.ensures (c.take.ensures.one_volume premise);
 }
 
@@ -35,7 +35,7 @@ returns-in-Look g c = record {
 
 pub returns-in-AnswerFront : goal.returns-in-AnswerFront
 returns-in-AnswerFront g c = record {
-  does = rw c.in-AnswerFront.is (c.answer_front.result, c.told-in-AnswerFront.ensures, record { did = c.answer_front.ensures.answered; idle = c.answer_front.ensures.stopped });
+  does = rw c.in-AnswerFront.is (c.answer_front.result, c.told-in-AnswerFront.ensures, record { answered = record { did = c.answer_front.ensures.answered; idle = c.answer_front.ensures.stopped }; any_moment = c.answer_front.ensures.any_moment });
   one_volume = λ premise. told_so g.S.StoreLike.about g.S.StoreLike.keeps g.S.StoreLike.may_leave_now _ _ no_one _ c.answer_front.result c.told-in-AnswerFront.ensures (c.answer_front.ensures.one_volume premise);
 }
 

@@ -6,11 +6,14 @@ returns c = (
   c.reply.ensures.0,
   record {
     mid = c.reply.new.self;
+    came = c.reply.result;
     delivers = c.reply.ensures.1;
+    loss = c.is_lost-lost.ensures;
     hands = rw (← c.session-session.ensures) (record {
       out = c.put_out.ensures.out;
       own = own_output c.session-session.result c.put_out.result c.reply.new.self c.put_out.new.self c.put_out.ensures.out;
       places = c.put_out.ensures.places;
+      over = c.put_out.ensures.stay_over;
       keeps = c.put_out.ensures.keeps;
       go_on = c.put_out.ensures.lawful;
     });

@@ -1,7 +1,7 @@
 use Rattle.std.proofs.Common.{◌≡◌, Result, Ok, Err, Option, Some, map, sym, ◌∙◌, subst}
 use Rattle.std.specs.Prelude.{IfOk, IfSome}
 use Rattle.nbd_session.specs.Demand.{asked_by}
-use Rattle.clients.proofs.CallSteps.{changed_at_places, demands_of, found_at, read_at, takes_up}
+use Rattle.clients.proofs.CallSteps.{changed_at_places, changed_stay_over, demands_of, feed_stays, found_at, read_at, takes_up}
 use Rattle.clients.proofs.Histories.{go_on_fed}
 use Rattle.clients.proofs.Places.{place_is}
 use Rattle.clients.proofs.clients.Clients.feed.Goals.{in-Ok, in-Err}
@@ -28,6 +28,12 @@ pub returns-clause-places : goal.returns-clause-places
 returns-clause-places c = rw (← c.self.view_is)
     (let here = read_at _ _ c.in_ok-place.place _ c.self.view_is c.in_ok-place.ensures.within c.index_mut-client.ensures.value in
     changed_at_places _ c.in_ok-place.place _ _ here c.feed.ensures.same)
+
+pub returns-clause-stay_over : goal.returns-clause-stay_over
+returns-clause-stay_over c = rw (← c.self.view_is)
+    (let here = read_at _ _ c.in_ok-place.place _ c.self.view_is c.in_ok-place.ensures.within c.index_mut-client.ensures.value in
+    changed_stay_over _ c.in_ok-place.place _ _ here c.feed.ensures.same.id
+    (feed_stays c.feed.result (λ demands. demands.items) c.args.piece.now _ _ _ c.feed.ensures.fed c.feed.ensures.err))
 
 pub returns-clause-takes_up : goal.returns-clause-takes_up
 returns-clause-takes_up c = rw (← c.self.view_is)
