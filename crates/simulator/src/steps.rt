@@ -59,7 +59,11 @@ impl Sim {
                 }
                 Ok(outcome)
             }
-            Answer::Taken(Told::Lost(_) | Told::Withheld) => Err(Refusal::Memory),
+            Answer::Taken(Told::Lost(outputs)) => {
+                drop(outputs);
+                Err(Refusal::Memory)
+            }
+            Answer::Taken(Told::Withheld) => Err(Refusal::Memory),
             Answer::HandedOut(output) => {
                 self.add_output(&output, printed)?;
                 Ok(Outcome::Heard)
