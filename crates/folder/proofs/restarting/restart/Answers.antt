@@ -15,6 +15,7 @@ use Rattle.recovery.specs.Choice.{NoneRecorded}
 use Rattle.folder.specs.Chain.{alone_after, config_part}
 use Rattle.folder.specs.Found.{returned_as}
 use Rattle.folder.specs.declared.refusal.Refusal.{Refusal}
+use Rattle.folder.specs.declared.restarting.Refused.{Refused}
 use Rattle.folder.proofs.Recording.{at_end, recorded_over}
 use Rattle.folder.proofs.Sources.{at_right, none_is_returned, source_for}
 use Rattle.folder.proofs.restarting.restart.Goals as goal
@@ -24,7 +25,7 @@ returns-in-Err-choose_from-clause-strangers g c = λ keeps is.
     let about = λ (s : Store g.row.D.Denot g.D.Disk). about_of s.contents in
     let stored = λ (s : Store g.row.D.Denot g.D.Disk) (volume : List ℕ). IsStored s.contents volume (g.D.Disk.gives s.disk) (g.D.Disk.may_leave_now s.disk) in
     let found = c.in-Ok-find_all.found.items in
-    let none = subst (λ (r : Record). NoneRecorded r.members (map (returned_as about) found)) c.current.ensures (c.in-Err-choose_from.ensures.strangers (ap (λ (r : Refusal). Err r) is)) in (
+    let none = subst (λ (r : Record). NoneRecorded r.members (map (returned_as about) found)) c.current.ensures (c.in-Err-choose_from.ensures.strangers (ap (λ (r : Refusal). Err r) (sym (ap (λ (x : Refused g.row.D.Denot). x.refusal) c.alone-in-Err-choose_from.ensures) ∙ is))) in (
       c.in-Ok.configs.current,
       c.in-Ok.ensures.found keeps,
       none_is_returned about stored c.disks_mean_one.ensures c.in-Ok.configs.current.members (map g.D.Disk.gives c.args.disks.items) found (c.in-Ok-find_all.ensures.found keeps) none,
