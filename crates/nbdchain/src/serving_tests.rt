@@ -11,7 +11,7 @@ use std::string::String;
 use std::sync::Wait;
 use std::test::Fail;
 use std::thread::{self, Threads};
-use std::time::{Clock, Duration};
+use std::time::Duration;
 
 /// What a client sends, in hexadecimal digits, and what it gets for that.
 type Exchange = (&'static str, &'static str);
