@@ -8,7 +8,7 @@ ghost use Rattle.gate_journal.specs.Runs.{OnlyReads, WasTorn};
 
 use crate::batch::{
     BATCH_HEADER, Batch, CLOSED, IMAGE_RECORD, Image, MAX_BLOCKS, MAX_NUMBER, OPEN, are_images,
-    room_behind, encoded_behind_gate,
+    encoded_behind_gate, room_behind,
 };
 use crate::durable::write_durably;
 use crate::refusal::Refusal;

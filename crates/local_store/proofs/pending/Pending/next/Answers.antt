@@ -18,6 +18,6 @@ returns-clause-none c =
 
 pub returns-then-self-clause-none : goal.returns-then-self-clause-none
 returns-then-self-clause-none c = (
-    λ _. subst (λ (l : List (Option (List ℕ))). NonePending (IsPending l)) c.self.view_is (none_shown c.self.inside.images.items (c.self.invariant c.if-self.true)),
-    λ _. refl,
+  λ _. subst (λ (l : List (Option (List ℕ))). NonePending (IsPending l)) c.self.view_is (none_shown c.self.inside.images.items (c.self.invariant c.if-self.true)),
+  λ _. refl,
 )
