@@ -153,7 +153,6 @@ fn whole_blocks(rt: HostRuntime) -> Result<(), Fail> {
         let write = write_of(rt.alloc(), offset, 3, len)?;
         apply_next(&rt, &mut table, &write)?;
     }
-    assert!(rt; table.forgotten() == 2 && table.applied() == 4);
     for (block, front, whole) in [
         (1, 2, false),
         (1, 3, true),
@@ -161,6 +160,7 @@ fn whole_blocks(rt: HostRuntime) -> Result<(), Fail> {
         (0, 4, false),
         (2, 4, false),
     ] {
+        assert!(rt; table.forgotten() <= front && front <= table.applied());
         assert_eq!(rt;
             table.is_whole(block, front),
             whole,
