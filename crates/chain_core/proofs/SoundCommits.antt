@@ -22,7 +22,7 @@ use Rattle.local_store.specs.declared.refusal.Refusal.TheVariants as refusals
 use Rattle.chain_core.specs.Commits.{IsCause}
 use Rattle.chain_core.specs.Node.{IsSound, IsUnderWay, Keeping, size_of}
 
--- a commit that isn't out of turn is refused where memory runs out or by the disk alone
+-- a commit that isn't out of turn is refused by the disk, or where memory runs out, and else not
 pub commit_cause : (refusal : Refusal) → IsOfCommitting refusal → refusal ≢ refusals.Broken → refusal ≢ refusals.Backwards → refusal ≢ refusals.Full → IsCause refusal
 commit_cause refusals.Memory told runs rises fits = tt
 commit_cause refusals.Full told runs rises fits = absurd (fits refl)

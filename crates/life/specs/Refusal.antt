@@ -26,7 +26,7 @@ IsCausedBy before now Memory = Unit {0}
 IsCausedBy before now NotInChain = Unit {0}
 IsCausedBy before now (Store refusal) = IsCaused before now refusal
 
--- what the store of a member's disk may be refused with: where memory runs out, or by its device
+-- what the store of a member's disk may be refused with: its device's error, or memory that runs out
 abbrev pub IsOfReopening : store.Refusal → Type 0
 IsOfReopening stores.Memory = Unit {0}
 IsOfReopening (stores.Device error) = error ≢ faults.WriteFault

@@ -81,7 +81,7 @@ impl Crash {
 }
 
 /// A member's device stops in a call after some of its bytes, or fails in it: whether it came to that call. What the other
-/// members' disks have doesn't hang on the bytes, and nothing of it waits for a sync.
+/// members' disks have doesn't depend on the bytes, and nothing of it waits for a sync.
 fn breaks_in(rt: &impl Abort, alloc: Global, member: u32, call: u32) -> Result<bool, Fail> {
     for bytes in [0, 1, 2_048, 8_214] {
         for cut in ["all", "none"] {

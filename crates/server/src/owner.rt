@@ -339,7 +339,11 @@ fn first_told<R: Wait + Clock>(rt: &R, events: &Receiver<Event>, mode: Mode) -> 
 
 /// How the owner goes on, which was told something, or not, and did something, or not. After a pause the world takes a step for
 /// idle time, and goes on so until something is told.
-fn next_mode<S: Sessions>(mode: Mode, told: bool, goes_on: bool, world: &mut S) -> Mode {
+fn next_mode<S: Sessions>(mode: Mode, told: bool, goes_on: bool, world: &mut S) -> Mode
+    ensures busy { goes_on ≡ true → (result ≡ Mode.Busy) × (world.new ≡ world.old) }
+    ensures pauses { goes_on ≡ false → (told ≡ true) ⊎ (mode ≡ Mode.Busy) → (result ≡ Mode.Pauses) × (world.new ≡ world.old) }
+    ensures idle { goes_on ≡ false → told ≡ false → mode ≢ Mode.Busy → (result ≡ Mode.Rests) ⊎ (result ≡ Mode.Sleeps) }
+{
     if goes_on {
         return Mode::Busy;
     }

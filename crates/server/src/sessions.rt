@@ -34,7 +34,7 @@ impl fmt::Display for Stop {
 
 /// The sessions of all clients, and what answers them. A session has a number, which is used once.
 pub trait Sessions {
-    /// A client's session begins. False where it can't, where memory runs out.
+    /// A client's session begins. False where memory runs out.
     fn connect(&mut self, session: u64) -> bool;
 
     /// A piece of a client's input; an empty one goes on with what the session kept. False where it was not taken: the

@@ -1,4 +1,4 @@
--- A block that a write has whole doesn't hang on what it was before: lemmas that the crates above cite.
+-- A block that a write has whole doesn't depend on what it was before: lemmas that the crates above cite.
 use Rattle.std.proofs.Common.{◌≡◌, ℕ, ◌+◌, ◌-◌, ◌*◌, ◌<◌, ◌≤◌, true, false, List, [], ◌∷◌, length, get_or, take, drop, sym, ◌∙◌, ap, arith, inl, inr}
 use Rattle.std.specs.Prelude.{◌||◌, All, fold}
 use Rattle.std.specs.List.{list_any}

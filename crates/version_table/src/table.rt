@@ -168,8 +168,8 @@ impl Table {
         }
     }
 
-    /// Whether one of the writes up to the number `j` has the whole block: then the block after them doesn't hang on what it was
-    /// before. `j` lies between the forgotten front and `applied()`. Only the writes that touch the block are looked at.
+    /// Whether one of the writes up to the number `j` has the whole block: then the block after them doesn't depend on what it
+    /// was before. `j` lies between the forgotten front and `applied()`. Only the writes that touch the block are looked at.
     pub fn is_whole(&self, block: u32, j: u64) -> bool
         requires kept { self.now.forgotten ≤ j }
         requires applied { j ≤ applied_of self.now }
