@@ -11,30 +11,28 @@ use Rattle.std.proofs.lemmas.Option.{get_or_from_slice_get, same_Some, slice_get
 use Rattle.board.specs.Seats.{BoardId}
 use Rattle.flush_barrier.specs.Reply.{GivenReply}
 use Rattle.flush_barrier.specs.declared.session_id.SessionId.{SessionId}
-use Rattle.nbd_session.specs.Begun.{greeted, greeted_holds_none}
-use Rattle.nbd_session.specs.Demand.{Asked, IsAskedInside, asked_by, owed_by}
-use Rattle.nbd_session.specs.Laws.{HistoriesAreLawful, HoldsInOneWay, OutputIsLawful, OutputKeeps, RepliesAreLawful, RepliesKeep}
+use Rattle.nbd_session.specs.Demand.{IsAskedInside, asked_by}
+use Rattle.nbd_session.specs.Laws.{HistoriesAreLawful, OutputIsLawful, RepliesAreLawful}
 use Rattle.nbd_codec.specs.Reply.{encoding}
 use Rattle.nbd_session.proofs.Courses.{is_over-phase_after}
-use Rattle.nbd_session.specs.Progress.{is_over, phase_after, progress_in}
+use Rattle.nbd_session.specs.Progress.{is_over, phase_after}
 use Rattle.nbd_session.specs.Replies.{WireReply, answered, is_owed, reply_seen}
-use Rattle.nbd_session.specs.Session.{Holds, MakesFirst, State}
+use Rattle.nbd_session.specs.Session.{State}
 use Rattle.nbd_session.specs.declared.answer.Export.{Export}
 use Rattle.nbd_session.specs.declared.demand.Demand.{Demand}
 use Rattle.nbd_session.specs.declared.phase.Phase.{Phase}
 use Rattle.nbd_session.specs.declared.phase.Phase.TheVariants.{Greeted, Negotiating, Skipping, Transmitting, Leaving, Over}
 use Rattle.world_model.specs.Chain.{ArePutOut, reply_event}
 use Rattle.world_model.specs.Event.{ClientEvent}
-use Rattle.world_model.specs.Requests.{Held}
 use Rattle.world_model.specs.Standing.{get_set}
-use Rattle.clients.specs.Calls.{AreAtPlaces, BeginsToKeep, Delivers, EndsInput, GivesUp, HasNothing, IsDemandOf, IsHanded, IsSameClient, PutsOut, StayOver, TakesPiece, TakesReply, TakesUp, bytes_out, ended, has_waiting, is_closed}
-use Rattle.clients.specs.Clients.{AreKept, AreSessions, Client, GoOn, HasClient, IsOf, IsOver, Keeps, Sessions, held_of, held_under, no_one, of_session, place_of}
+use Rattle.clients.specs.Calls.{AreAtPlaces, Delivers, EndsInput, HasNothing, IsDemandOf, IsHanded, IsSameClient, PutsOut, StayOver, TakesPiece, TakesReply, bytes_out, has_waiting, is_closed}
+use Rattle.clients.specs.Clients.{AreSessions, Client, GoOn, HasClient, IsOf, IsOver, Sessions, no_one, of_session, place_of}
 use Rattle.clients.specs.declared.delivered.Delivered.{Delivered}
 use Rattle.clients.specs.declared.delivered.Delivered.TheVariants.{ToSession, Dropped, OutOfMemory}
 use Rattle.clients.specs.declared.output.Output.{Output}
 use Rattle.clients.proofs.Histories.{go_on_answered, go_on_ended, go_on_handed, go_on_none, go_on_still}
 use Rattle.clients.proofs.Places.{IsApart, apart_by_ids, ids_stay, none_there, place_before, place_by_ids, place_is}
-use Rattle.clients.proofs.Zips.{get_before, get_past, zip_get, zip_push, zip_set, zip_swap}
+use Rattle.clients.proofs.Zips.{get_before, get_past}
 
 -- ---- the sessions stay sessions, at their places
 
@@ -159,104 +157,9 @@ begun_stay_over cs client id has = record {
 pub still_over : (old new : List Client) → new ≡ old → StayOver old new
 still_over old new same id has = subst (IsOver id) (sym same) has
 
--- there is none
-pub over_at : (id : SessionId) (cs : List Client) (place : ℕ) (client : Client) → place_of id cs ≡ Some place → slice_get cs place ≡ Some client
-    → TakesNone client → IsOver id cs
-over_at id cs place client there here is = record { place = place; client = client; there = there; here = here; is = is }
-
 -- whoever takes input isn't over
 pub not_over : {A : Type 0} (client : Client) → is_over client.session.phase ≡ false → TakesNone client → A
 not_over client takes over = let wrong : true ≡ false = sym over ∙ takes in absurd cc
-
--- ---- what they keep
-
-pub keeps_ended : (client : Client) → Keeps (ended client) []
-unfolding progress_in
-keeps_ended client = ([], ((ended client).session, record { steps = 0; there = refl; done = inr refl }), refl)
-
-pub keeps_answered : RepliesKeep → (client : Client) (reply : WireReply) (held : List Held) → Keeps client held
-    → Keeps (record client { session = answered client.session reply }) held
-keeps_answered replies client reply held keeps = (keeps.0, replies client.session reply keeps.0 keeps.1, keeps.2)
-
-pub keeps_handed : OutputKeeps → (client after : Client) → after.session ≡ record client.session { output = [] } → (held : List Held)
-    → Keeps client held → Keeps after held
-keeps_handed output client after is held keeps = (
-  keeps.0,
-  subst (λ (s : State). Holds s keeps.0) (sym is) (output client.session keeps.0 keeps.1),
-  keeps.2 ∙ ap (λ (s : State). map (held_under s.id) keeps.0) (sym is),
-)
-
-pub begun_keeps : (old : List Client) (board : BoardId) (id : SessionId) (export : Export) (at : ℕ) (client : Client)
-    → client.session ≡ greeted board id export → BeginsToKeep old (old ++ client ∷ [])
-begun_keeps old board id export at client is kept are =
-    zip_push Keeps old kept client [] are ([], subst (λ (s : State). Holds s []) (sym is) (greeted_holds_none board id export), refl)
-
-pub stay_kept : (old : List Client) (place : ℕ) (before after : Client) → slice_get old place ≡ Some before
-    → ((held : List Held) → Keeps before held → Keeps after held)
-    → (kept : List (List Held)) → AreKept old kept → AreKept (set old place after) kept
-stay_kept old place before after here stays kept are = zip_swap Keeps old kept place before after are here stays
-
-pub forget_kept : (old : List Client) (place : ℕ) (after : Client) → Keeps after [] → (kept : List (List Held)) → AreKept old kept
-    → AreKept (set old place after) (set kept place [])
-forget_kept old place after none kept are = zip_set Keeps old kept place after [] are none
-
--- the session of the client at the place gives it up, and takes no more input
-pub gives_up : (id : SessionId) (old : List Client) (place : ℕ) (before after : Client) → place_of id old ≡ Some place
-    → slice_get old place ≡ Some before → after ≡ ended before → (kept : List (List Held)) → AreKept old kept
-    → GivesUp id (set old place after) kept
-gives_up id old place before after there here is kept are =
-    let same : after.session.id ≡ before.session.id = ap (λ (c : Client). c.session.id) is in
-    let there_then : place_of id (set old place after) ≡ Some place =
-    place_by_ids id (set old place after) old (ids_stay old place before after here same) ∙ there in
-    record {
-      place = place;
-      there = there_then;
-      over = over_at id (set old place after) place after there_then (get_set old place before after here)
-          (ap (λ (c : Client). is_over c.session.phase) is);
-      keeps = forget_kept old place after (subst (λ (c : Client). Keeps c []) (sym is) (keeps_ended before)) kept are;
-    }
-
--- the requests of demands of the session
-held_all : (id : SessionId) (demands : List Demand) → All (λ demand. (owed_by demand).session ≡ id) demands
-    → map held_of demands ≡ map (held_under id) (map asked_by demands)
-held_all id [] all = refl
-held_all id (demand ∷ demands) all =
-    let P : Demand → Type 0 = λ one. (owed_by one).session ≡ id in
-    ap (λ (one : Held). one ∷ map held_of demands) (ap (λ (i : SessionId). held_under i (asked_by demand)) (All-head P demand demands all))
-    ∙ ap (λ (l : List Held). held_under id (asked_by demand) ∷ l) (held_all id demands (All-tail P demand demands all))
-
-pub takes_up : HoldsInOneWay
-    → (id : SessionId) (old : List Client) (place : ℕ) (before after : Client) (piece : List ℕ) (demands : List Demand)
-    → place_of id old ≡ Some place → slice_get old place ≡ Some before → before.session.id ≡ id → after.session.id ≡ id
-    → MakesFirst before.session piece after.session (map asked_by demands) → (board : BoardId) (size : ℕ)
-    → All (IsDemandOf id board size) demands
-    → TakesUp id demands old (set old place after)
-takes_up one_way id old place before after piece demands there here is same first board size of_session kept are =
-    let own =
-    All-weaker (IsDemandOf id board size) (λ demand. (owed_by demand).session ≡ id)
-    (λ demand one. one.own_session) demands of_session in
-    let at = zip_get Keeps old kept place before are here in
-    let asked : List Asked = at.2.0 in
-    let all : asked ≡ first.held = one_way before.session asked first.held at.2.1 first.holds in
-    let held_is : at.0 ≡ map (held_under id) first.held = at.2.2 ∙ ap (λ (i : SessionId). map (held_under i) asked) is
-    ∙ ap (map (held_under id)) all in
-    record {
-      place = place;
-      held = at.0;
-      more = map (held_under id) first.more;
-      rest = map (held_under id) first.rest;
-      there = there;
-      here = at.1;
-      whole =
-          ap (λ (l : List Held). l ++ map (held_under id) first.more) held_is
-          ∙ sym (map-append (held_under id) first.held first.more)
-          ∙ ap (map (held_under id)) first.whole
-          ∙ map-append (held_under id) (map asked_by demands) first.rest
-          ∙ ap (λ (l : List Held). l ++ map (held_under id) first.rest) (sym (held_all id demands own));
-      keeps =
-          zip_set Keeps old kept place after (map (held_under id) first.rest) are
-          (first.rest, first.keeps, ap (λ (i : SessionId). map (held_under i) first.rest) (sym same));
-    }
 
 -- ---- bytes come in
 
@@ -313,11 +216,6 @@ module _ (before after : Client) where
       → (result ≡ None → HasNothing before after) → TakesNone before → TakesNone after
   put_stays None out none over = subst TakesNone (sym (none refl).same) over
   put_stays (Some output) out none over = ap (λ (c : Client). is_over c.session.phase) out.are ∙ over
-
-  pub put_keeps : OutputKeeps → (result : Option Output) → IfSome result (λ output. IsHanded output before after)
-      → (result ≡ None → HasNothing before after) → (held : List Held) → Keeps before held → Keeps after held
-  put_keeps laws None out none held keeps = subst (λ (c : Client). Keeps c held) (sym (none refl).same) keeps
-  put_keeps laws (Some output) out none held keeps = keeps_handed laws before after (ap (λ (c : Client). c.session) out.are) held keeps
 
 module _ (id : SessionId) (old : Sessions) (place : ℕ) (before after : Client) (there : place_of id old.clients ≡ Some place) (here : slice_get old.clients place ≡ Some before) where
   pub puts_out : (result : Option Output) → IfSome result (λ output. IsHanded output before after)
@@ -412,36 +310,25 @@ module _ (reply : GivenReply) (old : Sessions) (are : AreSessions old) (place : 
   abbrev owed_events : List ClientEvent
   owed_events = if is_owed before.session.phase before.session.in_flight then reply_event reply ∷ [] else []
 
-  keeps_answering : RepliesKeep → after.session ≡ answered before.session (reply_seen reply) → (kept : List (List Held))
-      → AreKept old.clients kept → AreKept later.clients kept
-  keeps_answering keep session = stay_kept old.clients place before after here
-      (λ held keeps.
-      let had = keeps_answered keep before (reply_seen reply) held keeps in (
-        had.0,
-        subst (λ (s : State). Holds s had.0) (sym session) had.1,
-        had.2 ∙ ap (λ (s : State). map (held_under s.id) had.0) (sym session),
-      ))
-
   answers_so : RepliesAreLawful → after.session.id ≡ before.session.id → after.session ≡ answered before.session (reply_seen reply)
       → (events : List ClientEvent) → events ≡ owed_events → GoOn old.clients later.clients no_one no_one no_one events
   answers_so replies same session events are_owed =
       subst (λ (e : List ClientEvent). GoOn old.clients later.clients no_one no_one no_one e) (sym are_owed)
       (go_on_answered old.clients are.apart reply.session place before after there here same replies reply refl session)
 
-  pub delivers : HistoriesAreLawful → RepliesAreLawful → RepliesKeep → (came : Delivered) (events : List ClientEvent)
+  pub delivers : HistoriesAreLawful → RepliesAreLawful → (came : Delivered) (events : List ClientEvent)
       → TakesReply reply came before after events → Delivers reply came old later events
-  delivers histories replies keep ToSession events did =
+  delivers histories replies ToSession events did =
       let same = taken_same reply ToSession before after events did in
       let session : after.session ≡ answered before.session (reply_seen reply) = ap (λ (c : Client). c.session) did.1 in
       record {
         did = inl (record { place = place; before = before; after = after; there = there; here = here; did = did; are = refl });
         put_out = subst (ArePutOut (reply ∷ [])) (sym did.2) (put_out_if (is_owed before.session.phase before.session.in_flight) reply);
-        keeps = keeps_answering keep session;
         over = changed_stay_over old.clients place before after here same.id (taken_stays reply ToSession before after events did);
         lawful = answers_so replies same.id session events did.2;
         places = changed_at_places old place before after here same;
       }
-  delivers histories replies keep Dropped events did =
+  delivers histories replies Dropped events did =
       let same = taken_same reply Dropped before after events did in
       let over = closed_is before.session.phase did.0 in
       let session : after.session ≡ answered before.session (reply_seen reply) =
@@ -451,17 +338,15 @@ module _ (reply : GivenReply) (old : Sessions) (are : AreSessions old) (place : 
       record {
         did = inl (record { place = place; before = before; after = after; there = there; here = here; did = did; are = refl });
         put_out = inl did.2;
-        keeps = keeps_answering keep session;
         over = changed_stay_over old.clients place before after here same.id (taken_stays reply Dropped before after events did);
         lawful = answers_so replies same.id session events (did.2 ∙ sym none);
         places = changed_at_places old place before after here same;
       }
-  delivers histories replies keep OutOfMemory events did =
+  delivers histories replies OutOfMemory events did =
       let same = taken_same reply OutOfMemory before after events did in
       record {
         did = inl (record { place = place; before = before; after = after; there = there; here = here; did = did; are = refl });
         put_out = inl did.2;
-        keeps = gives_up reply.session old.clients place before after there here did.1;
         over = changed_stay_over old.clients place before after here same.id (taken_stays reply OutOfMemory before after events did);
         lawful = subst (λ (e : List ClientEvent). GoOn old.clients later.clients no_one no_one no_one e) (sym did.2)
             (go_on_ended old.clients are.apart reply.session place before after there here same.id histories
@@ -473,7 +358,6 @@ pub drops : (reply : GivenReply) (old : Sessions) → place_of reply.session old
 drops reply old none = record {
   did = inr (record { dropped = refl; none = none; same = refl; unseen = refl });
   put_out = inl refl;
-  keeps = λ kept are. are;
   over = λ id has. has;
   lawful = go_on_still old.clients;
   places = at_same_places old;

@@ -1,6 +1,5 @@
 -- What each call does to the sessions, and what that is in the model of the one volume.
 use Rattle.std.specs.Prelude.{◌≡◌, ◌⊎◌, ◌≤◌, ◌+◌, ◌-◌, ℕ, Bool, true, false, not, ◌&&◌, ◌||◌, nat_lt, None, Option, Some, List, [], ◌∷◌, ◌++◌, if◌then◌else◌, length, map, set, slice_get, slice_set}
-use Rattle.std.specs.List.{insert}
 use Rattle.board.specs.Seats.{BoardId}
 use Rattle.flush_barrier.specs.Reply.{GivenReply}
 use Rattle.flush_barrier.specs.declared.session_id.SessionId.{SessionId}
@@ -15,8 +14,7 @@ use Rattle.nbd_session.specs.declared.phase.Phase.{Phase}
 use Rattle.nbd_session.specs.declared.phase.Phase.TheVariants.{Greeted, Negotiating, Skipping, Transmitting, Leaving, Over}
 use Rattle.world_model.specs.Chain.{ArePutOut, reply_event}
 use Rattle.world_model.specs.Event.{ClientEvent}
-use Rattle.world_model.specs.Requests.{Held}
-use Rattle.clients.specs.Clients.{AreKept, Client, GoOn, HasClient, IsOver, Sessions, held_of, no_one, place_of}
+use Rattle.clients.specs.Clients.{Client, GoOn, HasClient, IsOver, Sessions, no_one, place_of}
 use Rattle.clients.specs.declared.delivered.Delivered.{Delivered}
 use Rattle.clients.specs.declared.delivered.Delivered.TheVariants.{ToSession, Dropped, OutOfMemory}
 use Rattle.clients.specs.declared.output.Output.{Output}
@@ -56,10 +54,6 @@ pub record Begins (id : SessionId) (at : ℕ) (old new : Sessions) : Type 0 wher
   pub new_number : place_of id old.clients ≡ None
   pub are : new ≡ record old { clients = old.clients ++ record { session = greeted old.board id old.export; at = at; told = false } ∷ [] }
 
--- in the model it keeps nothing yet
-abbrev pub BeginsToKeep : List Client → List Client → Type 0
-BeginsToKeep old new = (kept : List (List Held)) → AreKept old kept → AreKept new (insert kept (length old) [])
-
 -- ---- bytes come in
 
 -- the session, which takes input, takes the piece, and makes these demands; each is in flight then, and no more than may be
@@ -78,20 +72,6 @@ pub record IsDemandOf (id : SessionId) (board : BoardId) (size : ℕ) (demand : 
   pub unnumbered : IsUnnumbered demand
   pub inside : IsAskedInside size (asked_by demand)
 
--- In the model more requests are sent to the session, the demands are the first of all that it has then, and it keeps the rest.
-pub record TakesUpFrom (id : SessionId) (demands : List Demand) (old new : List Client) (kept : List (List Held)) : Type 0 where
-  pub place : ℕ
-  pub held : List Held
-  pub more : List Held
-  pub rest : List Held
-  pub there : place_of id old ≡ Some place
-  pub here : slice_get kept place ≡ Some held
-  pub whole : held ++ more ≡ map held_of demands ++ rest
-  pub keeps : AreKept new (set kept place rest)
-
-abbrev pub TakesUp : SessionId → List Demand → List Client → List Client → Type 0
-TakesUp id demands old new = (kept : List (List Held)) → AreKept old kept → TakesUpFrom id demands old new kept
-
 -- ---- input ends
 
 -- the client once its session has ended: what waits goes out, and nothing else
@@ -105,16 +85,6 @@ pub record EndsInput (before after : Client) : Type 0 where
 
 abbrev pub Ends : SessionId → Sessions → Sessions → Type 0
 Ends id old new = Changes id old new EndsInput
-
--- In the model the session gives up what it kept: it takes no more input then.
-pub record GivesUp (id : SessionId) (new : List Client) (kept : List (List Held)) : Type 0 where
-  pub place : ℕ
-  pub there : place_of id new ≡ Some place
-  pub over : IsOver id new
-  pub keeps : AreKept new (set kept place [])
-
-abbrev pub Forgets : SessionId → List Client → List Client → Type 0
-Forgets id old new = (kept : List (List Held)) → AreKept old kept → GivesUp id new kept
 
 -- ---- replies come
 
@@ -147,17 +117,10 @@ pub record IsDropped (reply : GivenReply) (came : Delivered) (old new : Sessions
   pub same : new ≡ old
   pub unseen : events ≡ []
 
--- in the model the sessions keep what they kept; one that ends where memory runs out gives it up
-abbrev pub KeepAfter : Delivered → SessionId → List Client → List (List Held) → Type 0
-KeepAfter ToSession id new kept = AreKept new kept
-KeepAfter Dropped id new kept = AreKept new kept
-KeepAfter OutOfMemory id new kept = GivesUp id new kept
-
 -- The reply comes to its session, if it is there, and clients see these events.
 pub record Delivers (reply : GivenReply) (came : Delivered) (old new : Sessions) (events : List ClientEvent) : Type 0 where
   pub did : Changes reply.session old new (λ before after. TakesReply reply came before after events) ⊎ IsDropped reply came old new events
   pub put_out : ArePutOut (reply ∷ []) events
-  pub keeps : (kept : List (List Held)) → AreKept old.clients kept → KeepAfter came reply.session new.clients kept
   pub over : StayOver old.clients new.clients
   pub lawful : GoOn old.clients new.clients no_one no_one no_one events
   pub places : AreAtPlaces old new
@@ -194,7 +157,3 @@ PutsOut id old (Some output) new = Changes id old new (IsHanded output)
 abbrev pub bytes_out : Option Output → List ℕ
 bytes_out None = []
 bytes_out (Some output) = output.bytes.items
-
--- in the model the sessions keep what they kept
-abbrev pub KeepsAll : List Client → List Client → Type 0
-KeepsAll old new = (kept : List (List Held)) → AreKept old kept → AreKept new kept

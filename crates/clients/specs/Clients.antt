@@ -1,6 +1,6 @@
--- The sessions of a chain's clients: what holds of all of them, what they keep of the clients' requests, and how their histories go on.
+-- The sessions of a chain's clients: what holds of all of them, what they ask, and how their histories go on.
 use Rattle.std.specs.Prelude.{◌≡◌, ◌≢◌, ◌⊎◌, ◌==◌, ℕ, None, Option, Some, Bool, true, List, [], ◌∷◌, ◌++◌, All, if◌then◌else◌, map, position, slice_get}
-use Rattle.std.specs.List.{AllPairs, AllZip, flat_map}
+use Rattle.std.specs.List.{AllPairs, flat_map}
 use Rattle.board.specs.Seats.{BoardId}
 use Rattle.flush_barrier.specs.declared.session_id.SessionId.{SessionId}
 use Rattle.nbd_session.specs.Demand.{Asked, asked_by, owed_by}
@@ -8,7 +8,7 @@ use Rattle.nbd_session.specs.Demand as demands
 use Rattle.nbd_session.specs.Lawful.{History, IsLawful, HasHistory, nothing, sent_by}
 use Rattle.nbd_session.specs.Progress.{is_over}
 use Rattle.nbd_session.specs.Replies.{WireReply, seen_with}
-use Rattle.nbd_session.specs.Session.{Holds, State}
+use Rattle.nbd_session.specs.Session.{State}
 use Rattle.nbd_session.specs.declared.answer.Export.{Export}
 use Rattle.nbd_session.specs.declared.demand.Demand.{Demand}
 use Rattle.nbd_session.specs.declared.phase.Phase.TheVariants.{Over}
@@ -54,9 +54,9 @@ pub record AreSessions (s : Sessions) : Type 0 where
   pub apart : AllPairs (λ one other. one.session.id.0 ≢ other.session.id.0) s.clients
   pub own : All (IsOf s.board s.export) s.clients
 
--- ---- what sessions keep
+-- ---- what sessions ask
 
--- what a session asks, as it waits in the model to be taken up
+-- what a session asks, as the model has it
 abbrev pub held_under : SessionId → Asked → Held
 held_under session (demands.Read cookie offset len) = record { session = session; cookie = cookie; request = events.Read offset len }
 held_under session (demands.Write cookie write) = record { session = session; cookie = cookie; request = events.Write write }
@@ -66,14 +66,6 @@ held_under session (demands.Flush cookie) = record { session = session; cookie =
 -- the request of a demand
 abbrev pub held_of : Demand → Held
 held_of demand = held_under (owed_by demand).session (asked_by demand)
-
--- these requests stand whole in the input that the client's session keeps
-abbrev pub Keeps : Client → List Held → Type 0
-Keeps client held = (asked : List Asked) × Holds client.session asked × (held ≡ map (held_under client.session.id) asked)
-
--- for each session, by place, the requests that it keeps; one that is over keeps none
-abbrev pub AreKept : List Client → List (List Held) → Type 0
-AreKept clients kept = AllZip Keeps clients kept
 
 -- ---- how sessions go on
 

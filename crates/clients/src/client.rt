@@ -5,7 +5,6 @@ ghost use Rattle.nbd_session.specs.Begun.{greeted};
 ghost use Rattle.nbd_session.specs.Demand.{asked_by};
 ghost use Rattle.nbd_session.specs.Lawful.{History, fed_and_asked};
 ghost use Rattle.nbd_session.specs.Progress.{is_over};
-ghost use Rattle.nbd_session.specs.Session.{MakesFirst};
 ghost use Rattle.world_model.specs.Event.{ClientEvent};
 
 use crate::delivered::Delivered;
@@ -88,7 +87,6 @@ impl Client {
     /// Its session takes a piece.
     pub(crate) fn feed(&mut self, piece: &[u8]) -> Result<Vec<Demand>, Refusal>
         ensures fed { IfOk result (λ demands. TakesPiece piece.now self.old.at demands.items self.old self.new) }
-        ensures first { IfOk result (λ demands. MakesFirst self.old.session piece.now self.new.session (map asked_by demands.items)) }
         ensures demands { IfOk result (λ demands.
             All (IsDemandOf self.old.session.id self.old.session.board self.old.session.export.size) demands.items) }
         ensures few { IfOk result (λ demands. length demands.items ≤ most) }

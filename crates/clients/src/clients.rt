@@ -9,7 +9,7 @@ use crate::delivered::Delivered;
 use crate::output::Output;
 use board::Board;
 use flush_barrier::{BoardName, Reply, SessionId};
-use nbd_session::{Demand, Refusal, feeds_are_lawful, requests_are_held};
+use nbd_session::{Demand, Refusal, feeds_are_lawful};
 use std::alloc::{AllocError, Global};
 use std::marker::Model;
 
@@ -42,8 +42,8 @@ impl Model for Clients {
 }
 
 impl Clients {
-    ghost use Rattle.clients.specs.Calls.{AreAtPlaces, BeginsToKeep, Begins, Changes, Delivers, Ends, Forgets, IsDemandOf, KeepsAll, PutsOut, StayOver, TakesPiece, TakesUp, bytes_out};
-    ghost use Rattle.clients.specs.Clients.{AreKept, AreSessions, GoOn, HasClient, no_one, of_session, place_of};
+    ghost use Rattle.clients.specs.Calls.{AreAtPlaces, Begins, Changes, Delivers, Ends, IsDemandOf, PutsOut, StayOver, TakesPiece, bytes_out};
+    ghost use Rattle.clients.specs.Clients.{AreSessions, GoOn, HasClient, no_one, of_session, place_of};
 
     /// No sessions of a board's chain. They will be at an export of `size` bytes that takes payloads of up to `max_payload` bytes.
     pub fn new(alloc: Global, board: &Board, size: u64, max_payload: u32) -> Clients
@@ -69,7 +69,6 @@ impl Clients {
         ensures begins { IfOk result (λ begun. begun ≡ true → Begins id at self.old self.new) }
         ensures known { IfOk result (λ begun. begun ≡ false → IsSome (place_of id self.old.clients) × (self.new ≡ self.old)) }
         ensures err { OnErr result (self.new ≡ self.old) }
-        ensures keeps { IfOk result (λ begun. begun ≡ true → BeginsToKeep self.old.clients self.new.clients) }
         ensures stay_over { StayOver self.old.clients self.new.clients }
         ensures lawful { IfOk result (λ begun. begun ≡ true → GoOn self.old.clients self.new.clients no_one no_one no_one []) }
     {
@@ -100,11 +99,9 @@ impl Clients {
         ensures err { IfSome result (λ fed. OnErr fed (self.new ≡ self.old)) }
         ensures places { AreAtPlaces self.old self.new }
         ensures stay_over { StayOver self.old.clients self.new.clients }
-        ensures takes_up { IfSome result (λ fed. IfOk fed (λ r. TakesUp id r.1.items self.old.clients self.new.clients)) }
         ensures lawful { IfSome result (λ fed. IfOk fed (λ r.
             GoOn self.old.clients self.new.clients (of_session id piece.now) no_one (of_session id (map asked_by r.1.items)) [])) }
     {
-        requests_are_held();
         let place = self.position(id)?;
         let client = &mut self.clients[place];
         let at = client.at();
@@ -122,7 +119,6 @@ impl Clients {
             (HasClient id self.old.clients (λ client. is_over client.session.phase ≡ false) → ⊥) × (self.new ≡ self.old) }
         ensures places { AreAtPlaces self.old self.new }
         ensures stay_over { StayOver self.old.clients self.new.clients }
-        ensures forgets { result ≡ true → Forgets id self.old.clients self.new.clients }
         ensures lawful { GoOn self.old.clients self.new.clients no_one no_one no_one [] }
     {
         feeds_are_lawful();
@@ -138,7 +134,6 @@ impl Clients {
         ensures { (events : List ClientEvent) × Delivers reply result self.old self.new events }
     {
         feeds_are_lawful();
-        requests_are_held();
         match self.position(reply.session()) {
             Some(place) => self.clients[place].take_reply(reply),
             None => Delivered::Dropped,
@@ -151,11 +146,9 @@ impl Clients {
         ensures out { PutsOut id self.old result self.new }
         ensures places { AreAtPlaces self.old self.new }
         ensures stay_over { StayOver self.old.clients self.new.clients }
-        ensures keeps { KeepsAll self.old.clients self.new.clients }
         ensures lawful { GoOn self.old.clients self.new.clients no_one (of_session id (bytes_out result)) no_one [] }
     {
         feeds_are_lawful();
-        requests_are_held();
         let place = self.position(id)?;
         self.clients[place].put_out()
     }

@@ -2,6 +2,5 @@ pub mod Courses
 pub mod Cuttings
 pub mod Demands
 pub mod Endings
-pub mod Holding
 pub mod Lawfulness
 pub mod Requests

@@ -6,7 +6,7 @@ use Rattle.nbd_session.specs.Demand.{Asked}
 use Rattle.nbd_session.specs.Lawful.{GoesOnIn, History, IsLawful, NeedsMore, HasHistory, fed_and_asked, handed_out, most_kept, replied, sent_by}
 use Rattle.nbd_codec.specs.Reply.{PlainReply}
 use Rattle.nbd_session.specs.Replies.{answered}
-use Rattle.nbd_session.specs.Session.{Feeds, Holds, State}
+use Rattle.nbd_session.specs.Session.{Feeds, State}
 use Rattle.nbd_session.specs.Progress.{is_over}
 
 -- a piece leaves the session in one way, and asks the same of the volume
@@ -56,28 +56,3 @@ FeedsTakeAll = (old new : State) (piece : List ℕ) (asked : List Asked)
 abbrev pub NeedyGoOn : Type 0
 NeedyGoOn = (session : State) (history : History)
     → HasHistory session history → NeedsMore session.phase session.export.max_payload session.kept → GoesOnIn session.phase session history
-
--- the requests that stand whole in a session's input are some, and no others
-abbrev pub HoldsInOneWay : Type 0
-HoldsInOneWay = (session : State) (asked others : List Asked) → Holds session asked → Holds session others → asked ≡ others
-
-abbrev pub HoldsSome : Type 0
-HoldsSome = (session : State) → AreBytes session.kept → session.export.max_payload < 2 ^ 32 → (asked : List Asked) × Holds session asked
-
--- what a piece asks of the volume stood first in the input, and the session holds the rest
-abbrev pub FeedsTakeFirst : Type 0
-FeedsTakeFirst = (old new : State) (piece : List ℕ) (asked rest : List Asked)
-    → Feeds old piece new asked → Holds new rest → Holds (record old { kept = old.kept ++ piece }) (asked ++ rest)
-
--- a piece more holds what was held, and perhaps more
-abbrev pub PiecesAdd : Type 0
-PiecesAdd = (session : State) (piece : List ℕ) (asked : List Asked)
-    → AreBytes (session.kept ++ piece) → session.export.max_payload < 2 ^ 32 → Holds session asked
-    → (more : List Asked) × Holds (record session { kept = session.kept ++ piece }) (asked ++ more)
-
--- a reply, and output that is handed out, change nothing of it
-abbrev pub RepliesKeep : Type 0
-RepliesKeep = (session : State) (reply : PlainReply) (asked : List Asked) → Holds session asked → Holds (answered session reply) asked
-
-abbrev pub OutputKeeps : Type 0
-OutputKeeps = (session : State) (asked : List Asked) → Holds session asked → Holds (record session { output = [] }) asked

@@ -92,21 +92,6 @@ Feeds old piece new asked = Settles limit_in_flight (fed old piece) (record { se
 abbrev pub course_of : State → Course
 course_of session = record { session = session; asked = [] }
 
--- the requests for the volume that stand whole in the input that a session has kept, in order
-abbrev pub Holds : State → List Asked → Type 0
-Holds session asked = (end : State) × Settles None (course_of session) (record { session = end; asked = asked })
-
--- With the piece more stands whole in the input than the session had kept: it made demands of the first of them all, and
--- keeps the rest.
-pub record MakesFirst (old : State) (piece : List ℕ) (new : State) (made : List Asked) : Type 0 where
-  pub held : List Asked
-  pub more : List Asked
-  pub rest : List Asked
-  pub holds : Holds old held
-  pub longer : Holds (record old { kept = old.kept ++ piece }) (held ++ more)
-  pub keeps : Holds new rest
-  pub whole : held ++ more ≡ made ++ rest
-
 -- the session once so many bytes of its input are used up, and this is asked of the volume
 abbrev pub used_from : State → ℕ → List Asked → Course
 used_from session used asked = record {

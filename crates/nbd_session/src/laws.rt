@@ -1,6 +1,6 @@
 //! Laws of sessions, for callers that argue about whole texts. The functions do nothing.
 
-ghost use Rattle.nbd_session.specs.Laws.{CuttingsAgree, FeedsInOneWay, FeedsLawfully, FeedsTakeAll, FeedsTakeFirst, HistoriesAreLawful, HoldsInOneWay, HoldsSome, NeedyGoOn, OutputIsLawful, OutputKeeps, PiecesAdd, RepliesAreLawful, RepliesKeep};
+ghost use Rattle.nbd_session.specs.Laws.{CuttingsAgree, FeedsInOneWay, FeedsLawfully, FeedsTakeAll, HistoriesAreLawful, NeedyGoOn, OutputIsLawful, RepliesAreLawful};
 
 use nbd_codec::{client_flags_are_apart, options_are_apart, requests_are_apart};
 
@@ -22,21 +22,6 @@ pub fn feeds_are_lawful()
     ensures output { OutputIsLawful }
     ensures all { FeedsTakeAll }
     ensures needy { NeedyGoOn }
-{
-    client_flags_are_apart();
-    options_are_apart();
-    requests_are_apart();
-}
-
-/// The requests for the volume that stand whole in a session's input: its demands are taken from their front, and a
-/// piece of the client's text adds at their end.
-pub fn requests_are_held()
-    ensures one_way { HoldsInOneWay }
-    ensures some { HoldsSome }
-    ensures first { FeedsTakeFirst }
-    ensures more { PiecesAdd }
-    ensures replies { RepliesKeep }
-    ensures output { OutputKeeps }
 {
     client_flags_are_apart();
     options_are_apart();

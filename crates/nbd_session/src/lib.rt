@@ -20,6 +20,6 @@ mod tests;
 mod wanted;
 
 pub use demand::Demand;
-pub use laws::{cuttings_agree, feeds_are_lawful, requests_are_held};
+pub use laws::{cuttings_agree, feeds_are_lawful};
 pub use refusal::Refusal;
 pub use session::Session;

@@ -14,7 +14,7 @@ use crate::answer::Export;
 use crate::demand::Demand;
 use crate::inbox::Inbox;
 use crate::intake::{Intake, flags_intake, option_intake, request_intake, skip_intake};
-use crate::laws::{feeds_are_lawful, requests_are_held};
+use crate::laws::feeds_are_lawful;
 use crate::phase::Phase;
 use crate::refusal::Refusal;
 use crate::wanted::{Loaded, Wanted};
@@ -55,7 +55,7 @@ impl Model for Session {
 }
 
 impl Session {
-    ghost use Rattle.nbd_session.specs.Session.{Grows, MakesFirst, Overruns, course_of, left_to_use, limit_in_flight, step, used_from};
+    ghost use Rattle.nbd_session.specs.Session.{Grows, Overruns, course_of, left_to_use, limit_in_flight, step, used_from};
 
     /// A session at a member of the board's chain, with an export of `size` bytes that takes payloads of up to
     /// `max_payload` bytes. The greeting waits to go out.
@@ -98,7 +98,6 @@ impl Session {
             NeedsMore self.new.phase self.new.export.max_payload self.new.kept) }
         ensures keeps_little { OnOk result (is_over self.new.phase ≡ false → self.new.in_flight < MAX_IN_FLIGHT →
             length self.new.kept < most_kept self.new.phase self.new.export.max_payload) }
-        ensures makes_first { IfOk result (λ demands. MakesFirst self.old piece.now self.new (map asked_by demands.items)) }
         ensures export { self.new.export ≡ self.old.export }
         ensures id { self.new.id ≡ self.old.id }
         ensures board { self.new.board ≡ self.old.board }
@@ -113,7 +112,6 @@ impl Session {
             return Err(Refusal::SessionOver);
         }
         feeds_are_lawful();
-        requests_are_held();
         let (kept, output, phase) = (self.kept.len(), self.output.len(), self.phase);
         match self.take_in(piece) {
             Ok(demands) => Ok(demands),

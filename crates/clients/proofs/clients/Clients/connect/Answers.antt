@@ -3,7 +3,7 @@ use Rattle.std.specs.Prelude.{is_some}
 use Rattle.flush_barrier.specs.declared.session_id.SessionId.{SessionId}
 use Rattle.nbd_session.specs.Lawful.{nothing}
 use Rattle.clients.specs.Clients.{Client, Goes, Sessions, place_of}
-use Rattle.clients.proofs.CallSteps.{begun_are_sessions, begun_keeps, begun_stay_over}
+use Rattle.clients.proofs.CallSteps.{begun_are_sessions, begun_stay_over}
 use Rattle.clients.proofs.Histories.{begun_goes, go_on_begun}
 use Rattle.clients.proofs.clients.Clients.connect.Goals as goal
 
@@ -24,11 +24,6 @@ invariant_of-self-2 c =
       own_board = ap (λ (x : Client). x.session.board) is ∙ c.requires ∙ ap (λ (s : Sessions). s.board) (sym c.self.view_is);
       own_export = ap (λ (x : Client). x.session.export) is;
     }) c.self.invariant)
-
-pub returns-clause-keeps : goal.returns-clause-keeps
-returns-clause-keeps c =
-    λ done. rw (← c.self.view_is, c.in_ok-push.ensures.items)
-    (begun_keeps _ _ _ _ c.args.at c.in_ok-client.client (ap (λ (client : Client). client.session) c.in_ok-client.ensures))
 
 pub returns-clause-stay_over : goal.returns-clause-stay_over
 returns-clause-stay_over c = rw (← c.self.view_is, c.in_ok-push.ensures.items) (begun_stay_over _ c.in_ok-client.client)

@@ -2,7 +2,7 @@ use Rattle.std.proofs.Common.{◌≡◌, true, false, List, [], refl, sym, ap, s
 use Rattle.std.proofs.lemmas.Bool.{cases_Bool}
 use Rattle.nbd_session.specs.Progress.{is_over}
 use Rattle.clients.specs.Clients.{Client, GoOn, no_one}
-use Rattle.clients.proofs.CallSteps.{changed_are_sessions, changed_at_places, changed_not, changed_stay_over, end_same, end_stays, found_at, gives_up, is_the_client, read_at, set_not}
+use Rattle.clients.proofs.CallSteps.{changed_are_sessions, changed_at_places, changed_not, changed_stay_over, end_same, end_stays, found_at, is_the_client, read_at, set_not}
 use Rattle.clients.proofs.Histories.{go_on_ended, go_on_still}
 use Rattle.clients.proofs.clients.Clients.end.Goals as goal
 
@@ -44,12 +44,6 @@ returns-in-Some-clause-stay_over c = rw (← c.self.view_is)
     (let here = read_at _ _ c.in-Some.place _ c.self.view_is c.in-Some.ensures.within c.index_mut.ensures.value in
     let same = end_same c.end.result _ _ c.end.ensures.ended c.end.ensures.idle in
     changed_stay_over _ c.in-Some.place _ _ here same.id (end_stays c.end.result _ _ c.end.ensures.ended c.end.ensures.idle))
-
-pub returns-in-Some-clause-forgets : goal.returns-in-Some-clause-forgets
-returns-in-Some-clause-forgets c = λ done. rw (← c.self.view_is)
-    (let here = read_at _ _ c.in-Some.place _ c.self.view_is c.in-Some.ensures.within c.index_mut.ensures.value in
-    let there = found_at c.args.id _ _ c.in-Some.place c.self.view_is c.in-Some.ensures.place in
-    gives_up c.args.id _ c.in-Some.place _ _ there here (c.end.ensures.ended done).are)
 
 pub returns-in-Some-clause-lawful : goal.returns-in-Some-clause-lawful
 returns-in-Some-clause-lawful c = rw (← c.self.view_is)

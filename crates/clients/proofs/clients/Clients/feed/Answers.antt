@@ -1,9 +1,8 @@
 use Rattle.std.proofs.Common.{◌≡◌, Result, Ok, Err, Option, Some, map, sym, ◌∙◌, subst}
 use Rattle.std.specs.Prelude.{IfOk, IfSome}
 use Rattle.nbd_session.specs.Demand.{asked_by}
-use Rattle.clients.proofs.CallSteps.{changed_at_places, changed_stay_over, demands_of, feed_stays, found_at, read_at, takes_up}
+use Rattle.clients.proofs.CallSteps.{changed_at_places, changed_stay_over, demands_of, feed_stays, found_at, read_at}
 use Rattle.clients.proofs.Histories.{go_on_fed}
-use Rattle.clients.proofs.Places.{place_is}
 use Rattle.clients.proofs.clients.Clients.feed.Goals.{in-Ok, in-Err}
 use Rattle.clients.proofs.clients.Clients.feed.Goals as goal
 
@@ -34,20 +33,6 @@ returns-clause-stay_over c = rw (← c.self.view_is)
     (let here = read_at _ _ c.in_ok-place.place _ c.self.view_is c.in_ok-place.ensures.within c.index_mut-client.ensures.value in
     changed_stay_over _ c.in_ok-place.place _ _ here c.feed.ensures.same.id
     (feed_stays c.feed.result (λ demands. demands.items) c.args.piece.now _ _ _ c.feed.ensures.fed c.feed.ensures.err))
-
-pub returns-clause-takes_up : goal.returns-clause-takes_up
-returns-clause-takes_up c = rw (← c.self.view_is)
-    (let here = read_at _ _ c.in_ok-place.place _ c.self.view_is c.in_ok-place.ensures.within c.index_mut-client.ensures.value in
-    let there = found_at c.args.id _ _ c.in_ok-place.place c.self.view_is c.in_ok-place.ensures.place in
-    let is = place_is c.args.id _ c.in_ok-place.place _ there here in
-    elim c.match-feed.branch [
-      | in-Ok w ↦ if_fed _ c.match-feed.result _ w.result-is
-          (takes_up c.requests_are_held.ensures.one_way c.args.id c.self.inside.clients.items c.in_ok-place.place c.index_mut-client.result.now c.feed.new.self c.args.piece.now w.in-Ok.demands.items there here is
-          (c.feed.ensures.same.id
-          ∙ is) w.in-Ok.ensures.first _ _
-          (demands_of c.args.id _ c.in_ok-place.place _ w.in-Ok.demands.items c.self.invariant there here w.in-Ok.ensures.demands))
-      | in-Err w ↦ if_refused _ c.match-feed.result w.in-Err.refusal w.result-is
-    ])
 
 pub returns-clause-lawful : goal.returns-clause-lawful
 returns-clause-lawful c = rw (← c.self.view_is)

@@ -1,4 +1,4 @@
-use Rattle.clients.proofs.CallSteps.{changed_at_places, changed_stay_over, found_at, put_goes_on, put_keeps, put_same, put_stays, puts_out, read_at, stay_kept}
+use Rattle.clients.proofs.CallSteps.{changed_at_places, changed_stay_over, found_at, put_goes_on, put_same, put_stays, puts_out, read_at}
 use Rattle.clients.proofs.clients.Clients.put_out.Goals as goal
 
 pub returns-clause-out : goal.returns-clause-out
@@ -17,12 +17,6 @@ returns-clause-stay_over c = rw (← c.self.view_is)
     (let here = read_at _ _ c.in_ok-place.place _ c.self.view_is c.in_ok-place.ensures.within c.index_mut.ensures.value in
     let same = put_same _ _ c.put_out.result c.put_out.ensures.out c.put_out.ensures.nothing in
     changed_stay_over _ c.in_ok-place.place _ _ here same.id (put_stays _ _ c.put_out.result c.put_out.ensures.out c.put_out.ensures.nothing))
-
-pub returns-clause-keeps : goal.returns-clause-keeps
-returns-clause-keeps c = rw (← c.self.view_is)
-    (let here = read_at _ _ c.in_ok-place.place _ c.self.view_is c.in_ok-place.ensures.within c.index_mut.ensures.value in
-    stay_kept _ c.in_ok-place.place _ _ here
-    (put_keeps _ _ c.requests_are_held.ensures.output c.put_out.result c.put_out.ensures.out c.put_out.ensures.nothing))
 
 pub returns-clause-lawful : goal.returns-clause-lawful
 returns-clause-lawful c = rw (← c.self.view_is)

@@ -19,7 +19,7 @@ returns-in-Some c = rw (← c.self.view_is)
     ∙ found_at c.session.result _ _ c.in-Some.place c.self.view_is c.in-Some.ensures.place in
     let laws = c.feeds_are_lawful.ensures in
     let taken = c.take_reply.ensures in
-    (taken.0, delivers c.args.reply _ c.self.invariant c.in-Some.place _ _ there here laws.lawful laws.replies c.requests_are_held.ensures.replies c.take_reply.result taken.0 taken.1))
+    (taken.0, delivers c.args.reply _ c.self.invariant c.in-Some.place _ _ there here laws.lawful laws.replies c.take_reply.result taken.0 taken.1))
 
 pub returns-in-None : goal.returns-in-None
 returns-in-None c = (

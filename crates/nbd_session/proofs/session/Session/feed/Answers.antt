@@ -1,32 +1,11 @@
-use Rattle.std.proofs.Common.{rules, arith, ◌≡◌, ◌<◌, ◌^◌, ◌++◌, List, ℕ, false, map, subst, sym}
+use Rattle.std.proofs.Common.{rules, arith, ◌≡◌, ◌<◌, ◌^◌, false, map, subst}
 use Rattle.nbd_codec.specs.Findings.{AreBytes}
-use Rattle.nbd_session.specs.Demand.{Asked, asked_by}
-use Rattle.nbd_session.specs.Laws.{FeedsTakeFirst, HoldsInOneWay, HoldsSome, PiecesAdd}
-use Rattle.nbd_session.specs.Session.{Feeds, MakesFirst, State, limit_in_flight}
+use Rattle.nbd_session.specs.Demand.{asked_by}
+use Rattle.nbd_session.specs.Session.{Feeds}
 use Rattle.nbd_session.specs.Progress.{is_over}
 use Rattle.nbd_session.proofs.Demands.{all_inside, all_of_board, all_of_session, all_unnumbered}
-use Rattle.nbd_session.proofs.Endings.{bytes_both, play_keeps}
+use Rattle.nbd_session.proofs.Endings.{bytes_both}
 use Rattle.nbd_session.proofs.session.Session.feed.Goals as goal
-
--- all three inputs hold some requests, and the longer one in one way
-reached : HoldsInOneWay → HoldsSome → FeedsTakeFirst → PiecesAdd → (old new : State) (piece : List ℕ) (made : List Asked)
-    → AreBytes old.kept → AreBytes (old.kept ++ piece) → old.export.max_payload < 2 ^ 32 → Feeds old piece new made → MakesFirst old piece new made
-reached one_way some first adds old new piece made bytes both small feeds =
-    let longer : State = record old { kept = old.kept ++ piece } in
-    let held = some old bytes small in
-    let more = adds old piece held.0 both small held.1 in
-    let keeps = play_keeps limit_in_flight feeds.steps _ _ both feeds.there in
-    let small_too : new.export.max_payload < 2 ^ 32 = subst (λ e. e.max_payload < 2 ^ 32) (sym keeps.export) small in
-    let rest = some new keeps.bytes small_too in
-    record {
-      held = held.0;
-      more = more.0;
-      rest = rest.0;
-      holds = held.1;
-      longer = more.1;
-      keeps = rest.1;
-      whole = one_way longer (held.0 ++ more.0) (made ++ rest.0) more.1 (first old new piece made rest.0 feeds rest.1);
-    }
 
 pub returns-in-Ok-clause-lawful : goal.returns-in-Ok-clause-lawful
 returns-in-Ok-clause-lawful c history stands =
@@ -55,17 +34,6 @@ returns-in-Ok-clause-keeps_little c open_still free =
     let kept : AreBytes now.kept = subst (λ s. AreBytes s.kept) c.self.view_is c.self.invariant.2 in
     (c.feeds_are_lawful.ensures.all now c.take_in.new.self c.args.piece.now (map asked_by c.in-Ok.demands.items)
     (bytes_both now.kept c.args.piece.now kept (λ i. omega (arith, c.type_inv.piece i))) small fed open_still free).1
-
-pub returns-in-Ok-clause-makes_first : goal.returns-in-Ok-clause-makes_first
-returns-in-Ok-clause-makes_first c =
-    let now = c.args.self.now in
-    let made = map asked_by c.in-Ok.demands.items in
-    let feeds : Feeds now c.args.piece.now c.take_in.new.self made = search rules in
-    let small : now.export.max_payload < 2 ^ 32 = search rules in
-    let kept : AreBytes now.kept = subst (λ s. AreBytes s.kept) c.self.view_is c.self.invariant.2 in
-    let laws = c.requests_are_held.ensures in
-    reached laws.one_way laws.some laws.first laws.more now c.take_in.new.self c.args.piece.now made kept
-    (bytes_both now.kept c.args.piece.now kept (λ i. omega (arith, c.type_inv.piece i))) small feeds
 
 pub returns-in-Ok-clause-inside : goal.returns-in-Ok-clause-inside
 returns-in-Ok-clause-inside c = all_inside c.args.self.now.export.size c.in-Ok.demands.items c.in-Ok.ensures.inside
