@@ -1,7 +1,6 @@
 -- A world begins: nothing waits, and there are no sessions.
 use Rattle.std.proofs.Common.{◌≡◌, ℕ, zero, suc, ◌<◌, List, [], ◌∷◌, length, map, replicate, refl, ap, sym, subst, ◌∙◌}
 use Rattle.std.specs.Prelude.{All}
-use Rattle.std.specs.List.{AllZip}
 use Rattle.std.proofs.lemmas.List.{length-replicate}
 use Rattle.std.proofs.lemmas.List.Elements.{All-head, All-nil, All-replicate, All-tail}
 use Rattle.std.proofs.lemmas.Slice.Zip.{AllZip-long}
@@ -13,8 +12,8 @@ use Rattle.world_model.specs.Requests.{Held}
 use Rattle.chain.specs.Chain.{Chained, bytes_of}
 use Rattle.chain.specs.Chain as chain
 use Rattle.chain.specs.Member.{IsShown}
-use Rattle.clients.specs.Clients.{Client, Keeps, held_of}
-use Rattle.world.specs.World.{HasNoClients, IsJoined, IsOfVolume, Seen, Shows}
+use Rattle.clients.specs.Clients.{Client, held_of}
+use Rattle.world.specs.World.{AreTakenUp, HasNoClients, IsJoined, IsOfVolume, Seen, Shows}
 
 -- nothing waits for members for whom none waits
 none_waiting : (ms : List Member) → All (λ (m : Member). m.demands ≡ []) ms → map (λ (m : Member). m.demands) ms ≡ replicate (length ms) []
@@ -49,5 +48,5 @@ module _ {S : Type 0} (c : Chained S) (export : Export) (queues : List (List Dem
     demands = none_waiting v.members has.none_wait
         ∙ ap (λ (n : ℕ). replicate n []) (AllZip-long (IsShown about keeps may_leave_now (bytes_of c)) c.members v.members shows.members)
         ∙ sym (none_held (length c.members)) ∙ ap (map (map held_of)) (sym none);
-    kept = subst (AllZip Keeps []) (sym has.none_kept) tt;
+    kept = subst (AreTakenUp []) (sym has.none_kept) (record { many = refl; none = All-nil (λ held. held ≡ []) });
   }

@@ -2,24 +2,24 @@
 use Rattle.std.proofs.Common.{◌≡◌, ℕ, Bool, List, [], ◌∷◌, ◌++◌, length, refl, ap, sym, subst, ◌∙◌, inl, inr}
 use Rattle.std.specs.Prelude.{◌⊎◌, ◌<◌, ◌*◌, All, get_or, map, false, true}
 use Rattle.std.proofs.lemmas.List.Elements.{All-map}
-use Rattle.std.proofs.lemmas.List.{append-nil, get_or-map, length-map}
+use Rattle.std.proofs.lemmas.List.{get_or-map, length-map}
 use Rattle.flush_barrier.specs.Reply.{GivenReply}
 use Rattle.flush_barrier.specs.declared.session_id.SessionId.{SessionId}
 use Rattle.local_store.specs.About.{About}
 use Rattle.world_model.specs.Chain.{ArePutOut, View}
 use Rattle.world_model.specs.Event.{ClientEvent}
-use Rattle.world_model.specs.Requests.{Held}
 use Rattle.chain.specs.Chain.{Chained, bytes_of}
 use Rattle.chain.specs.Chain as chain
 use Rattle.chain.proofs.Keeping.{goes_keeps}
 use Rattle.clients.specs.Calls.{AreAtPlaces}
-use Rattle.clients.specs.Clients.{AreKept, IsOver, held_of, no_one}
+use Rattle.clients.specs.Clients.{held_of, no_one}
 use Rattle.clients.specs.declared.output.Output.{Output}
 use Rattle.world.specs.Telling.{AreTold, handed_by}
-use Rattle.world.specs.World.{Goes, HappensSo, IsAccounted, IsJoined, IsOfOneVolume, Seen, sent_in}
-use Rattle.world.proofs.Going.{goes_as, goes_on, goes_same}
+use Rattle.world.specs.World.{AreTakenUp, Goes, HappensSo, IsJoined, IsOfOneVolume, Seen, sent_in}
+use Rattle.world.proofs.Accounts.{taken_up_still}
+use Rattle.world.proofs.Going.{goes_as}
 use Rattle.world.proofs.GoingOn.{remain_at}
-use Rattle.world.proofs.TellingSteps.{told_go_on, told_keeps, told_over, told_places, told_put_out}
+use Rattle.world.proofs.TellingSteps.{told_go_on, told_places, told_put_out}
 
 -- ---- nobody sent anything
 
@@ -33,36 +33,23 @@ none_sent id (r ∷ rs) events out = elim out [
 -- ---- one call
 
 module _ {S : Type 0} (about : S → About) (keeps : S → List ℕ → Type 0) (may_leave_now : S → List ℕ → Type 0) where
-  -- the chain is shown as before, whatever sessions keep
-  pub shows_with : (c : Chained S) (v w : View) → w.told ≡ v.told → w.members ≡ v.members → chain.Shows about keeps may_leave_now c v → chain.Shows about keeps may_leave_now c w
-  shows_with c v w told members shows = record { told = told ∙ shows.told; members = rw members shows.members }
-
   -- replies come to their sessions in a world that has come so far
   pub tells_so : (old new : Seen S) (room lost : Bool) (replies : List GivenReply) (outputs : List Output) (events : List ClientEvent) (v w : View)
       → AreTold room lost replies old.sessions new.sessions outputs events
-      → chain.Shows about keeps may_leave_now new.chain w → map (λ m. m.demands) w.members ≡ map (map held_of) new.queues → w.kept ≡ v.kept → AreKept old.sessions.clients v.kept
+      → chain.Shows about keeps may_leave_now new.chain w → map (λ m. m.demands) w.members ≡ map (map held_of) new.queues → w.kept ≡ v.kept → AreTakenUp old.sessions.clients v.kept
       → Goes (bytes_of old.chain) v w events
       → HappensSo about keeps may_leave_now old new no_one (handed_by outputs) v
   tells_so old new room lost replies outputs events v w told shows demands kept are goes =
-      let less = told_keeps (bytes_of old.chain) room lost replies old.sessions new.sessions outputs events w told (rw kept are) in
-      let then = record w { kept = less.kept } in
-      let silent : (id : SessionId) → sent_in id events ≡ [] = λ id. none_sent id replies events (told_put_out room lost replies old.sessions new.sessions outputs events told) in
+      let places = told_places room lost replies old.sessions new.sessions outputs events told in
       record {
-        w = then;
+        w = w;
         events = events;
         asked = no_one;
-        shows = record { chain = shows_with new.chain w then refl refl shows; demands = demands; kept = less.are };
-        goes = goes_same v then (events ++ []) events (append-nil events) (goes_on v w then events [] goes less.goes);
+        shows = record { chain = shows; demands = demands; kept = taken_up_still old.sessions new.sessions w.kept places (rw kept are) };
+        goes = goes;
         go_on = told_go_on room lost replies old.sessions new.sessions outputs events told;
-        sent = record {
-          accounted =
-              λ id place there.
-              subst (λ (l : List (List Held)). IsAccounted (IsOver id new.sessions.clients) (get_or l place []) (sent_in id events) [] (get_or less.kept place [])) kept
-              (subst (λ (l : List Held). IsAccounted (IsOver id new.sessions.clients) (get_or w.kept place []) l [] (get_or less.kept place [])) (sym (silent id)) (less.each id place there));
-          over = λ id is. (told_over room lost replies old.sessions new.sessions outputs events told id is, silent id, refl);
-          nobody = λ id none. (silent id, refl);
-        };
-        remain = remain_at old.sessions new.sessions (told_places room lost replies old.sessions new.sessions outputs events told);
+        sent = λ id. none_sent id replies events (told_put_out room lost replies old.sessions new.sessions outputs events told);
+        remain = remain_at old.sessions new.sessions places;
       }
 
   -- a call of the chain, with its replies

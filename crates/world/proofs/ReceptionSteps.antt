@@ -1,4 +1,4 @@
--- What a client's call is in the model of the one volume: requests are sent and taken up, a session begins or ends, or nothing happens.
+-- What a client's call is in the model of the one volume: requests are sent and taken up, a session begins, or nothing happens.
 use Rattle.std.proofs.Common.{◌≡◌, ◌≢◌, ℕ, zero, suc, Bool, true, false, eqb, Some, None, Result, Ok, Err, List, [], ◌∷◌, ◌++◌, length, map, set, refl, ap, sym, subst, ◌∙◌, inl, inr, arith}
 use Rattle.std.specs.Prelude.{All, IfOk, IsSome, OnErr, ◌==◌, get_or, slice_get}
 use Rattle.std.specs.List.{insert}
@@ -20,19 +20,18 @@ use Rattle.nbd_session.specs.Progress.{is_over}
 use Rattle.nbd_session.specs.declared.demand.Demand.{Demand}
 use Rattle.world_model.specs.Chain.{Member, View}
 use Rattle.world_model.specs.Counting.{all_behind, get_within}
-use Rattle.world_model.specs.Life.{RequestsSent, RequestsTakenUp, SessionBegins, SessionEnds}
+use Rattle.world_model.specs.Life.{RequestsSent, RequestsTakenUp, SessionBegins}
 use Rattle.world_model.specs.Requests.{Held, sent_event}
 use Rattle.chain.specs.Chain.{bytes_of}
 use Rattle.chain.specs.Chain as chain
 use Rattle.chain.proofs.Cells.{Place, set_there, zip_at}
 use Rattle.chain.proofs.Cells as cells
-use Rattle.clients.proofs.CallSteps.{is_the_client}
-use Rattle.clients.specs.Calls.{AreAtPlaces, Begins, BeginsToKeep, Forgets, IsDemandOf, KeepsAll, StayOver, TakesUpFrom}
-use Rattle.clients.specs.Clients.{AreKept, Client, GoOn, IsOver, Keeps, Sessions, held_of, held_under, no_one, of_session, place_of, replies_in}
-use Rattle.clients.proofs.Places.{place_before, place_by_ids, place_came, same_id}
+use Rattle.clients.specs.Calls.{AreAtPlaces, Begins, IsDemandOf}
+use Rattle.clients.specs.Clients.{Client, GoOn, Sessions, held_of, held_under, no_one, of_session, place_of, replies_in}
+use Rattle.clients.proofs.Places.{place_before, place_came, same_id}
 use Rattle.world.specs.Reception.{IsFed}
-use Rattle.world.specs.World.{Goes, IsAccounted, IsOfOneVolume, Remain, Seen, Shows, sent_in}
-use Rattle.world.proofs.Accounts.{client_at, given_up, none_asked, nothing_sent}
+use Rattle.world.specs.World.{AreTakenUp, AskWhatWasSent, Goes, IsOfOneVolume, Remain, Seen, Shows, sent_in}
+use Rattle.world.proofs.Accounts.{none_asked, none_at, taken_up_begun, taken_up_set, taken_up_still}
 use Rattle.world.proofs.Going.{goes_by, goes_nowhere, goes_on, goes_same}
 use Rattle.world.proofs.GoingOn.{go_on_still, remain_at}
 use Rattle.world.proofs.TakingSteps.{WaitsAt, demands_then, shows_demands, waits_at, with_demands}
@@ -86,107 +85,33 @@ go_on_sent a b fed handed asked more goes histories going =
     let later = goes histories going in
     (later.0, later.1, λ id. record { fed = (later.2 id).fed; handed = (later.2 id).handed; asked = (later.2 id).asked; replies = (later.2 id).replies ∙ ap (λ l. (histories id).replies ++ l) (sym (sent_no_replies id more)) })
 
--- ---- what sessions keep
-
--- all that a session keeps is by it
-kept_is_by : (id : SessionId) (clients : List Client) (kept : List (List Held)) (place : ℕ) (held rest : List Held)
-    → place_of id clients ≡ Some place → slice_get kept place ≡ Some held → AreKept clients (set kept place rest) → All (IsBy id) rest
-kept_is_by id clients kept place held rest there here keeps =
-    let (client, got, own) = client_at id clients place there in
-    let (found, at, keeping) = zip_at Keeps clients (set kept place rest) place client keeps got in
-    let same : found ≡ rest = same_Some found rest (sym at ∙ set_there kept place held rest here) in
-    let (asked, holds, are) = subst (Keeps client) same keeping in
-    subst (All (IsBy id)) (sym are) (asked_is_by id client.session.id asked own)
-
--- what is sent to a session is by it
-more_is_by : (id : SessionId) (board : BoardId) (size : ℕ) (ds : List Demand) (held more rest : List Held)
-    → All (IsDemandOf id board size) ds → held ++ more ≡ map held_of ds ++ rest → All (IsBy id) rest → All (IsBy id) more
-more_is_by id board size ds held more rest own whole by =
-    all_behind (IsBy id) held more (subst (All (IsBy id)) (sym whole)
-    (All-append (IsBy id) (map held_of ds) rest (subst (All (IsBy id)) (sym (demands_are_asked id board size ds own)) (asked_is_by id id (map asked_by ds) refl)) by))
-
--- ---- each session asks what its client sent
-
-module _ (id : SessionId) (board : BoardId) (size : ℕ) (ds : List Demand) (old new : List Client) (kept : List (List Held)) (own : All (IsDemandOf id board size) ds) (takes : TakesUpFrom id ds old new kept)
-    (ids : map (λ (c : Client). c.session.id) new ≡ map (λ (c : Client). c.session.id) old) where
-  there_then : place_of id new ≡ Some takes.place
-  there_then = place_by_ids id new old ids ∙ takes.there
-
-  more_by : All (IsBy id) takes.more
-  more_by = more_is_by id board size ds takes.held takes.more takes.rest own takes.whole (kept_is_by id new kept takes.place takes.held takes.rest there_then takes.here takes.keeps)
-
-  own_accounted : IsAccounted (IsOver id new) (get_or kept takes.place []) (sent_in id (map sent_event takes.more)) (map (held_under id) (map asked_by ds)) (get_or (set kept takes.place takes.rest) takes.place [])
-  own_accounted = inl (
-      ap (λ l. l ++ sent_in id (map sent_event takes.more)) (get_or_from_slice_get kept takes.place takes.held [] takes.here)
-      ∙ ap (λ l. takes.held ++ l) (sent_own id takes.more more_by)
-      ∙ takes.whole
-      ∙ ap (λ l. l ++ takes.rest) (demands_are_asked id board size ds own)
-      ∙ ap (λ l. map (held_under id) (map asked_by ds) ++ l) (sym (get_or-set_same kept takes.place takes.rest [] (get_within kept takes.place takes.held takes.here)))
-      )
-
-  other_place : (other : SessionId) (place : ℕ) → eqb id.0 other.0 ≡ false → place_of other new ≡ Some place → place ≢ takes.place
-  other_place other place apart there same =
-      let (client, got, is) = client_at other new place there in
-      let (own, found, mine) = client_at id new takes.place there_then in
-      let one : own ≡ client = same_Some own client (sym found ∙ sym (ap (slice_get new) same) ∙ got) in
-      let equal : id.0 ≡ other.0 = sym mine ∙ ap (λ (c : Client). c.session.id.0) one ∙ is in
-      let no : true ≡ false = sym (eq-eqb id.0 other.0 equal) ∙ apart in
-      absurd (cc)
-
-  pub fed_accounted : (other : SessionId) (place : ℕ) → place_of other new ≡ Some place
-      → IsAccounted (IsOver other new) (get_or kept place []) (sent_in other (map sent_event takes.more)) (map (held_under other) (of_session id (map asked_by ds) other)) (get_or (set kept takes.place takes.rest) place [])
-  fed_accounted other place there = elim (cases_Bool (eqb id.0 other.0)) [
-    | inl own ↦
-        let same : id ≡ other = same_id id other (eqb-true id.0 other.0 own) in
-        let at : takes.place ≡ place = same_Some takes.place place (sym there_then ∙ ap (λ i. place_of i new) same ∙ there) in
-        subst (λ (asked : List Asked). IsAccounted (IsOver other new) (get_or kept place []) (sent_in other (map sent_event takes.more)) (map (held_under other) asked) (get_or (set kept takes.place takes.rest) place []))
-        (sym (cond-true (eqb id.0 other.0) (map asked_by ds) [] own))
-        (subst (λ (i : SessionId). IsAccounted (IsOver i new) (get_or kept place []) (sent_in i (map sent_event takes.more)) (map (held_under i) (map asked_by ds)) (get_or (set kept takes.place takes.rest) place [])) same
-        (subst (λ (p : ℕ). IsAccounted (IsOver id new) (get_or kept p []) (sent_in id (map sent_event takes.more)) (map (held_under id) (map asked_by ds)) (get_or (set kept takes.place takes.rest) p [])) at own_accounted))
-    | inr apart ↦
-        subst (λ (asked : List Asked). IsAccounted (IsOver other new) (get_or kept place []) (sent_in other (map sent_event takes.more)) (map (held_under other) asked) (get_or (set kept takes.place takes.rest) place []))
-        (sym (cond-false (eqb id.0 other.0) (map asked_by ds) [] apart))
-        (subst (λ (sent : List Held). IsAccounted (IsOver other new) (get_or kept place []) sent [] (get_or (set kept takes.place takes.rest) place [])) (sym (sent_by_other id other takes.more apart more_by))
-        (nothing_sent (IsOver other new) (get_or kept place []) (get_or (set kept takes.place takes.rest) place []) (get_or-set_other kept takes.place place takes.rest [] (other_place other place apart there))))
-  ]
-
-  -- no request is sent to another session, or asked by it
-  pub others_silent : (other : SessionId) → eqb id.0 other.0 ≡ false → (sent_in other (map sent_event takes.more) ≡ []) × (of_session id (map asked_by ds) other ≡ [])
-  others_silent other apart = (sent_by_other id other takes.more apart more_by, cond-false (eqb id.0 other.0) (map asked_by ds) [] apart)
-
-  pub not_there_apart : (other : SessionId) → place_of other new ≡ None → eqb id.0 other.0 ≡ false
-  not_there_apart other none = elim (cases_Bool (eqb id.0 other.0)) [
-    | inl own ↦
-        let same : id ≡ other = same_id id other (eqb-true id.0 other.0 own) in
-        let no : Some takes.place ≡ None = sym there_then ∙ ap (λ i. place_of i new) same ∙ none in
-        absurd (cc)
-    | inr apart ↦ apart
-  ]
-
--- a session that takes a piece isn't over
-over_apart : (id other : SessionId) (cs : List Client) (place : ℕ) (client : Client) → place_of id cs ≡ Some place → slice_get cs place ≡ Some client
-    → is_over client.session.phase ≡ false → IsOver other cs → eqb id.0 other.0 ≡ false
-over_apart id other cs place client there here takes over = elim (cases_Bool (eqb id.0 other.0)) [
-  | inl own ↦
-      let same : other ≡ id = sym (same_id id other (eqb-true id.0 other.0 own)) in
-      let is : is_over client.session.phase ≡ true = is_the_client id cs place client (λ c. is_over c.session.phase ≡ true) there here (subst (λ i. IsOver i cs) same over) in
-      let no : true ≡ false = sym is ∙ takes in
-      absurd (cc)
-  | inr apart ↦ apart
-]
+-- what a session asks is what its client sent then, and nobody else sent anything
+fed_sent : (id : SessionId) (board : BoardId) (size : ℕ) (ds : List Demand) → All (IsDemandOf id board size) ds
+    → AskWhatWasSent (of_session id (map asked_by ds)) (map sent_event (map held_of ds))
+fed_sent id board size ds own other =
+    let are = demands_are_asked id board size ds own in
+    let by : All (IsBy id) (map held_of ds) = subst (All (IsBy id)) (sym are) (asked_is_by id id (map asked_by ds) refl) in
+    elim (cases_Bool (eqb id.0 other.0)) [
+      | inl same ↦
+          subst (λ (i : SessionId). sent_in i (map sent_event (map held_of ds)) ≡ map (held_under i) (of_session id (map asked_by ds) i)) (same_id id other (eqb-true id.0 other.0 same))
+          (sent_own id (map held_of ds) by ∙ are
+          ∙ ap (map (held_under id)) (sym (cond-true (eqb id.0 id.0) (map asked_by ds) [] (eq-eqb id.0 id.0 refl))))
+      | inr apart ↦
+          sent_by_other id other (map held_of ds) apart by
+          ∙ ap (map (held_under other)) (sym (cond-false (eqb id.0 other.0) (map asked_by ds) [] apart))
+    ]
 
 -- ---- what happens
 
-module _ (size : ℕ) (v : View) (at : ℕ) (member : Member) (place : ℕ) (held more taken rest : List Held) where
-  -- with requests sent to a session, and the first of those that it has then taken up for a member
+module _ (size : ℕ) (v : View) (at : ℕ) (member : Member) (place : ℕ) (taken : List Held) where
+  -- with requests sent to a session, and taken up for a member
   abbrev taken_up : View
-  taken_up = record (with_demands v at member (member.demands ++ taken)) { kept = set v.kept place rest }
+  taken_up = record (with_demands v at member (member.demands ++ taken)) { kept = set v.kept place [] }
 
-  fed_goes : slice_get v.members at ≡ Some member → slice_get v.kept place ≡ Some held → held ++ more ≡ taken ++ rest
-      → Goes size v taken_up (map sent_event more)
-  fed_goes there here whole = goes_same v taken_up (map sent_event more ++ []) (map sent_event more) (append-nil (map sent_event more))
-      (goes_on v sent taken_up (map sent_event more) []
-      (goes_by RequestsSent v sent (map sent_event more) (record { at = place; kept = held; more = more; here = here; are = refl; shown_are = refl }))
+  fed_goes : slice_get v.members at ≡ Some member → slice_get v.kept place ≡ Some [] → Goes size v taken_up (map sent_event taken)
+  fed_goes there here = goes_same v taken_up (map sent_event taken ++ []) (map sent_event taken) (append-nil (map sent_event taken))
+      (goes_on v sent taken_up (map sent_event taken) []
+      (goes_by RequestsSent v sent (map sent_event taken) (record { at = place; kept = []; more = taken; here = here; are = refl; shown_are = refl }))
       (goes_by RequestsTakenUp sent taken_up [] (
         record {
           above = spot.above;
@@ -194,17 +119,17 @@ module _ (size : ℕ) (v : View) (at : ℕ) (member : Member) (place : ℕ) (hel
           below = spot.below;
           at = place;
           taken = taken;
-          kept = rest;
+          kept = [];
           were = spot.split;
-          here = set_there v.kept place held (held ++ more) here ∙ ap Some whole;
-          are = ap (λ (members : List Member). record v { members = members; kept = set v.kept place rest }) (spot.setting (record member { demands = member.demands ++ taken }))
-              ∙ ap (λ (kept : List (List Held)). record v { members = spot.above ++ record member { demands = member.demands ++ taken } ∷ spot.below; kept = kept }) (sym (set-set v.kept place (held ++ more) rest));
+          here = set_there v.kept place [] taken here ∙ ap Some (sym (append-nil taken));
+          are = ap (λ (members : List Member). record v { members = members; kept = set v.kept place [] }) (spot.setting (record member { demands = member.demands ++ taken }))
+              ∙ ap (λ (kept : List (List Held)). record v { members = spot.above ++ record member { demands = member.demands ++ taken } ∷ spot.below; kept = kept }) (sym (set-set v.kept place taken []));
         },
         refl,
       )))
     where
       sent : View
-      sent = record v { kept = set v.kept place (held ++ more) }
+      sent = record v { kept = set v.kept place taken }
 
       spot : Place v.members at member
       spot = cells.place_of v.members at member there
@@ -225,9 +150,9 @@ come_behind old new id at begins = record {
 -- ---- of the one volume
 
 module _ {S : Type 0} (about : S → About) (keeps : S → List ℕ → Type 0) (may_leave_now : S → List ℕ → Type 0) where
-  -- sessions keep something else, and nothing else changed
+  -- the places of the sessions changed, and nothing else
   shown_keeping : (old : Seen S) (sessions : Sessions) (v : View) (kept : List (List Held)) → Shows about keeps may_leave_now old v
-      → AreKept sessions.clients kept
+      → AreTakenUp sessions.clients kept
       → Shows about keeps may_leave_now (record old { sessions = sessions }) (record v { kept = kept })
   shown_keeping old sessions v kept shows are = record { chain = record { told = shows.chain.told; members = shows.chain.members }; demands = shows.demands; kept = are }
 
@@ -239,65 +164,38 @@ module _ {S : Type 0} (about : S → About) (keeps : S → List ℕ → Type 0) 
     shows = shows;
     goes = goes_nowhere v;
     go_on = go_on_still w.sessions.clients;
-    sent = none_asked w.sessions.clients w.sessions.clients v v (λ id is. is) (λ id place there. nothing_sent (IsOver id w.sessions.clients) (get_or v.kept place []) (get_or v.kept place []) refl);
+    sent = none_asked;
     remain = record { places = λ id place there. there; came = λ id place there. inl there; many = le_refl (length w.sessions.clients); export = refl };
   }
 
-  pub begins_one_volume : (old : Seen S) (sessions : Sessions) → Remain old.sessions sessions → StayOver old.sessions.clients sessions.clients → BeginsToKeep old.sessions.clients sessions.clients
+  pub begins_one_volume : (old : Seen S) (sessions : Sessions) (id : SessionId) (at : ℕ) → Begins id at old.sessions sessions
       → GoOn old.sessions.clients sessions.clients no_one no_one no_one []
       → IsOfOneVolume about keeps may_leave_now no_one no_one old (record old { sessions = sessions })
-  begins_one_volume old sessions stay over begins lawful v s shows stands = record {
+  begins_one_volume old sessions id at begins lawful v s shows stands = record {
     w = record v { kept = insert v.kept (length old.sessions.clients) [] };
     events = [];
     asked = no_one;
-    shows = shown_keeping old sessions v (insert v.kept (length old.sessions.clients) []) shows (begins v.kept shows.kept);
+    shows = shown_keeping old sessions v (insert v.kept (length old.sessions.clients) []) shows
+        (subst (λ (x : Sessions). AreTakenUp x.clients (insert v.kept (length old.sessions.clients) [])) (sym begins.are) (taken_up_begun old.sessions.clients (greeted_client old.sessions id at) v.kept shows.kept));
     goes = goes_by SessionBegins v (record v { kept = insert v.kept (length old.sessions.clients) [] }) [] (length old.sessions.clients, refl, refl);
     go_on = lawful;
-    sent = none_asked old.sessions.clients sessions.clients v (record v { kept = insert v.kept (length old.sessions.clients) [] }) over
-        (λ id place there. nothing_sent (IsOver id sessions.clients) (get_or v.kept place []) (get_or (insert v.kept (length old.sessions.clients) []) place []) (kept_then place));
-    remain = stay;
+    sent = none_asked;
+    remain = come_behind old.sessions sessions id at begins;
   }
-    where
-      none_behind : (kept : List (List Held)) (place : ℕ) → get_or (kept ++ [] ∷ []) place [] ≡ get_or kept place []
-      none_behind [] zero = refl
-      none_behind [] (suc place) = refl
-      none_behind (held ∷ kept) zero = refl
-      none_behind (held ∷ kept) (suc place) = none_behind kept place
 
-      kept_then : (place : ℕ) → get_or (insert v.kept (length old.sessions.clients) []) place [] ≡ get_or v.kept place []
-      kept_then place =
-          ap (λ (n : ℕ). get_or (insert v.kept n []) place []) (sym (AllZip-long Keeps old.sessions.clients v.kept shows.kept))
-          ∙ ap (λ (l : List (List Held)). get_or l place []) (insert_end v.kept [])
-          ∙ none_behind v.kept place
-
-  pub ends_one_volume : (old : Seen S) (sessions : Sessions) (id : SessionId) → Remain old.sessions sessions → StayOver old.sessions.clients sessions.clients → Forgets id old.sessions.clients sessions.clients
-      → GoOn old.sessions.clients sessions.clients no_one no_one no_one []
-      → IsOfOneVolume about keeps may_leave_now no_one no_one old (record old { sessions = sessions })
-  ends_one_volume old sessions id stay over forgets lawful v s shows stands =
-      let gives = forgets v.kept shows.kept in
-      record {
-        w = record v { kept = set v.kept gives.place [] };
-        events = [];
-        asked = no_one;
-        shows = shown_keeping old sessions v (set v.kept gives.place []) shows gives.keeps;
-        goes = goes_by SessionEnds v (record v { kept = set v.kept gives.place [] }) [] (gives.place, refl, refl);
-        go_on = lawful;
-        sent = none_asked old.sessions.clients sessions.clients v (record v { kept = set v.kept gives.place [] }) over (given_up id sessions.clients v.kept gives.place gives.there gives.over);
-        remain = stay;
-      }
-
-  pub hands_one_volume : (old : Seen S) (sessions : Sessions) (handed : SessionId → List ℕ) → Remain old.sessions sessions → StayOver old.sessions.clients sessions.clients → KeepsAll old.sessions.clients sessions.clients
+  -- sessions hand out something or end
+  pub hands_one_volume : (old : Seen S) (sessions : Sessions) (handed : SessionId → List ℕ) → AreAtPlaces old.sessions sessions
       → GoOn old.sessions.clients sessions.clients no_one handed no_one []
       → IsOfOneVolume about keeps may_leave_now no_one handed old (record old { sessions = sessions })
-  hands_one_volume old sessions handed stay over still lawful v s shows stands = record {
+  hands_one_volume old sessions handed places lawful v s shows stands = record {
     w = v;
     events = [];
     asked = no_one;
-    shows = shown_keeping old sessions v v.kept shows (still v.kept shows.kept);
+    shows = shown_keeping old sessions v v.kept shows (taken_up_still old.sessions sessions v.kept places shows.kept);
     goes = goes_nowhere v;
     go_on = lawful;
-    sent = none_asked old.sessions.clients sessions.clients v v over (λ id place there. nothing_sent (IsOver id sessions.clients) (get_or v.kept place []) (get_or v.kept place []) refl);
-    remain = stay;
+    sent = none_asked;
+    remain = remain_at old.sessions sessions places;
   }
 
   pub fed_one_volume : (old : Seen S) (id : SessionId) (piece : List ℕ) (at : ℕ) (queue later : List Demand) (sessions : Sessions)
@@ -305,27 +203,19 @@ module _ {S : Type 0} (about : S → About) (keeps : S → List ℕ → Type 0) 
       → IsOfOneVolume about keeps may_leave_now (of_session id piece) no_one old (record old { sessions = sessions; queues = set old.queues at later })
   fed_one_volume old id piece at queue later sessions here fed v s shows stands = record {
     w = w;
-    events = map sent_event takes.more;
+    events = map sent_event (map held_of fed.demands);
     asked = of_session id (map asked_by fed.demands);
-    shows = record { chain = record { told = shown.told; members = shown.members }; demands = wait_then; kept = takes.keeps };
-    goes = fed_goes (bytes_of old.chain) v at waits.member takes.place takes.held takes.more (map held_of fed.demands) takes.rest waits.here takes.here takes.whole;
-    go_on = go_on_sent old.sessions.clients sessions.clients (of_session id piece) no_one (of_session id (map asked_by fed.demands)) takes.more fed.lawful;
-    sent = record {
-      accounted = fed_accounted id old.sessions.board old.sessions.export.size fed.demands old.sessions.clients sessions.clients v.kept fed.own takes fed.places.ids;
-      over =
-          λ other is.
-          let silent = others_silent id old.sessions.board old.sessions.export.size fed.demands old.sessions.clients sessions.clients v.kept fed.own takes fed.places.ids other
-          (over_apart id other old.sessions.clients fed.did.place fed.did.before fed.did.there fed.did.here fed.did.did.takes_input is) in
-          (fed.over other is, silent.0, silent.1);
-      nobody = λ other none. others_silent id old.sessions.board old.sessions.export.size fed.demands old.sessions.clients sessions.clients v.kept fed.own takes fed.places.ids other
-          (not_there_apart id old.sessions.board old.sessions.export.size fed.demands old.sessions.clients sessions.clients v.kept fed.own takes fed.places.ids other none);
+    shows = record {
+      chain = record { told = shown.told; members = shown.members };
+      demands = wait_then;
+      kept = taken_up_set sessions.clients fed.did.place v.kept (taken_up_still old.sessions sessions v.kept fed.places shows.kept);
     };
+    goes = fed_goes (bytes_of old.chain) v at waits.member fed.did.place (map held_of fed.demands) waits.here (none_at old.sessions.clients fed.did.place fed.did.before v.kept shows.kept fed.did.here);
+    go_on = go_on_sent old.sessions.clients sessions.clients (of_session id piece) no_one (of_session id (map asked_by fed.demands)) (map held_of fed.demands) fed.lawful;
+    sent = fed_sent id old.sessions.board old.sessions.export.size fed.demands fed.own;
     remain = remain_at old.sessions sessions fed.places;
   }
     where
-      takes : TakesUpFrom id fed.demands old.sessions.clients sessions.clients v.kept
-      takes = fed.takes_up v.kept shows.kept
-
       waits : WaitsAt v.members at (map held_of queue)
       waits = waits_at v.members old.queues at queue shows.demands here
 
@@ -333,7 +223,7 @@ module _ {S : Type 0} (about : S → About) (keeps : S → List ℕ → Type 0) 
       held = waits.member.demands ++ map held_of fed.demands
 
       w : View
-      w = taken_up (bytes_of old.chain) v at waits.member takes.place takes.held takes.more (map held_of fed.demands) takes.rest
+      w = taken_up (bytes_of old.chain) v at waits.member fed.did.place (map held_of fed.demands)
 
       shown : chain.Shows about keeps may_leave_now old.chain (with_demands v at waits.member held)
       shown = shows_demands about keeps may_leave_now old.chain v at waits.member held waits.here shows.chain
@@ -354,17 +244,8 @@ module _ {S : Type 0} (about : S → About) (keeps : S → List ℕ → Type 0) 
 
   pub connected_one_volume : {E : Type 0} (w : Seen S) (id : SessionId) (at : ℕ) (sessions : Sessions) (r : Result Bool E)
       → IfOk r (λ begun. begun ≡ true → Begins id at w.sessions sessions)
-      → StayOver w.sessions.clients sessions.clients
-      → IfOk r (λ begun. begun ≡ true → BeginsToKeep w.sessions.clients sessions.clients)
       → IfOk r (λ begun. begun ≡ true → GoOn w.sessions.clients sessions.clients no_one no_one no_one []) → IfOk r (λ begun. begun ≡ false → IsSome (place_of id w.sessions.clients) × (sessions ≡ w.sessions)) → OnErr r (sessions ≡ w.sessions)
       → IsOfOneVolume about keeps may_leave_now no_one no_one w (record w { sessions = sessions })
-  connected_one_volume w id at sessions (Ok true) come over begins lawful known err = begins_one_volume w sessions (come_behind w.sessions sessions id at (come refl)) over (begins refl) (lawful refl)
-  connected_one_volume w id at sessions (Ok false) come over begins lawful known err = unchanged w sessions (known refl).1
-  connected_one_volume w id at sessions (Err e) come over begins lawful known err = unchanged w sessions err
-
-  pub ended_one_volume : {Idle : Type 0} (w : Seen S) (sessions : Sessions) (id : SessionId) (ended : Bool)
-      → AreAtPlaces w.sessions sessions → StayOver w.sessions.clients sessions.clients
-      → (ended ≡ true → Forgets id w.sessions.clients sessions.clients)
-      → GoOn w.sessions.clients sessions.clients no_one no_one no_one [] → (ended ≡ false → Idle × (sessions ≡ w.sessions)) → IsOfOneVolume about keeps may_leave_now no_one no_one w (record w { sessions = sessions })
-  ended_one_volume w sessions id true places over forgets lawful idle = ends_one_volume w sessions id (remain_at w.sessions sessions places) over (forgets refl) lawful
-  ended_one_volume w sessions id false places over forgets lawful idle = unchanged w sessions (idle refl).1
+  connected_one_volume w id at sessions (Ok true) come lawful known err = begins_one_volume w sessions id at (come refl) (lawful refl)
+  connected_one_volume w id at sessions (Ok false) come lawful known err = unchanged w sessions (known refl).1
+  connected_one_volume w id at sessions (Err e) come lawful known err = unchanged w sessions err

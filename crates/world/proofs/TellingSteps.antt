@@ -1,4 +1,4 @@
--- What replies that come to their sessions are, together: what clients see, what sessions keep, and how their histories go on.
+-- What replies that come to their sessions are, together: what clients see, and how the sessions' histories go on.
 use Rattle.std.proofs.Common.{◌≡◌, ℕ, zero, suc, true, false, Bool, List, [], ◌∷◌, ◌++◌, refl, ap, sym, subst, ◌∙◌, inl, inr}
 use Rattle.std.specs.Prelude.{◌⊎◌, ◌==◌, ◌||◌, None, Some, Option, IfSome, get_or, if◌then◌else◌, set}
 use Rattle.std.specs.Option.{option_to_list}
@@ -6,22 +6,14 @@ use Rattle.std.proofs.lemmas.Bool.{cases_Bool}
 use Rattle.std.proofs.lemmas.List.{append_assoc, append-nil}
 use Rattle.flush_barrier.specs.Reply.{GivenReply}
 use Rattle.flush_barrier.specs.declared.session_id.SessionId.{SessionId}
-use Rattle.world_model.specs.Chain.{ArePutOut, View, reply_event}
+use Rattle.world_model.specs.Chain.{ArePutOut, reply_event}
 use Rattle.world_model.specs.Event.{ClientEvent}
-use Rattle.world_model.specs.Life.{SessionEnds}
-use Rattle.world_model.specs.Requests.{Held}
-use Rattle.clients.specs.Calls.{AreAtPlaces, GivesUp, KeepAfter, PutsOut, StayOver, bytes_out}
-use Rattle.clients.proofs.CallSteps.{still_over}
-use Rattle.clients.proofs.Places.{place_by_ids, place_is}
-use Rattle.clients.specs.Clients.{AreKept, Client, GoOn, IsOver, Sessions, no_one, of_session, place_of}
-use Rattle.clients.specs.declared.delivered.Delivered.{Delivered}
-use Rattle.clients.specs.declared.delivered.Delivered.TheVariants.{ToSession, Dropped, OutOfMemory}
+use Rattle.clients.specs.Calls.{AreAtPlaces, PutsOut, bytes_out}
+use Rattle.clients.proofs.Places.{place_is}
+use Rattle.clients.specs.Clients.{GoOn, Sessions, no_one, of_session}
 use Rattle.clients.specs.declared.output.Output.{Output}
 use Rattle.world.specs.Telling.{AreTold, HandsOut, IsTold, Tells, TellsLoss, handed_by, has_room, outputs_of}
 use Rattle.world.specs.declared.told.Told.{Told}
-use Rattle.world.specs.World.{Goes, IsAccounted}
-use Rattle.world.proofs.Accounts.{accounted_then, given_up, nothing_sent}
-use Rattle.world.proofs.Going.{goes_by, goes_nowhere, goes_on}
 use Rattle.world.proofs.GoingOn.{go_on_as, go_on_still, go_on_then}
 
 -- ---- what clients see
@@ -51,79 +43,6 @@ pub told_places : (room lost : Bool) (rs : List GivenReply) (old new : Sessions)
 told_places room lost [] old new outputs events told = subst (AreAtPlaces old) (sym told.0) (places_still old)
 told_places room lost (r ∷ rs) old new outputs events (mid, given, rest, now, later, one, further, first, others, are, seen, loss) =
     places_then old mid new (places_then old first.mid mid first.delivers.places (hands_places room r.session given first.mid mid first.hands)) (told_places room further rs mid new rest later others)
-
--- ---- what sessions keep
-
--- what sessions keep then: as before, or nothing, where one is over
-pub record KeepsThen (size : ℕ) (v : View) (new : List Client) : Type 0 where
-  pub kept : List (List Held)
-  pub are : AreKept new kept
-  pub goes : Goes size v (record v { kept = kept }) []
-  pub each : (id : SessionId) (place : ℕ) → place_of id new ≡ Some place → IsAccounted (IsOver id new) (get_or v.kept place []) [] [] (get_or kept place [])
-
-keeps_still : (size : ℕ) (v : View) (new : List Client) → AreKept new v.kept → KeepsThen size v new
-keeps_still size v new are = record {
-  kept = v.kept;
-  are = are;
-  goes = goes_nowhere v;
-  each = λ id place there. nothing_sent (IsOver id new) (get_or v.kept place []) (get_or v.kept place []) refl;
-}
-
-keeps_less : (size : ℕ) (v : View) (id : SessionId) (new : List Client) → GivesUp id new v.kept → KeepsThen size v new
-keeps_less size v id new gives = record {
-  kept = set v.kept gives.place [];
-  are = gives.keeps;
-  goes = goes_by SessionEnds v (record v { kept = set v.kept gives.place [] }) [] (gives.place, refl, refl);
-  each = given_up id new v.kept gives.place gives.there gives.over;
-}
-
-keeps_then : (size : ℕ) (v : View) (mid new : Sessions) → StayOver mid.clients new.clients → AreAtPlaces mid new → (one : KeepsThen size v mid.clients) → KeepsThen size (record v { kept = one.kept }) new.clients
-    → KeepsThen size v new.clients
-keeps_then size v mid new over places one two = record {
-  kept = two.kept;
-  are = two.are;
-  goes = goes_on v (record v { kept = one.kept }) (record v { kept = two.kept }) [] [] one.goes two.goes;
-  each =
-      λ id place there. accounted_then (get_or v.kept place []) [] [] (get_or one.kept place []) [] [] (get_or two.kept place []) (λ is. (over id is, refl, refl))
-      (one.each id place (place_by_ids id mid.clients new.clients (sym places.ids) ∙ there)) (two.each id place there);
-}
-
-hands_keep : (room : Bool) (id : SessionId) (given : Option Output) (old new : Sessions) (kept : List (List Held)) → HandsOut room id given old new → AreKept old.clients kept → AreKept new.clients kept
-hands_keep true id given old new kept hands are = hands.keeps kept are
-hands_keep false id given old new kept (none, same) are = subst (λ s. AreKept s.clients kept) (sym same) are
-
-hands_over : (room : Bool) (id : SessionId) (given : Option Output) (old new : Sessions) → HandsOut room id given old new → StayOver old.clients new.clients
-hands_over true id given old new hands = hands.over
-hands_over false id given old new (none, same) = still_over old.clients new.clients (ap (λ (s : Sessions). s.clients) same)
-
-one_over : (room lost : Bool) (r : GivenReply) (old new : Sessions) (given : Option Output) (now : List ClientEvent) → IsTold room lost r old new given now → StayOver old.clients new.clients
-one_over room lost r old new given now told id is = hands_over room r.session given told.mid new told.hands id (told.delivers.over id is)
-
-pub told_over : (room lost : Bool) (rs : List GivenReply) (old new : Sessions) (outputs : List Output) (events : List ClientEvent) → AreTold room lost rs old new outputs events → StayOver old.clients new.clients
-told_over room lost [] old new outputs events told = still_over old.clients new.clients (ap (λ (s : Sessions). s.clients) told.0)
-told_over room lost (r ∷ rs) old new outputs events (mid, given, rest, now, later, one, further, first, others, are, seen, loss) =
-    λ id is. told_over room further rs mid new rest later others id (one_over room one r old mid given now first id is)
-
-one_keeps : (size : ℕ) (room lost : Bool) (r : GivenReply) (old new : Sessions) (given : Option Output) (now : List ClientEvent) (v : View) → IsTold room lost r old new given now → AreKept old.clients v.kept → KeepsThen size v new.clients
-one_keeps size room lost r old new given now v told are = by_case told.came (told.delivers.keeps v.kept are)
-  where
-    by_case : (came : Delivered) → KeepAfter came r.session told.mid.clients v.kept → KeepsThen size v new.clients
-    by_case ToSession keeps = keeps_still size v new.clients (hands_keep room r.session given told.mid new v.kept told.hands keeps)
-    by_case Dropped keeps = keeps_still size v new.clients (hands_keep room r.session given told.mid new v.kept told.hands keeps)
-    by_case OutOfMemory gives = keeps_less size v r.session new.clients (record {
-      place = gives.place;
-      there = place_by_ids r.session new.clients told.mid.clients (hands_places room r.session given told.mid new told.hands).ids ∙ gives.there;
-      over = hands_over room r.session given told.mid new told.hands r.session gives.over;
-      keeps = hands_keep room r.session given told.mid new (set v.kept gives.place []) told.hands gives.keeps;
-    })
-
-pub told_keeps : (size : ℕ) (room lost : Bool) (rs : List GivenReply) (old new : Sessions) (outputs : List Output) (events : List ClientEvent) (v : View)
-    → AreTold room lost rs old new outputs events → AreKept old.clients v.kept → KeepsThen size v new.clients
-told_keeps size room lost [] old new outputs events v told are = keeps_still size v new.clients (subst (λ s. AreKept s.clients v.kept) (sym told.0) are)
-told_keeps size room lost (r ∷ rs) old new outputs events v (mid, given, rest, now, later, one, further, first, others, is, seen, loss) are =
-    let keeps = one_keeps size room one r old mid given now v first are in
-    keeps_then size v mid new (told_over room further rs mid new rest later others) (told_places room further rs mid new rest later others) keeps
-    (told_keeps size room further rs mid new rest later (record v { kept = keeps.kept }) others keeps.are)
 
 -- ---- how histories go on
 

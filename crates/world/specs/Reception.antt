@@ -3,7 +3,7 @@ use Rattle.std.specs.Prelude.{◌≡◌, ℕ, Option, Some, None, Result, Ok, Er
 use Rattle.flush_barrier.specs.declared.session_id.SessionId.{SessionId}
 use Rattle.nbd_session.specs.Demand.{asked_by}
 use Rattle.nbd_session.specs.declared.demand.Demand.{Demand}
-use Rattle.clients.specs.Calls.{AreAtPlaces, Changes, IsDemandOf, StayOver, TakesPiece, TakesUp, bytes_out}
+use Rattle.clients.specs.Calls.{AreAtPlaces, Changes, IsDemandOf, StayOver, TakesPiece, bytes_out}
 use Rattle.clients.specs.Clients.{GoOn, Sessions, no_one, of_session}
 use Rattle.clients.specs.declared.output.Output.{Output}
 use Rattle.world.specs.World.{Seen}
@@ -22,13 +22,12 @@ pub record Feeds {S : Type 0} (id : SessionId) (piece : List ℕ) (old new : See
   pub here : slice_get old.queues at ≡ Some queue
   pub are : new ≡ record old { sessions = new.sessions; queues = slice_set old.queues at (queue ++ demands) }
 
--- The session took the piece, in the model too, and what it asks waits behind what was in the queue.
+-- The session took the piece, its history goes on by it, and what it asks waits behind what was in the queue.
 pub record IsFed (id : SessionId) (piece : List ℕ) (old new : Sessions) (queue later : List Demand) : Type 0 where
   pub at : ℕ
   pub demands : List Demand
   pub did : Changes id old new (TakesPiece piece at demands)
   pub own : All (IsDemandOf id old.board old.export.size) demands
-  pub takes_up : TakesUp id demands old.clients new.clients
   pub over : StayOver old.clients new.clients
   pub places : AreAtPlaces old new
   pub lawful : GoOn old.clients new.clients (of_session id piece) no_one (of_session id (map asked_by demands)) []

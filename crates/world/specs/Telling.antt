@@ -6,7 +6,7 @@ use Rattle.flush_barrier.specs.Reply.{GivenReply}
 use Rattle.flush_barrier.specs.declared.session_id.SessionId.{SessionId}
 use Rattle.world_model.specs.Event.{ClientEvent}
 use Rattle.chain.specs.Chain.{Chained}
-use Rattle.clients.specs.Calls.{AreAtPlaces, Delivers, KeepsAll, PutsOut, StayOver, bytes_out}
+use Rattle.clients.specs.Calls.{AreAtPlaces, Delivers, PutsOut, StayOver, bytes_out}
 use Rattle.clients.specs.Clients.{GoOn, Sessions, no_one, of_session}
 use Rattle.clients.specs.declared.delivered.Delivered.{Delivered}
 use Rattle.clients.specs.declared.delivered.Delivered.TheVariants.{ToSession, Dropped, OutOfMemory}
@@ -21,7 +21,6 @@ pub record IsHandedOut (id : SessionId) (given : Option Output) (old new : Sessi
   pub own : IfSome given (λ o. o.session.0 ≡ id.0)
   pub places : AreAtPlaces old new
   pub over : StayOver old.clients new.clients
-  pub keeps : KeepsAll old.clients new.clients
   pub go_on : GoOn old.clients new.clients no_one (of_session id (bytes_out given)) no_one []
 
 -- what waits for the session is handed out where there is room for it, and waits on where there is none

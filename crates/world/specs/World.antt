@@ -1,5 +1,5 @@
 -- What contracts see of a world, what holds of every one, and when a call of it is of the one volume.
-use Rattle.std.specs.Prelude.{◌≡◌, ◌⊎◌, ℕ, ◌<◌, ◌≤◌, ◌==◌, None, Some, List, [], ◌∷◌, ◌++◌, All, if◌then◌else◌, get_or, length, map}
+use Rattle.std.specs.Prelude.{◌≡◌, ◌⊎◌, ℕ, ◌<◌, ◌≤◌, ◌==◌, None, Some, List, [], ◌∷◌, ◌++◌, All, if◌then◌else◌, length, map}
 use Rattle.std.specs.List.{flat_map}
 use Rattle.board.specs.Seats.{BoardId}
 use Rattle.flush_barrier.specs.declared.session_id.SessionId.{SessionId}
@@ -13,7 +13,7 @@ use Rattle.world_model.specs.Machine.{State}
 use Rattle.world_model.specs.Requests.{Held}
 use Rattle.chain.specs.Chain.{Chained, bytes_of}
 use Rattle.chain.specs.Chain as chain
-use Rattle.clients.specs.Clients.{AreKept, Client, GoOn, IsOver, Sessions, held_of, held_under, place_of}
+use Rattle.clients.specs.Clients.{Client, GoOn, Sessions, held_of, held_under, place_of}
 
 -- A world: its chain, the sessions of its clients, and for each member, by place, the demands of its sessions that it hasn't taken.
 pub record Seen (S : Type 0) : Type 0 where
@@ -36,11 +36,16 @@ pub record IsJoined {S : Type 0} (w : Seen S) : Type 0 where
   pub queues : length w.queues ≡ length w.chain.members
   pub demands : All (All (IsOfVolume w.chain.id (bytes_of w.chain))) w.queues
 
--- The world is shown so: its chain, the demands that wait for each member, and what each session keeps.
+-- Each session has its place in the model, where no request waits: one counts as sent once its session asks it, and is taken up then.
+pub record AreTakenUp (clients : List Client) (kept : List (List Held)) : Type 0 where
+  pub many : length kept ≡ length clients
+  pub none : All (λ held. held ≡ []) kept
+
+-- The world is shown so: its chain, the demands that wait for each member, and a place for each session.
 pub record Shows {S : Type 0} (about : S → About) (keeps : S → List ℕ → Type 0) (may_leave_now : S → List ℕ → Type 0) (w : Seen S) (v : View) : Type 0 where
   pub chain : chain.Shows about keeps may_leave_now w.chain v
   pub demands : map (λ m. m.demands) v.members ≡ map (map held_of) w.queues
-  pub kept : AreKept w.sessions.clients v.kept
+  pub kept : AreTakenUp w.sessions.clients v.kept
 
 -- nothing waits for a member of it, and it has no sessions
 pub record HasNoClients (v : View) : Type 0 where
@@ -65,18 +70,9 @@ sent_by id (Answered session cookie outcome) = []
 abbrev pub sent_in : SessionId → List ClientEvent → List Held
 sent_in id events = flat_map (sent_by id) events
 
--- what a session kept, with what was sent since, is what it asked since, with what it keeps; or it is over, and gave up the rest
-abbrev pub IsAccounted : (over : Type 0) → (kept sent asked rest : List Held) → Type 0
-IsAccounted over kept sent asked rest =
-    (kept ++ sent ≡ asked ++ rest) ⊎ (over × (rest ≡ []) × (lost : List Held) × (kept ++ sent ≡ asked ++ lost))
-
--- Each session asks what its client sent, in order, each once, and nothing else. One that is over stays so: nothing is sent to it or
--- asked by it any more. Nor is anything where there is no session.
-pub record AskWhatWasSent (old new : List Client) (v w : View) (asked : SessionId → List Asked) (events : List ClientEvent) : Type 0 where
-  pub accounted : (id : SessionId) (place : ℕ) → place_of id new ≡ Some place
-      → IsAccounted (IsOver id new) (get_or v.kept place []) (sent_in id events) (map (held_under id) (asked id)) (get_or w.kept place [])
-  pub over : (id : SessionId) → IsOver id old → IsOver id new × (sent_in id events ≡ []) × (asked id ≡ [])
-  pub nobody : (id : SessionId) → place_of id new ≡ None → (sent_in id events ≡ []) × (asked id ≡ [])
+-- Each session asks what its client sent, in order, each once, and nothing else.
+abbrev pub AskWhatWasSent : (asked : SessionId → List Asked) → List ClientEvent → Type 0
+AskWhatWasSent asked events = (id : SessionId) → sent_in id events ≡ map (held_under id) (asked id)
 
 -- each session that was there keeps its place, others come behind, and the export is the same
 pub record Remain (old new : Sessions) : Type 0 where
@@ -96,7 +92,7 @@ pub record HappensSo {S : Type 0} (about : S → About) (keeps : S → List ℕ 
   pub shows : Shows about keeps may_leave_now new w
   pub goes : Goes (bytes_of old.chain) v w events
   pub go_on : GoOn old.sessions.clients new.sessions.clients fed handed asked events
-  pub sent : AskWhatWasSent old.sessions.clients new.sessions.clients v w asked events
+  pub sent : AskWhatWasSent asked events
   pub remain : Remain old.sessions new.sessions
 
 -- Whatever state of the one volume the world stood for, what the call did can happen in such a world.

@@ -14,7 +14,6 @@ returns c = (
       own = own_output c.session-session.result c.put_out.result c.reply.new.self c.put_out.new.self c.put_out.ensures.out;
       places = c.put_out.ensures.places;
       over = c.put_out.ensures.stay_over;
-      keeps = c.put_out.ensures.keeps;
       go_on = c.put_out.ensures.lawful;
     });
   },
