@@ -11,7 +11,7 @@ use Rattle.world.specs.Reception.{fed_in, given_to}
 use Rattle.world.specs.Telling.{handed_by, handed_if, handed_in, handed_some, outputs_of}
 use Rattle.world.specs.World.{IsOfOneVolume, Seen}
 use Rattle.world.specs.declared.told.Told.{Told}
-use Rattle.world.proofs.Accounts.{none_asked, nothing_sent}
+use Rattle.world.proofs.Accounts.{none_asked}
 use Rattle.world.proofs.Going.{goes_nowhere}
 use Rattle.world.proofs.GoingOn.{go_on_as, go_on_still}
 use Rattle.life.specs.Played.{fed_to, handed_of, told_in, tried_in, went_in}
@@ -88,7 +88,7 @@ still about keeps may_leave_now w v s shows stands = record {
   shows = shows;
   goes = goes_nowhere v;
   go_on = go_on_still w.sessions.clients;
-  sent = none_asked w.sessions.clients w.sessions.clients v v (λ id is. is) (λ id place there. nothing_sent (IsOver id w.sessions.clients) (get_or v.kept place []) (get_or v.kept place []) refl);
+  sent = none_asked;
   remain = record { places = λ id place there. there; came = λ id place there. inl there; many = le_refl (length w.sessions.clients); export = refl };
 }
 

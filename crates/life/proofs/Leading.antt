@@ -1,11 +1,11 @@
 -- One deed, and one era, behind others: lemmas.
-use Rattle.std.proofs.Common.{ℕ, List, [], ◌∷◌, ◌++◌, refl, subst}
+use Rattle.std.proofs.Common.{◌≡◌, ℕ, List, [], ◌∷◌, ◌++◌, length, refl, subst, arith}
 use Rattle.disk_model.specs.declared.memory.MemDisk.{MemDisk}
 use Rattle.local_store.specs.About.{About}
 use Rattle.volume.specs.declared.geometry.Geometry.{Geometry}
 use Rattle.world.specs.World.{Seen}
 use Rattle.life.specs.Does.{DoesDeed}
-use Rattle.life.specs.Plays.{DeedsLead, EraLeads, ErasLead, IsPlayed}
+use Rattle.life.specs.Plays.{DeedsLead, EraLeads, ErasLead, HasMetStop, IsPlayed}
 use Rattle.life.specs.declared.answer.Answer.{Answer}
 use Rattle.life.specs.declared.era.Answers.{Answers}
 use Rattle.life.specs.declared.era.Deed.{Deed}
@@ -26,12 +26,22 @@ module _ {S : Type 0} (premise : Type 0) (about : S → About) (keeps : S → Li
   OneEra = EraLeads premise about keeps is_pending may_leave_now moment left_since failures disk
 
   -- one deed more
-  pub leads_more : (deeds : List Deed) (answers : List Answer) (old mid new : Seen S) (deed : Deed) (answer : Answer) → Lead deeds answers old mid → Does deed answer mid new
-      → Lead (deeds ++ deed ∷ []) (answers ++ answer ∷ []) old new
-  leads_more [] [] old mid new deed answer leads did = (new, subst (λ w. Does deed answer w new) leads did, refl)
-  leads_more [] (a ∷ answers) old mid new deed answer leads did = absurd leads
-  leads_more (d ∷ deeds) [] old mid new deed answer leads did = absurd leads
-  leads_more (d ∷ deeds) (a ∷ answers) old mid new deed answer (next, first, later) did = (next, first, leads_more deeds answers next mid new deed answer later did)
+  pub leads_more : (deeds : List Deed) (answers : List Answer) (old mid new : Seen S) (deed : Deed) (answer : Answer) → length answers ≡ length deeds → Lead deeds answers old mid
+      → Does deed answer mid new → (HasMetStop new → ⊥) → Lead (deeds ++ deed ∷ []) (answers ++ answer ∷ []) old new
+  leads_more [] [] old mid new deed answer many leads did runs = (new, subst (λ w. Does deed answer w new) leads did, runs, refl)
+  leads_more [] (a ∷ answers) old mid new deed answer many leads did runs = absurd leads
+  leads_more (d ∷ deeds) [] old mid new deed answer many leads did runs = absurd (omega (arith, many))
+  leads_more (d ∷ deeds) (a ∷ answers) old mid new deed answer many (next, first, on, later) did runs =
+      (next, first, on, leads_more deeds answers next mid new deed answer (omega (arith, many)) later did runs)
+
+  -- and one in which a stop was met, whatever deeds were to come
+  pub leads_to_stop : (deeds : List Deed) (answers : List Answer) (old mid new : Seen S) (deed : Deed) (answer : Answer) (rest : List Deed) → length answers ≡ length deeds → Lead deeds answers old mid
+      → Does deed answer mid new → HasMetStop new → Lead (deeds ++ deed ∷ rest) answers old new
+  leads_to_stop [] [] old mid new deed answer rest many leads did met = (answer, subst (λ w. Does deed answer w new) leads did, met)
+  leads_to_stop [] (a ∷ answers) old mid new deed answer rest many leads did met = absurd leads
+  leads_to_stop (d ∷ deeds) [] old mid new deed answer rest many leads did met = absurd (omega (arith, many))
+  leads_to_stop (d ∷ deeds) (a ∷ answers) old mid new deed answer rest many (next, first, on, later) did met =
+      (next, first, on, leads_to_stop deeds answers next mid new deed answer rest (omega (arith, many)) later did met)
 
   -- one era more
   pub eras_more : (eras : List Era) (answers : List Answers) (old mid new : Seen S) (era : Era) (these : Answers) → Eras eras answers old mid → OneEra era these.items.items mid new

@@ -6,3 +6,4 @@ mod Owners
 pub mod Passing
 mod Returning
 pub mod Starting
+mod Stops

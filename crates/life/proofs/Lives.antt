@@ -4,12 +4,14 @@ use Rattle.std.specs.Prelude.{◌==◌, ◌*◌, All, None, Option, Some, fold, 
 use Rattle.std.specs.List.{AllZip}
 use Rattle.std.proofs.lemmas.Bool.{eqb-true}
 use Rattle.std.proofs.lemmas.Grind.{flat_map-append}
-use Rattle.std.proofs.lemmas.List.{append-nil}
+use Rattle.std.proofs.lemmas.List.{append_assoc, append-nil}
 use Rattle.std.proofs.lemmas.List.Quantifiers.{position-Some}
 use Rattle.flush_barrier.specs.declared.session_id.SessionId.{SessionId}
 use Rattle.local_store.specs.About.{About, meaning_with}
 use Rattle.local_store.specs.Meaning.{Meaning, Means}
+use Rattle.nbd_session.specs.Demand.{Asked}
 use Rattle.nbd_session.specs.Lawful.{History, IsLawful, nothing}
+use Rattle.nbd_session.specs.Replies.{WireReply}
 use Rattle.nbd_session.specs.declared.answer.Export.{Export}
 use Rattle.version_table.specs.Held.{writes_upto}
 use Rattle.volume.specs.Writes.{patched, volume_of}
@@ -20,16 +22,15 @@ use Rattle.world_model.specs.ChainLaws.{FirstChain, IsBeginning, RestartsChain, 
 use Rattle.world_model.specs.Event.{ClientEvent}
 use Rattle.world_model.specs.Life.{HappeningsAreOfOneVolume}
 use Rattle.world_model.specs.Machine.{May, Restart, State, after, shown, start}
-use Rattle.world_model.specs.Requests.{Held}
 use Rattle.chain.specs.Chain.{bytes_of}
 use Rattle.chain.specs.Member.{IsShown, Linked}
 use Rattle.chain.proofs.Cells.{place_of as cell_of, twin_of}
-use Rattle.clients.specs.Clients.{AllGo, AreKept, AreSessions, Client, Extends, IsOf, Sessions, held_under, place_of, replies_in}
+use Rattle.clients.specs.Clients.{AllGo, AreSessions, Client, Extends, IsOf, Sessions, no_one, place_of, replies_in}
 use Rattle.clients.specs.Laws.{FirstHasNone, IsLawfulFor, OutputsAreLawful}
 use Rattle.clients.proofs.Places.{same_id}
-use Rattle.world.specs.World.{HappensSo, IsJoined, IsOfOneVolume, Seen, Shows, sent_in}
+use Rattle.world.specs.World.{HappensSo, IsJoined, IsOfOneVolume, Seen, Shows}
 use Rattle.life.specs.Begun.{BeginsWith, export_of}
-use Rattle.life.specs.Headline.{IsLawfulEra, IsLawfulSession, IsOneLife, IsSent, RestartsBetween, Trace, fed_in, handed_in, told_in}
+use Rattle.life.specs.Headline.{IsLawfulEra, IsLawfulSession, IsOneLife, RestartsBetween, Trace, fed_in, handed_in, told_in}
 use Rattle.life.specs.Lived.{Continues, IsFresh, Lives}
 use Rattle.life.specs.declared.era.Answers.{Answers}
 use Rattle.life.specs.declared.era.Era.{Era}
@@ -54,6 +55,18 @@ zip_more [] (b ∷ ys) x y same = absurd (omega (arith, same))
 zip_more (a ∷ xs) [] x y same = absurd (omega (arith, same))
 zip_more (a ∷ xs) (b ∷ ys) x y same = ap (λ l. (a, b) ∷ l) (zip_more xs ys x y (omega (arith, same)))
 
+zip_none : {A B : Type 0} (xs : List A) (ys : List B) → ys ≡ [] → zip xs ys ≡ []
+zip_none [] ys none = refl
+zip_none (x ∷ xs) [] none = refl
+zip_none (x ∷ xs) (y ∷ ys) none = absurd (cc)
+
+-- what has no partner doesn't count
+pub zip_less : {A B : Type 0} (xs : List A) (ys : List B) (more : List A) → length ys ≡ length xs → zip (xs ++ more) ys ≡ zip xs ys
+zip_less [] [] more same = zip_none more [] refl
+zip_less [] (b ∷ ys) more same = absurd (omega (arith, same))
+zip_less (a ∷ xs) [] more same = absurd (omega (arith, same))
+zip_less (a ∷ xs) (b ∷ ys) more same = ap (λ l. (a, b) ∷ l) (zip_less xs ys more (omega (arith, same)))
+
 -- ---- the machine
 
 pub restarts_more : (size : ℕ) (s t : State) (eras : List (List ClientEvent)) (era : List ClientEvent) (u : State) → RestartsBetween size s eras t → RestartsBetween size t (era ∷ []) u
@@ -66,6 +79,10 @@ restarts_more size s t (e ∷ eras) era u (moves, end, front, on, seen, may, res
 -- no session was there before
 none_before : (histories : SessionId → History) → AllGo [] histories → (id : SessionId) → histories id ≡ nothing
 none_before histories all id = all.none id refl
+
+first_none : (xs ys : List ℕ) → xs ++ ys ≡ [] → xs ≡ []
+first_none [] ys none = refl
+first_none (x ∷ xs) ys none = absurd (cc)
 
 -- what went out to each session is lawful
 lawful_in : (sessions : Sessions) (later : SessionId → History) → OutputsAreLawful → AllGo sessions.clients later → AreSessions sessions
@@ -88,31 +105,31 @@ lawful_in sessions later lawful all are id = by_place (place_of id sessions.clie
         inr (ap (λ h. h.fed) is, ap (λ h. h.handed) is, ap (λ h. h.asked) is, ap (λ h. h.replies) is)
     by_place (Some place) there = at_place sessions.clients place there (lawful sessions.clients later all) are.own
 
+-- nor does it matter that the last of it didn't go out
+lawful_less : (export : Export) (fed handed dropped : List ℕ) (asked : List Asked) (replies : List WireReply) → IsLawfulSession export fed (handed ++ dropped) asked replies → IsLawfulSession export fed handed asked replies
+lawful_less export fed handed dropped asked replies (inl (waits, is)) = inl (dropped ++ waits, subst (λ to. IsLawful export fed to asked replies) (append_assoc handed dropped waits) is)
+lawful_less export fed handed dropped asked replies (inr (none, out, unasked, silent)) = inr (none, first_none handed dropped out, unasked, silent)
+
 -- what a history became that was nothing
 was_nothing : {A : Type 0} (xs ys more : List A) → xs ≡ ys ++ more → ys ≡ [] → xs ≡ more
 was_nothing xs ys more is none = is ∙ ap (λ l. l ++ more) none
 
--- where there are no sessions, nothing is kept
-none_kept : (cs : List Client) (kept : List (List Held)) → cs ≡ [] → AreKept cs kept → kept ≡ []
-none_kept [] [] none are = refl
-none_kept [] (held ∷ kept) none are = absurd are
-none_kept (c ∷ cs) kept none are = absurd (cc)
-
 module _ {S : Type 0} (about : S → About) (keeps : S → List ℕ → Type 0) (may_leave_now : S → List ℕ → Type 0) where
   -- an era of sessions that all began in it
-  pub era_lawful : (old new : Seen S) (told : Trace) (v : View) (one : HappensSo about keeps may_leave_now old new (fed_in told) (handed_in told) v) → FirstHasNone → OutputsAreLawful
-      → old.sessions.clients ≡ [] → v.kept ≡ [] → AreSessions new.sessions → IsLawfulEra new.sessions.export told one.events
-  era_lawful old new told v one first lawful none kept are = record {
+  pub era_lawful : (old new : Seen S) (told : Trace) (dropped : SessionId → List ℕ) (v : View) (one : HappensSo about keeps may_leave_now old new (fed_in told) (λ id. handed_in told id ++ dropped id) v) → FirstHasNone → OutputsAreLawful
+      → old.sessions.clients ≡ [] → AreSessions new.sessions → IsLawfulEra new.sessions.export told one.events
+  era_lawful old new told dropped v one first lawful none are = record {
     asked = one.asked;
     lawful = λ id.
         let ext = extends id in
         let h = later id in
         let fed = was_nothing h.fed [] (fed_in told id) ext.fed refl in
-        let handed = was_nothing h.handed [] (handed_in told id) ext.handed refl in
+        let handed = was_nothing h.handed [] (handed_in told id ++ dropped id) ext.handed refl in
         let asked = was_nothing h.asked [] (one.asked id) ext.asked refl in
         let replies = was_nothing h.replies [] (replies_in id one.events) ext.replies refl in
-        rw (← fed, ← handed, ← asked, ← replies) (lawful_in new.sessions later lawful all are id);
-    sent = λ id. by_place id (place_of id new.sessions.clients) refl;
+        lawful_less new.sessions.export (fed_in told id) (handed_in told id) (dropped id) (one.asked id) (replies_in id one.events)
+        (rw (← fed, ← handed, ← asked, ← replies) (lawful_in new.sessions later lawful all are id));
+    sent = one.sent;
   }
     where
       going : AllGo old.sessions.clients (λ id. nothing)
@@ -124,20 +141,8 @@ module _ {S : Type 0} (about : S → About) (keeps : S → List ℕ → Type 0) 
       all : AllGo new.sessions.clients later
       all = (one.go_on (λ id. nothing) going).1
 
-      extends : (id : SessionId) → Extends nothing (later id) (fed_in told id) (handed_in told id) (one.asked id) (replies_in id one.events)
+      extends : (id : SessionId) → Extends nothing (later id) (fed_in told id) (handed_in told id ++ dropped id) (one.asked id) (replies_in id one.events)
       extends = (one.go_on (λ id. nothing) going).2
-
-      by_place : (id : SessionId) (place : Option ℕ) → place_of id new.sessions.clients ≡ place → IsSent id (sent_in id one.events) (one.asked id)
-      by_place id None there =
-          let silent = one.sent.nobody id there in
-          ([], silent.0 ∙ ap (λ l. map (held_under id) l ++ []) (sym silent.1))
-      by_place id (Some place) there =
-          let none_kept : get_or v.kept place [] ≡ [] = ap (λ l. get_or l place []) kept in
-          let behind : get_or v.kept place [] ++ sent_in id one.events ≡ sent_in id one.events = ap (λ l. l ++ sent_in id one.events) none_kept in
-          elim (one.sent.accounted id place there) [
-            | inl are ↦ (get_or one.w.kept place [], sym behind ∙ are)
-            | inr (over, none, lost, are) ↦ (lost, sym behind ∙ are)
-          ]
 
   -- ---- a cut
 
@@ -168,6 +173,7 @@ module _ {S : Type 0} (about : S → About) (keeps : S → List ℕ → Type 0) 
           stands = did.1;
           no_clients = begun.no_clients;
           has = begun.export ∙ sizes;
+          runs = begun.runs;
         },
       )
     where
@@ -182,25 +188,24 @@ module _ {S : Type 0} (about : S → About) (keeps : S → List ℕ → Type 0) 
 
   pub era_continues : HappeningsAreOfOneVolume → RestartsChain → FirstHasNone → OutputsAreLawful
       → ((one other : Meaning) (bytes : List ℕ) → Means one bytes → Means other bytes → one ≡ other)
-      → (old mid new : Seen S) (told : Trace) (at : ℕ) (m : Linked S) (c : List ℕ) (meaning : Meaning) → IsJoined old → IsJoined mid → AreSessions mid.sessions
-      → IsOfOneVolume about keeps may_leave_now (fed_in told) (handed_in told) old mid
+      → (old mid new : Seen S) (told : Trace) (dropped : SessionId → List ℕ) (at : ℕ) (m : Linked S) (c : List ℕ) (meaning : Meaning) → IsJoined old → IsJoined mid → AreSessions mid.sessions
+      → IsOfOneVolume about keeps may_leave_now (fed_in told) (λ id. handed_in told id ++ dropped id) old mid
       → slice_get mid.chain.members at ≡ Some m → may_leave_now m.node.store c → Means meaning c
       → export_of meaning.geometry ≡ export_of mid.chain.geometry
       → BeginsWith about keeps may_leave_now meaning.geometry meaning.front meaning.volume new
       → Continues about keeps may_leave_now told old new
-  era_continues happenings restarts first lawful one_meaning old mid new told at m c meaning joined joined_then are pass here left means sizes begun export s fresh =
+  era_continues happenings restarts first lawful one_meaning old mid new told dropped at m c meaning joined joined_then are pass here left means sizes begun export s fresh =
       let size : export.size ≡ bytes_of old.chain = ap (λ e. e.size) (sym fresh.has) ∙ joined.size in
       let stands = subst (λ n. StandsFor n fresh.view s) size fresh.stands in
       let one = pass fresh.view s fresh.shows stands in
       let plays = goes_plays happenings (bytes_of old.chain) fresh.view one.w one.events one.goes s stands in
       let stays : bytes_of mid.chain ≡ bytes_of old.chain = sym joined_then.size ∙ ap (λ e. e.size) one.remain.export ∙ joined.size in
-      let kept : fresh.view.kept ≡ [] = none_kept old.sessions.clients fresh.view.kept fresh.no_clients fresh.shows.kept in
       let rec_ = recovers restarts mid one.w plays.1 at m c meaning new one_meaning one.shows (subst (λ n. StandsFor n one.w plays.1) (sym stays) plays.4) here left means sizes begun in
       let exported : mid.sessions.export ≡ export = one.remain.export ∙ fresh.has in
       let again : export_of mid.chain.geometry ≡ export = exported_as mid joined_then ∙ exported in
       record {
         events = one.events;
-        lawful = subst (λ e. IsLawfulEra e told one.events) exported (era_lawful old mid told fresh.view one first lawful fresh.no_clients kept are);
+        lawful = subst (λ e. IsLawfulEra e told one.events) exported (era_lawful old mid told dropped fresh.view one first lawful fresh.no_clients are);
         moves = plays.0;
         end = plays.1;
         front = rec_.0;
@@ -227,6 +232,20 @@ module _ {S : Type 0} (about : S → About) (keeps : S → List ℕ → Type 0) 
       handed_one : SessionId → Deed × Answer → List ℕ
       handed_one id one = handed_by one.0 one.1 id
 
+  -- one deed more, in which a stop was met: what it told is dropped
+  pub pass_to_stop : HappeningsAreOfOneVolume → (old mid new : Seen S) → IsJoined old → IsJoined mid → (told : Trace) (deed : Deed) (answer : Answer) → ((id : SessionId) → fed_by deed answer id ≡ [])
+      → IsOfOneVolume about keeps may_leave_now (fed_in told) (handed_in told) old mid → IsOfOneVolume about keeps may_leave_now (fed_by deed answer) (handed_by deed answer) mid new
+      → IsOfOneVolume about keeps may_leave_now (fed_in told) (λ id. handed_in told id ++ handed_by deed answer id) old new
+  pass_to_stop law old mid new joined joined_then told deed answer unfed first one =
+      pass_as about keeps may_leave_now old new (λ id. fed_in told id ++ fed_by deed answer id) (fed_in told) (λ id. handed_in told id ++ handed_by deed answer id) (λ id. handed_in told id ++ handed_by deed answer id)
+      (λ id. ap (λ l. fed_in told id ++ l) (unfed id) ∙ append-nil (fed_in told id)) (λ id. refl)
+      (passes_then about keeps may_leave_now law old mid new joined joined_then (fed_in told) (fed_by deed answer) (handed_in told) (handed_by deed answer) first one)
+
+  -- nothing is dropped where none was met
+  pub pass_whole : (old new : Seen S) (told : Trace) → IsOfOneVolume about keeps may_leave_now (fed_in told) (handed_in told) old new
+      → IsOfOneVolume about keeps may_leave_now (fed_in told) (λ id. handed_in told id ++ no_one id) old new
+  pass_whole old new told one = pass_as about keeps may_leave_now old new (fed_in told) (fed_in told) (handed_in told) (λ id. handed_in told id ++ no_one id) (λ id. refl) (λ id. sym (append-nil (handed_in told id))) one
+
   pub begins_life : FirstChain → (geometry : Geometry) (w : Seen S) → BeginsWith about keeps may_leave_now geometry 0 (volume_of (4096 * geometry.blocks) []) w
       → Lives about keeps may_leave_now (4096 * geometry.blocks) (export_of geometry) [] w
   begins_life first geometry w begun = record {
@@ -234,7 +253,7 @@ module _ {S : Type 0} (about : S → About) (keeps : S → List ℕ → Type 0) 
     lawful = tt;
     end = start;
     runs = refl;
-    fresh = record { view = begun.view; shows = begun.shows; stands = first (4096 * geometry.blocks) begun.view begun.begins; no_clients = begun.no_clients; has = begun.export };
+    fresh = record { view = begun.view; shows = begun.shows; stands = first (4096 * geometry.blocks) begun.view begun.begins; no_clients = begun.no_clients; has = begun.export; runs = begun.runs };
   }
 
   pub lives_on : (export : Export) (eras : List Trace) (told : Trace) (old new : Seen S) → Lives about keeps may_leave_now export.size export eras old → Continues about keeps may_leave_now told old new

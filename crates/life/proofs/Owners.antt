@@ -333,7 +333,7 @@ module _ {S : Type 0} (about : S → About) where
     connects id at (Ok false) old new is = ap (λ w. w.chain) (is.known refl).1
     connects id at (Err error) old new is = ap (λ w. w.chain) is.err
 
-    takes_in : (id : SessionId) (piece : List ℕ) (given : Option (Result (Unit {0}) sessions.Refusal)) (old new : Seen S) → TakesIn id piece given old new → new.chain ≡ old.chain
+    pub takes_in : (id : SessionId) (piece : List ℕ) (given : Option (Result (Unit {0}) sessions.Refusal)) (old new : Seen S) → TakesIn id piece given old new → new.chain ≡ old.chain
     takes_in id piece None old new is = ap (λ w. w.chain) is.none.1
     takes_in id piece (Some (Ok fed)) old new is = ap (λ w. w.chain) is.fed.are
     takes_in id piece (Some (Err refusal)) old new is = ap (λ w. w.chain) is.err
@@ -359,5 +359,5 @@ module _ {S : Type 0} (about : S → About) where
       pub deeds_stay : (deeds : List Deed) (answers : List Answer) (old new : Seen S) → DeedsLead premise about keeps is_pending may_leave_now moment left_since failures disk deeds answers old new → StayOwn old.chain new.chain
       deeds_stay [] [] old new same = stay_same old.chain new.chain (ap (λ w. w.chain) same)
       deeds_stay [] (a ∷ answers) old new leads = absurd leads
-      deeds_stay (d ∷ deeds) [] old new leads = absurd leads
-      deeds_stay (d ∷ deeds) (a ∷ answers) old new (mid, did, later) = stay_then old.chain mid.chain new.chain (deed_stays d a old mid did) (deeds_stay deeds answers mid new later)
+      deeds_stay (d ∷ deeds) [] old new (answer, did, met) = deed_stays d answer old new did
+      deeds_stay (d ∷ deeds) (a ∷ answers) old new (mid, did, runs, later) = stay_then old.chain mid.chain new.chain (deed_stays d a old mid did) (deeds_stay deeds answers mid new later)

@@ -2,20 +2,19 @@
 use Rattle.std.proofs.Common.{◌≡◌, ℕ, zero, suc, List, [], ◌∷◌, ◌++◌, length, refl, ap, sym, subst, ◌∙◌, inl, inr, arith}
 use Rattle.std.specs.Prelude.{◌≤◌, None, Option, Some, get_or, map}
 use Rattle.std.proofs.lemmas.Grind.{flat_map-append}
-use Rattle.std.proofs.lemmas.List.{append_assoc, append-nil, map-append}
-use Rattle.std.proofs.lemmas.Slice.Zip.{AllZip-long}
+use Rattle.std.proofs.lemmas.List.{map-append}
 use Rattle.flush_barrier.specs.declared.session_id.SessionId.{SessionId}
 use Rattle.local_store.specs.About.{About}
 use Rattle.world_model.specs.Chain.{StandsFor, View}
 use Rattle.world_model.specs.Event.{ClientEvent}
 use Rattle.world_model.specs.Life.{Era, Happening, HappeningsAreOfOneVolume, all_events}
 use Rattle.world_model.specs.Machine.{Plays}
-use Rattle.world_model.specs.Requests.{Held}
+use Rattle.nbd_session.specs.Demand.{Asked}
 use Rattle.world_model.specs.Runs.{plays_nothing, plays_then}
 use Rattle.chain.specs.Chain.{bytes_of}
-use Rattle.clients.specs.Clients.{IsOver, Keeps, Sessions, held_under, no_one, place_of}
-use Rattle.world.specs.World.{AskWhatWasSent, Goes, HappensSo, IsAccounted, IsJoined, IsOfOneVolume, Remain, Seen, Shows, sent_by, sent_in}
-use Rattle.world.proofs.Accounts.{accounted_then, none_asked, nothing_sent}
+use Rattle.clients.specs.Clients.{Sessions, held_under, no_one, place_of}
+use Rattle.world.specs.World.{AskWhatWasSent, Goes, IsJoined, IsOfOneVolume, Remain, Seen, sent_by, sent_in}
+use Rattle.world.proofs.Accounts.{none_asked}
 use Rattle.world.proofs.Going.{goes_nowhere, goes_on}
 use Rattle.world.proofs.GoingOn.{go_on_as, go_on_still, go_on_then}
 
@@ -32,20 +31,6 @@ era_plays law size (h ∷ hs) v w each (mid, now, later, are, happens, then) =
 pub goes_plays : HappeningsAreOfOneVolume → (size : ℕ) (v w : View) (events : List ClientEvent) → Goes size v w events → Plays size (StandsFor size v) (StandsFor size w) events
 goes_plays law size v w events goes = subst (Plays size (StandsFor size v) (StandsFor size w)) goes.all (era_plays law size goes.happenings v w goes.each goes.era)
 
--- ---- what sessions ask
-
--- nothing is kept behind the last
-none_kept : (kept : List (List Held)) (place : ℕ) → length kept ≤ place → get_or kept place [] ≡ []
-none_kept [] place beyond = refl
-none_kept (held ∷ kept) zero beyond = absurd (omega (arith, beyond))
-none_kept (held ∷ kept) (suc place) beyond = none_kept kept place (omega (arith, beyond))
-
-none_at_all : (a b c d : List Held) → a ≡ [] → b ≡ [] → c ≡ [] → d ≡ [] → a ++ b ≡ c ++ d
-none_at_all a b c d no_a no_b no_c no_d = ap (λ l. l ++ b) no_a ∙ no_b ∙ sym no_d ∙ ap (λ l. l ++ d) (sym no_c)
-
-none_both : {A : Type 0} (a b : List A) → a ≡ [] → b ≡ [] → a ++ b ≡ []
-none_both a b no_a no_b = ap (λ l. l ++ b) no_a ∙ no_b
-
 module _ {S : Type 0} (about : S → About) (keeps : S → List ℕ → Type 0) (may_leave_now : S → List ℕ → Type 0) where
   pub none_pass : (w : Seen S) → IsOfOneVolume about keeps may_leave_now no_one no_one w w
   none_pass w v s shows stands = record {
@@ -55,7 +40,7 @@ module _ {S : Type 0} (about : S → About) (keeps : S → List ℕ → Type 0) 
     shows = shows;
     goes = goes_nowhere v;
     go_on = go_on_still w.sessions.clients;
-    sent = none_asked w.sessions.clients w.sessions.clients v v (λ id is. is) (λ id place there. nothing_sent (IsOver id w.sessions.clients) (get_or v.kept place []) (get_or v.kept place []) refl);
+    sent = none_asked;
     remain = record { places = λ id place there. there; came = λ id place there. inl there; many = omega arith; export = refl };
   }
 
@@ -82,47 +67,13 @@ module _ {S : Type 0} (about : S → About) (keeps : S → List ℕ → Type 0) 
     size_stays : Remain old.sessions mid.sessions → bytes_of mid.chain ≡ bytes_of old.chain
     size_stays remain = sym joined_then.size ∙ ap (λ e. e.size) remain.export ∙ joined.size
 
-    module _ (v : View) (shows : Shows about keeps may_leave_now old v) (one : HappensSo about keeps may_leave_now old mid fed handed v) (two : HappensSo about keeps may_leave_now mid new fed2 handed2 one.w) where
-      sent_both : (id : SessionId) → sent_in id (one.events ++ two.events) ≡ sent_in id one.events ++ sent_in id two.events
-      sent_both id = flat_map-append (sent_by id) one.events two.events
-
-      asked_both : (id : SessionId) → map (held_under id) (one.asked id ++ two.asked id) ≡ map (held_under id) (one.asked id) ++ map (held_under id) (two.asked id)
-      asked_both id = map-append (held_under id) (one.asked id) (two.asked id)
-
-      each_accounted : (id : SessionId) (place : ℕ) → place_of id new.sessions.clients ≡ Some place
-          → IsAccounted (IsOver id new.sessions.clients) (get_or v.kept place []) (sent_in id one.events ++ sent_in id two.events) (map (held_under id) (one.asked id) ++ map (held_under id) (two.asked id)) (get_or two.w.kept place [])
-      each_accounted id place there = elim (two.remain.came id place there) [
-        | inl was ↦ accounted_then (get_or v.kept place []) (sent_in id one.events) (map (held_under id) (one.asked id)) (get_or one.w.kept place []) (sent_in id two.events) (map (held_under id) (two.asked id)) (get_or two.w.kept place [])
-            (λ over. let still = two.sent.over id over in (still.0, still.1, ap (map (held_under id)) still.2))
-            (one.sent.accounted id place was) (two.sent.accounted id place there)
-        | inr (none, beyond) ↦
-            let silent = one.sent.nobody id none in
-            let long = AllZip-long Keeps old.sessions.clients v.kept shows.kept in
-            let long_then = AllZip-long Keeps mid.sessions.clients one.w.kept one.shows.kept in
-            accounted_then {over = ⊥} (get_or v.kept place []) (sent_in id one.events) (map (held_under id) (one.asked id)) (get_or one.w.kept place []) (sent_in id two.events) (map (held_under id) (two.asked id)) (get_or two.w.kept place [])
-            (λ over. absurd over)
-            (inl (none_at_all (get_or v.kept place []) (sent_in id one.events) (map (held_under id) (one.asked id)) (get_or one.w.kept place [])
-            (none_kept v.kept place (omega (arith, long, one.remain.many, beyond))) silent.0 (ap (map (held_under id)) silent.1) (none_kept one.w.kept place (omega (arith, long_then, beyond)))))
-            (two.sent.accounted id place there)
-      ]
-
-      sent_then : AskWhatWasSent old.sessions.clients new.sessions.clients v two.w (λ id. one.asked id ++ two.asked id) (one.events ++ two.events)
-      sent_then = record {
-        accounted =
-            λ id place there.
-            subst (λ l. IsAccounted (IsOver id new.sessions.clients) (get_or v.kept place []) l (map (held_under id) (one.asked id ++ two.asked id)) (get_or two.w.kept place [])) (sym (sent_both id))
-            (subst (λ l. IsAccounted (IsOver id new.sessions.clients) (get_or v.kept place []) (sent_in id one.events ++ sent_in id two.events) l (get_or two.w.kept place [])) (sym (asked_both id)) (each_accounted id place there));
-        over =
-            λ id over.
-            let first = one.sent.over id over in
-            let then = two.sent.over id first.0 in
-            (then.0, sent_both id ∙ none_both (sent_in id one.events) (sent_in id two.events) first.1 then.1, none_both (one.asked id) (two.asked id) first.2 then.2);
-        nobody =
-            λ id none.
-            let first = one.sent.nobody id (not_before mid.sessions new.sessions two.remain id (place_of id mid.sessions.clients) refl none) in
-            let then = two.sent.nobody id none in
-            (sent_both id ∙ none_both (sent_in id one.events) (sent_in id two.events) first.0 then.0, none_both (one.asked id) (two.asked id) first.1 then.1);
-      }
+    sent_then : (asked asked2 : SessionId → List Asked) (events events2 : List ClientEvent) → AskWhatWasSent asked events → AskWhatWasSent asked2 events2
+        → AskWhatWasSent (λ id. asked id ++ asked2 id) (events ++ events2)
+    sent_then asked asked2 events events2 one two id =
+        flat_map-append (sent_by id) events events2
+        ∙ ap (λ l. l ++ sent_in id events2) (one id)
+        ∙ ap (λ l. map (held_under id) (asked id) ++ l) (two id)
+        ∙ sym (map-append (held_under id) (asked id) (asked2 id))
 
     pub passes_then : IsOfOneVolume about keeps may_leave_now fed handed old mid → IsOfOneVolume about keeps may_leave_now fed2 handed2 mid new
         → IsOfOneVolume about keeps may_leave_now (λ id. fed id ++ fed2 id) (λ id. handed id ++ handed2 id) old new
@@ -138,7 +89,7 @@ module _ {S : Type 0} (about : S → About) (keeps : S → List ℕ → Type 0) 
           shows = two.shows;
           goes = goes_on v one.w two.w one.events two.events one.goes (subst (λ n. Goes n one.w two.w two.events) size two.goes);
           go_on = go_on_then old.sessions.clients mid.sessions.clients new.sessions.clients fed fed2 handed handed2 one.asked two.asked one.events two.events one.go_on two.go_on;
-          sent = sent_then v shows one two;
+          sent = sent_then one.asked two.asked one.events two.events one.sent two.sent;
           remain = remain_then old.sessions mid.sessions new.sessions one.remain two.remain;
         }
 

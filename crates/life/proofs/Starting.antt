@@ -1,5 +1,5 @@
 -- Stores that make a chain: lemmas.
-use Rattle.std.proofs.Common.{◌≡◌, ℕ, ◌*◌, replicate, ◌<◌, ◌≤◌, List, [], ◌∷◌, length, map, get_or, ap, sym, subst, ◌∙◌, arith}
+use Rattle.std.proofs.Common.{◌≡◌, ℕ, ◌*◌, replicate, ◌<◌, ◌≤◌, List, [], ◌∷◌, length, map, get_or, refl, ap, sym, subst, ◌∙◌, arith}
 use Rattle.std.specs.Prelude.{◌≢◌, All, IfSome, IsSome, None, slice_get, slice_index_or}
 use Rattle.std.specs.List.{AllPairs, range_with_len}
 use Rattle.std.proofs.lemmas.List.{get_or-map, length-map}
@@ -107,9 +107,10 @@ pub world_begins : {S : Type 0} (about : S → About) (keeps : S → List ℕ �
     → ((volume : List ℕ) → All (λ s. keeps s volume) stores → (v : View) × chain.Shows about keeps may_leave_now c v × IsBeginning c.words.front volume v)
     → w.chain ≡ c → w.sessions ≡ record { board = c.id; export = export_of c.geometry; clients = [] }
     → ((v : View) → chain.Shows about keeps may_leave_now c v → HasNoClients v → Shows about keeps may_leave_now w v)
+    → c.members ≡ map (beginning_of about c.id told) stores
     → IfSome (slice_get stores 0) (λ first. (volume : List ℕ) → All (λ s. keeps s volume) stores → BeginsWith about keeps may_leave_now (about first).geometry (about first).front volume w)
-world_begins about keeps may_leave_now [] told c w sizes words begins is sessions shows = tt
-world_begins about keeps may_leave_now (x ∷ xs) told c w sizes words begins is sessions shows = λ volume all.
+world_begins about keeps may_leave_now [] told c w sizes words begins is sessions shows members = tt
+world_begins about keeps may_leave_now (x ∷ xs) told c w sizes words begins is sessions shows members = λ volume all.
     let (v, shown, begun) = begins volume all in
     record {
       view = v;
@@ -118,6 +119,7 @@ world_begins about keeps may_leave_now (x ∷ xs) told c w sizes words begins is
       sizes = ap (λ y. y.geometry) is ∙ sizes;
       export = ap (λ (s : Sessions). s.export) sessions ∙ ap export_of sizes;
       no_clients = ap (λ (s : Sessions). s.clients) sessions;
+      runs = subst (All (λ m. m.node.state.stopped ≡ None)) (sym (ap (λ y. y.members) is ∙ members)) (all_mapped (λ m. m.node.state.stopped ≡ None) (beginning_of about c.id told) (x ∷ xs) (λ k d within. refl));
     }
 
 -- its members' disks are those of the stores

@@ -1,5 +1,5 @@
 -- A world that begins, and what its disks are after a cut.
-use Rattle.std.specs.Prelude.{◌≡◌, ℕ, ◌*◌, ◌<◌, ◌≤◌, false, All, List, [], length}
+use Rattle.std.specs.Prelude.{◌≡◌, ℕ, ◌*◌, ◌<◌, ◌≤◌, false, All, List, [], None, length}
 use Rattle.disk_model.specs.Disk.{Only}
 use Rattle.disk_model.specs.Memory.{given_of, may_be_left}
 use Rattle.disk_model.specs.declared.memory.MemDisk.{MemDisk}
@@ -20,7 +20,11 @@ export_of geometry = record { size = 4096 * geometry.blocks; max_payload = geome
 abbrev pub first_about : Geometry → ℕ → About
 first_about geometry slot = record { slot = slot; incarnation = 1; geometry = geometry; front = 0; used = 0; stores = 1; broken = false }
 
--- The world begins at this front with this volume, and has no clients.
+-- every member runs
+abbrev pub AllRun : {S : Type 0} → Seen S → Type 0
+AllRun w = All (λ m. m.node.state.stopped ≡ None) w.chain.members
+
+-- The world begins at this front with this volume, has no clients, and all its members run.
 pub record BeginsWith {S : Type 0} (about : S → About) (keeps : S → List ℕ → Type 0) (may_leave_now : S → List ℕ → Type 0) (geometry : Geometry) (front : ℕ) (volume : List ℕ) (w : Seen S) : Type 0 where
   pub view : View
   pub shows : Shows about keeps may_leave_now w view
@@ -28,6 +32,7 @@ pub record BeginsWith {S : Type 0} (about : S → About) (keeps : S → List ℕ
   pub sizes : w.chain.geometry ≡ geometry
   pub export : w.sessions.export ≡ export_of geometry
   pub no_clients : w.sessions.clients ≡ []
+  pub runs : AllRun w
 
 -- the disk holds a content that a stop may leave of the store's, and nothing else any more
 pub record IsCutFrom {S : Type 0} (may_leave_now : S → List ℕ → Type 0) (store : S) (disk : MemDisk) : Type 0 where

@@ -11,7 +11,6 @@ use Rattle.nbd_session.specs.declared.answer.Export.{Export}
 use Rattle.clients.specs.Clients.{held_under, replies_in}
 use Rattle.world_model.specs.Event.{ClientEvent}
 use Rattle.world_model.specs.Machine.{May, Move, Restart, RunsOn, State, after, shown, start}
-use Rattle.world_model.specs.Requests.{Held}
 use Rattle.world.specs.World.{sent_in}
 use Rattle.life.specs.Played.{fed_by, handed_by}
 use Rattle.life.specs.declared.answer.Answer.{Answer}
@@ -45,16 +44,12 @@ IsLawfulSession export fed handed asked replies =
     ((waits : List ℕ) × IsLawful export fed (handed ++ waits) asked replies)
     ⊎ ((fed ≡ []) × (handed ≡ []) × (asked ≡ []) × (replies ≡ []))
 
--- what a client sent is what its session asked, in that order, each once, and behind that what the session didn't come to
-abbrev pub IsSent : SessionId → (sent : List Held) → List Asked → Type 0
-IsSent id sent asked = (left : List Held) × (sent ≡ map (held_under id) asked ++ left)
-
--- An era whose clients saw these events: each session was lawful, with the replies that the events show, and asked what they show as sent
--- by its client.
+-- An era whose clients saw these events: each session was lawful, with the replies that the events show; and what they show as sent by
+-- its client is what the session asked, in that order, each once, and nothing else.
 pub record IsLawfulEra (export : Export) (told : Trace) (events : List ClientEvent) : Type 0 where
   pub asked : SessionId → List Asked
   pub lawful : (id : SessionId) → IsLawfulSession export (fed_in told id) (handed_in told id) (asked id) (replies_in id events)
-  pub sent : (id : SessionId) → IsSent id (sent_in id events) (asked id)
+  pub sent : (id : SessionId) → sent_in id events ≡ map (held_under id) (asked id)
 
 -- ---- the one volume
 

@@ -7,15 +7,17 @@ use Rattle.world_model.specs.Chain.{StandsFor, View}
 use Rattle.world_model.specs.Event.{ClientEvent}
 use Rattle.world_model.specs.Machine.{May, Move, Restart, RunsOn, State, after, shown, start}
 use Rattle.world.specs.World.{Seen, Shows}
+use Rattle.life.specs.Begun.{AllRun}
 use Rattle.life.specs.Headline.{IsLawfulEra, RestartsBetween, Trace}
 
--- The world stands for this state of the machine, and has no clients.
+-- The world stands for this state of the machine, has no clients, and all its members run.
 pub record IsFresh {S : Type 0} (about : S → About) (keeps : S → List ℕ → Type 0) (may_leave_now : S → List ℕ → Type 0) (size : ℕ) (export : Export) (w : Seen S) (s : State) : Type 0 where
   pub view : View
   pub shows : Shows about keeps may_leave_now w view
   pub stands : StandsFor size view s
   pub no_clients : w.sessions.clients ≡ []
   pub has : w.sessions.export ≡ export
+  pub runs : AllRun w
 
 -- an era was lawful, one run of the machine without a restart shows it, and then the machine restarts
 pub record Continued {S : Type 0} (about : S → About) (keeps : S → List ℕ → Type 0) (may_leave_now : S → List ℕ → Type 0) (size : ℕ) (export : Export) (told : Trace) (s : State) (new : Seen S) : Type 0 where

@@ -1,7 +1,10 @@
 -- How a life is played: each deed does what it names, one after another, and era by era the chain goes on from one disk.
 use Rattle.std.specs.Prelude.{◌≡◌, ℕ, ◌*◌, Some, List, [], ◌∷◌, length, slice_get}
 use Rattle.std.specs.List.{AllZip}
+use Rattle.chain.specs.Member.{Linked}
+use Rattle.chain_steps.specs.declared.cause.Cause.TheVariants.{Device}
 use Rattle.disk_model.specs.Memory.{given_of}
+use Rattle.disk_model.specs.declared.error.DiskError.TheVariants.{Stopped}
 use Rattle.disk_model.specs.declared.memory.MemDisk.{MemDisk}
 use Rattle.local_store.specs.About.{About}
 use Rattle.local_store.specs.Meaning.{Meaning, Means}
@@ -15,15 +18,23 @@ use Rattle.life.specs.declared.era.Answers.{Answers}
 use Rattle.life.specs.declared.era.Deed.{Deed}
 use Rattle.life.specs.declared.era.Era.{Era}
 
+-- a device call met its stop: the member whose disk it was has stopped for that
+pub record HasMetStop {S : Type 0} (w : Seen S) : Type 0 where
+  pub at : ℕ
+  pub member : Linked S
+  pub here : slice_get w.chain.members at ≡ Some member
+  pub stopped : member.node.state.stopped ≡ Some (Device Stopped)
+
 module _ {S : Type 0} (premise : Type 0) (about : S → About) (keeps : S → List ℕ → Type 0) (is_pending : S → ℕ → Type 0) (may_leave_now : S → List ℕ → Type 0) (moment : S → ℕ)
     (left_since : S → ℕ → List ℕ → Type 0) (failures : S → ℕ) (disk : S → MemDisk) where
-  -- these deeds lead from the one world to the other, each with its answer
+  -- These deeds lead from the one world to the other, each with its answer; or one of them is the last, in which a device call met its stop,
+  -- and that one has no answer.
   abbrev pub DeedsLead : List Deed → List Answer → Seen S → Seen S → Type 0
   DeedsLead [] [] old new = new ≡ old
   DeedsLead [] (answer ∷ answers) old new = ⊥
-  DeedsLead (deed ∷ deeds) [] old new = ⊥
+  DeedsLead (deed ∷ deeds) [] old new = (answer : Answer) × DoesDeed premise about keeps is_pending may_leave_now moment left_since failures disk deed answer old new × HasMetStop new
   DeedsLead (deed ∷ deeds) (answer ∷ answers) old new =
-      (mid : Seen S) × DoesDeed premise about keeps is_pending may_leave_now moment left_since failures disk deed answer old mid × DeedsLead deeds answers mid new
+      (mid : Seen S) × DoesDeed premise about keeps is_pending may_leave_now moment left_since failures disk deed answer old mid × (HasMetStop mid → ⊥) × DeedsLead deeds answers mid new
 
   -- Everything stopped, and the chain goes on alone from the member's disk at the place: with what that means.
   pub record GoesOnFrom (returned : ℕ) (old new : Seen S) : Type 0 where

@@ -1,7 +1,8 @@
 //! Whole lives.
-ghost use Rattle.std.specs.Prelude.{◌≡◌, ◌*◌, ◌<◌, ◌≤◌, IfErr, IfOk, IfSome, Some, length, slice_get, zip};
+ghost use Rattle.std.specs.Prelude.{◌≡◌, ◌*◌, ◌<◌, ◌≤◌, ◌↔◌, ◌++◌, ℕ, IfErr, IfOk, IfSome, IsTrue, List, Some, length, slice_get, zip};
 ghost use Rattle.clients.specs.Clients.{no_one};
 ghost use Rattle.disk_model.specs.Memory.{given_of};
+ghost use Rattle.flush_barrier.specs.declared.session_id.SessionId.{SessionId};
 ghost use Rattle.disk_model.specs.declared.memory.MemDisk.{MemDisk};
 ghost use Rattle.local_store.specs.Meaning.{Meaning, Means};
 ghost use Rattle.std.specs.List.{AllZip};
@@ -14,7 +15,7 @@ ghost use Rattle.world_model.specs.Chain.{StandsFor, View};
 ghost use Rattle.world_model.specs.Machine.{State};
 ghost use Rattle.life.specs.Does.{DoesDeed, IsArmed};
 ghost use Rattle.life.specs.Played.{fed_by, handed_by};
-ghost use Rattle.life.specs.Plays.{DeedsLead, EraLeads, IsPlayed};
+ghost use Rattle.life.specs.Plays.{DeedsLead, EraLeads, HasMetStop, IsPlayed};
 ghost use Rattle.world.specs.World.{IsOfOneVolume, Shows};
 
 use crate::answer::Answer;
@@ -24,8 +25,9 @@ use crate::era::{Answers, Deed, Era};
 use crate::playing::play;
 use crate::recovering::recover;
 use crate::refusal::Refusal;
+use chain_steps::Cause;
 use clients::sessions_are_lawful;
-use disk_model::{Event, MemDisk};
+use disk_model::{DiskError, Event, MemDisk};
 use local_store::{Store, StoreLike, disks_mean_one};
 use std::alloc::{AllocError, Global};
 use volume::Geometry;
@@ -44,13 +46,14 @@ pub struct Lived {
 }
 
 /// A chain of so many members, 1 to 8, lives through these eras. It begins over new disks, with a volume of zeros. In each era its
-/// deeds are played, one after another; then everything stops, and the chain goes on from one member's disk.
+/// deeds are played, one after another, until a device call meets its stop; then everything stops, and the chain goes on from one
+/// member's disk. The deed in which a stop was met has no answer any more, and no deed behind it is played.
 ///
 /// 192 `NotInChain` where an era returns a place that is none; 100 `Memory`; and what the disks refuse.
 pub fn live(alloc: Global, geometry: Geometry, members: u8, eras: &[Era]) -> Result<Lived, Refusal>
     requires some { 0 < members }
     requires few { members ≤ 8 }
-    ensures all { IfOk result (λ lived. AllZip (λ era answers. length answers.items.items ≡ length era.deeds.items) eras.now lived.answers.items) }
+    ensures all { IfOk result (λ lived. AllZip (λ era answers. length answers.items.items ≤ length era.deeds.items) eras.now lived.answers.items) }
     ensures plays { IfOk result (λ lived. IsPlayed ⟦<Store<MemDisk> as StoreLike>⟧.keeps_model ⟦<Store<MemDisk> as StoreLike>⟧.about ⟦<Store<MemDisk> as StoreLike>⟧.keeps ⟦<Store<MemDisk> as StoreLike>⟧.is_pending ⟦<Store<MemDisk> as StoreLike>⟧.may_leave_now
         ⟦<Store<MemDisk> as StoreLike>⟧.moment ⟦<Store<MemDisk> as StoreLike>⟧.may_have_left_since ⟦<Store<MemDisk> as StoreLike>⟧.failures (λ s. s.disk)
         geometry members eras.now lived.answers.items lived.world) }
@@ -78,7 +81,7 @@ fn live_era(
     requires fresh { (export : Export) × (s : State) × IsFresh ⟦<Store<MemDisk> as StoreLike>⟧.about ⟦<Store<MemDisk> as StoreLike>⟧.keeps ⟦<Store<MemDisk> as StoreLike>⟧.may_leave_now export.size export world s }
     requires disks { AreOnDisks ⟦<Store<MemDisk> as StoreLike>⟧.about world }
     ensures disks { IfOk result (λ lived. AreOnDisks ⟦<Store<MemDisk> as StoreLike>⟧.about lived.1) }
-    ensures all { IfOk result (λ lived. length lived.0.items ≡ length era.now.deeds.items) }
+    ensures all { IfOk result (λ lived. length lived.0.items ≤ length era.now.deeds.items) }
     ensures plays { IfOk result (λ lived. EraLeads ⟦<Store<MemDisk> as StoreLike>⟧.keeps_model ⟦<Store<MemDisk> as StoreLike>⟧.about ⟦<Store<MemDisk> as StoreLike>⟧.keeps ⟦<Store<MemDisk> as StoreLike>⟧.is_pending ⟦<Store<MemDisk> as StoreLike>⟧.may_leave_now
         ⟦<Store<MemDisk> as StoreLike>⟧.moment ⟦<Store<MemDisk> as StoreLike>⟧.may_have_left_since ⟦<Store<MemDisk> as StoreLike>⟧.failures (λ s. s.disk)
         era.now lived.0.items world lived.1) }
@@ -105,27 +108,44 @@ fn live_era(
     Ok((told, next))
 }
 
-/// Plays the deeds of an era, one after another.
+/// Plays the deeds of an era, one after another, up to one in which a device call meets its stop; what that one told is dropped.
 fn play_all(
     alloc: Global,
     world: &mut World<Store<MemDisk>>,
     deeds: &[Deed],
 ) -> Result<Vec<Answer>, AllocError>
-    ensures all { IfOk result (λ answers. length answers.items ≡ length deeds.now) }
+    requires { HasMetStop world.old → ⊥ }
+    ensures all { IfOk result (λ answers. length answers.items ≤ length deeds.now) }
     ensures plays { IfOk result (λ answers. DeedsLead ⟦<Store<MemDisk> as StoreLike>⟧.keeps_model ⟦<Store<MemDisk> as StoreLike>⟧.about ⟦<Store<MemDisk> as StoreLike>⟧.keeps ⟦<Store<MemDisk> as StoreLike>⟧.is_pending ⟦<Store<MemDisk> as StoreLike>⟧.may_leave_now
         ⟦<Store<MemDisk> as StoreLike>⟧.moment ⟦<Store<MemDisk> as StoreLike>⟧.may_have_left_since ⟦<Store<MemDisk> as StoreLike>⟧.failures (λ s. s.disk)
         deeds.now answers.items world.old world.new) }
-    ensures pass { IfOk result (λ answers. IsOfOneVolume ⟦<Store<MemDisk> as StoreLike>⟧.about ⟦<Store<MemDisk> as StoreLike>⟧.keeps ⟦<Store<MemDisk> as StoreLike>⟧.may_leave_now
-        (fed_in (zip deeds.now answers.items)) (handed_in (zip deeds.now answers.items)) world.old world.new) }
+    ensures pass { IfOk result (λ answers. (dropped : SessionId → List ℕ) × IsOfOneVolume ⟦<Store<MemDisk> as StoreLike>⟧.about ⟦<Store<MemDisk> as StoreLike>⟧.keeps ⟦<Store<MemDisk> as StoreLike>⟧.may_leave_now
+        (fed_in (zip deeds.now answers.items)) (λ id. handed_in (zip deeds.now answers.items) id ++ dropped id) world.old world.new) }
 {
     lives_are_of_one_volume();
     world.sound();
     let mut answers = Vec::with_capacity(alloc, deeds.len())?;
     for deed in deeds {
         world.sound();
-        answers.push_reserved(play_deed(alloc, world, deed));
+        let answer = play_deed(alloc, world, deed);
+        if has_met_stop(world) {
+            return Ok(answers);
+        }
+        answers.push_reserved(answer);
     }
     Ok(answers)
+}
+
+/// Whether a device call met its stop.
+fn has_met_stop(world: &World<Store<MemDisk>>) -> bool
+    ensures { IsTrue result ↔ HasMetStop world.now }
+{
+    for at in 0..world.len() {
+        if matches!(world.cause(at), Some(Cause::Device(DiskError::Stopped))) {
+            return true;
+        }
+    }
+    false
 }
 
 /// Does one deed.

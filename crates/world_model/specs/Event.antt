@@ -16,7 +16,7 @@ pub data Outcome : Type 0 where
   Done : (bytes : List ℕ) → Outcome
   Failed : (error : ErrorCode) → Outcome
 
--- a request sent (its last byte was fed), or a reply put out
+-- a request sent (its session asks it, so its last byte was fed), or a reply put out
 pub data ClientEvent : Type 0 where
   Sent : (session : SessionId) → (cookie : ℕ) → (request : Request) → ClientEvent
   Answered : (session : SessionId) → (cookie : ℕ) → (outcome : Outcome) → ClientEvent

@@ -22,7 +22,7 @@ new-requires-3-clause-incarnations g c =
 pub returns-in-Ok-new-2-clause-begins : goal.returns-in-Ok-new-2-clause-begins
 returns-in-Ok-new-2-clause-begins g c = λ premise.
     world_begins g.S.StoreLike.about g.S.StoreLike.keeps g.S.StoreLike.may_leave_now c.args.stores.items c.in-Ok.record c.in-Ok-new.chain c.in-Ok-new-2.world
-    c.in-Ok-new.ensures.sizes c.in-Ok-new.ensures.words (c.in-Ok-new.ensures.begins premise) c.in-Ok-new-2.ensures.chain c.in-Ok-new-2.ensures.sessions c.in-Ok-new-2.ensures.shows
+    c.in-Ok-new.ensures.sizes c.in-Ok-new.ensures.words (c.in-Ok-new.ensures.begins premise) c.in-Ok-new-2.ensures.chain c.in-Ok-new-2.ensures.sessions c.in-Ok-new-2.ensures.shows c.in-Ok-new.ensures.members
 
 pub returns-in-Ok-new-2-clause-disks : goal.returns-in-Ok-new-2-clause-disks
 returns-in-Ok-new-2-clause-disks g c =

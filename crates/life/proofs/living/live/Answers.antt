@@ -1,4 +1,4 @@
-use Rattle.std.proofs.Common.{◌≡◌, ◌+◌, ◌*◌, ◌++◌, [], ◌∷◌, List, length, drop, take, refl, ap, subst, sym, ◌∙◌, arith}
+use Rattle.std.proofs.Common.{◌≡◌, ◌≤◌, ◌+◌, ◌*◌, ◌++◌, [], ◌∷◌, List, length, drop, take, refl, ap, subst, sym, ◌∙◌, arith}
 use Rattle.std.specs.Prelude.{zip}
 use Rattle.std.specs.List.{AllZip}
 use Rattle.std.proofs.lemmas.List.{append_assoc, length-append, length-take-le, take-append-drop, take_all, take_more}
@@ -15,9 +15,9 @@ use Rattle.life.proofs.Returning.{begins_not, breaks_off, passed_on}
 use Rattle.life.proofs.Starting.{PlayedOnDisks, about_of_store, disk_in, failures_in, keeps_volume, leaves_now, left_in, moment_in, pends_in}
 use Rattle.life.proofs.living.live.Goals as goal
 
--- an answer to each deed
+-- at most an answer to each deed
 abbrev IsAll : Era → Answers → Type 0
-IsAll era answers = length answers.items.items ≡ length era.deeds.items
+IsAll era answers = length answers.items.items ≤ length era.deeds.items
 
 pub loop-era-init : goal.loop-era-init
 loop-era-init c = record {

@@ -13,7 +13,7 @@ invariant-loop-era l = record {
   plays : PlayedOnDisks l.fn.geometry l.fn.members (take l.era-index l.fn.eras) l.answers.items l.world;
   disks : AreOnDisks about_of_store l.world;
   lives : Lives about_of_store keeps_volume leaves_now (4096 * l.fn.geometry.blocks) (export_of l.fn.geometry) (told_in (take l.era-index l.fn.eras) l.answers.items) l.world;
-  all : AllZip (λ (era : Era) (answers : Answers). length answers.items.items ≡ length era.deeds.items) (take l.era-index l.fn.eras) l.answers.items;
+  all : AllZip (λ (era : Era) (answers : Answers). length answers.items.items ≤ length era.deeds.items) (take l.era-index l.fn.eras) l.answers.items;
   many : length l.answers.items ≡ l.era-index;
   count : vec_len l.answers ≡ l.era-index;
   room : length l.fn.eras ≤ vec_capacity l.answers;

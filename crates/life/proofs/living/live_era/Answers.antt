@@ -13,13 +13,17 @@ use Rattle.life.proofs.Lives.{era_continues}
 use Rattle.life.proofs.Owners.{deeds_stay}
 use Rattle.life.proofs.Returning.{cut_of_member, disks_stay, ends_as, if_some, many_stay, passed_on}
 use Rattle.life.proofs.Starting.{about_of_store, disk_in, failures_in, keeps_volume, leaves_now, left_in, moment_in, pends_in}
+use Rattle.life.proofs.Stops.{none_met}
 use Rattle.life.proofs.living.live_era.Goals as goal
+
+pub play_all-requires : goal.play_all-requires
+play_all-requires c = let (export, s, fresh) = c.requires.fresh in none_met c.args.world fresh.runs
 
 pub go_on-requires : goal.go_on-requires
 go_on-requires c =
     let (export, s, fresh) = c.requires.fresh in
     let size : export.size ≡ bytes_of c.args.world.chain = ap (λ e. e.size) (sym fresh.has) ∙ c.sound.ensures.joined.size in
-    let one = c.in-Ok.ensures.pass fresh.view s fresh.shows (subst (λ n. StandsFor n fresh.view s) size fresh.stands) in
+    let one = c.in-Ok.ensures.pass.1 fresh.view s fresh.shows (subst (λ n. StandsFor n fresh.view s) size fresh.stands) in
     let stays = deeds_stay about_of_store (Unit {0}) keeps_volume pends_in leaves_now moment_in left_in failures_in disk_in c.deref.result.now c.in-Ok.told.items c.args.world c.play_all.new.world c.in-Ok.ensures.plays in
     let on = disks_stay about_of_store c.args.world c.play_all.new.world stays c.requires.disks in
     if_some _ IsOfMember (λ disk there.
@@ -30,7 +34,7 @@ pub returns-clause-plays : goal.returns-clause-plays
 returns-clause-plays c =
     let (export, s, fresh) = c.requires.fresh in
     let size : export.size ≡ bytes_of c.args.world.chain = ap (λ e. e.size) (sym fresh.has) ∙ c.sound.ensures.joined.size in
-    let one = c.in-Ok.ensures.pass fresh.view s fresh.shows (subst (λ n. StandsFor n fresh.view s) size fresh.stands) in
+    let one = c.in-Ok.ensures.pass.1 fresh.view s fresh.shows (subst (λ n. StandsFor n fresh.view s) size fresh.stands) in
     let stays = deeds_stay about_of_store (Unit {0}) keeps_volume pends_in leaves_now moment_in left_in failures_in disk_in c.deref.result.now c.in-Ok.told.items c.args.world c.play_all.new.world c.in-Ok.ensures.plays in
     let on = disks_stay about_of_store c.args.world c.play_all.new.world stays c.requires.disks in
     let (disk, there, meaning, means, begins) = c.in_ok-next.ensures.goes_on in
@@ -55,7 +59,7 @@ pub returns-clause-continues : goal.returns-clause-continues
 returns-clause-continues c =
     let (export, s, fresh) = c.requires.fresh in
     let size : export.size ≡ bytes_of c.args.world.chain = ap (λ e. e.size) (sym fresh.has) ∙ c.sound.ensures.joined.size in
-    let one = c.in-Ok.ensures.pass fresh.view s fresh.shows (subst (λ n. StandsFor n fresh.view s) size fresh.stands) in
+    let one = c.in-Ok.ensures.pass.1 fresh.view s fresh.shows (subst (λ n. StandsFor n fresh.view s) size fresh.stands) in
     let stays = deeds_stay about_of_store (Unit {0}) keeps_volume pends_in leaves_now moment_in left_in failures_in disk_in c.deref.result.now c.in-Ok.told.items c.args.world c.play_all.new.world c.in-Ok.ensures.plays in
     let on = disks_stay about_of_store c.args.world c.play_all.new.world stays c.requires.disks in
     let (disk, there, meaning, means, begins) = c.in_ok-next.ensures.goes_on in
@@ -63,8 +67,8 @@ returns-clause-continues c =
     let (own, sizes) = cut_of_member c.play_all.new.world one.w c.args.era.now.returned m disk one.shows here cut on in
     subst (λ (l : List Deed). Continues about_of_store keeps_volume leaves_now (zip l c.in-Ok.told.items) c.args.world c.in_ok-next.next) c.deref.ensures.value
     (era_continues about_of_store keeps_volume leaves_now c.lives_are_of_one_volume.ensures.happenings c.chains_begin_again.ensures.restarts c.sessions_are_lawful.ensures.first c.sessions_are_lawful.ensures.lawful c.disks_mean_one.ensures
-    c.args.world c.play_all.new.world c.in_ok-next.next (zip c.deref.result.now c.in-Ok.told.items) c.args.era.now.returned m (given_of disk) meaning
-    c.sound.ensures.joined c.sound-2.ensures.joined c.sound-2.ensures.sessions c.in-Ok.ensures.pass here cut.left means
+    c.args.world c.play_all.new.world c.in_ok-next.next (zip c.deref.result.now c.in-Ok.told.items) c.in-Ok.ensures.pass.0 c.args.era.now.returned m (given_of disk) meaning
+    c.sound.ensures.joined c.sound-2.ensures.joined c.sound-2.ensures.sessions c.in-Ok.ensures.pass.1 here cut.left means
     (ap (λ x. export_of x.geometry) (c.disks_mean_one.ensures meaning own.meaning (given_of disk) means own.means) ∙ ap export_of sizes) begins)
 
 pub returns-in_err-next-clause-refused : goal.returns-in_err-next-clause-refused

@@ -1,13 +1,17 @@
-use Rattle.std.proofs.Common.{◌≡◌, ◌+◌, ◌++◌, [], ◌∷◌, List, length, take, refl, ap, subst, sym, ◌∙◌, arith}
+use Rattle.std.proofs.Common.{◌≡◌, ◌+◌, ◌++◌, [], ◌∷◌, List, false, true, length, drop, take, refl, ap, subst, sym, ◌∙◌, arith}
 use Rattle.std.specs.Prelude.{zip}
-use Rattle.std.proofs.lemmas.List.{length-append, length-take-le, take_all, take_more}
+use Rattle.std.proofs.lemmas.List.{append_assoc, length-append, length-take-le, take-append-drop, take_all, take_more}
 use Rattle.life.specs.Headline.{Trace, fed_in, handed_in}
 use Rattle.world.specs.World.{IsOfOneVolume}
+use Rattle.life.specs.Played.{handed_by}
 use Rattle.life.specs.declared.answer.Answer.{Answer}
 use Rattle.life.specs.declared.era.Deed.{Deed}
-use Rattle.life.proofs.Lives.{pass_more, zip_more}
+use Rattle.life.proofs.Lives.{pass_more, pass_to_stop, pass_whole, zip_less, zip_more}
 use Rattle.life.proofs.Passing.{none_pass}
-use Rattle.life.proofs.Leading.{leads_more}
+use Rattle.life.proofs.Leading.{leads_more, leads_to_stop}
+use Rattle.life.proofs.Stops.{unfed}
+use Rattle.life.specs.Plays.{HasMetStop}
+use Rattle.clients.specs.Clients.{no_one}
 use Rattle.life.proofs.Starting.{LeadOnDisks, about_of_store, disk_in, failures_in, keeps_volume, leaves_now, left_in, moment_in, pends_in}
 use Rattle.life.proofs.living.play_all.Goals as goal
 
@@ -16,6 +20,7 @@ loop-deed-init c = record {
   plays = subst (λ (l : List Answer). LeadOnDisks [] l c.args.world.now c.args.world.now) (sym c.in_ok-answers.ensures.items) refl;
   pass = subst (λ (l : List Answer). IsOfOneVolume about_of_store keeps_volume leaves_now (fed_in (zip [] l)) (handed_in (zip [] l)) c.args.world.now c.args.world.now) (sym c.in_ok-answers.ensures.items)
       (none_pass about_of_store keeps_volume leaves_now c.args.world.now);
+  runs = c.requires;
   many = ap length c.in_ok-answers.ensures.items;
   count = c.in_ok-answers.ensures.len;
   room = omega (arith, c.in_ok-answers.ensures.capacity);
@@ -31,31 +36,73 @@ loop-deed-preserved c =
     let deeds = c.args.deeds.now in
     let deed = c.deed-item.result in
     let answers = c.loop-deed.answers.items in
-    let answer = c.play_deed.result in
+    let answer = c.play_deed-answer.result in
     let items = c.push_reserved.ensures.items in
     let here : take (i + 1) deeds ≡ take i deeds ++ deed ∷ [] = take_more deeds i deed c.loop-deed-test.true ∙ ap (λ (d : Deed). take i deeds ++ d ∷ []) (sym c.deed-item.is) in
     let long : length answers ≡ length (take i deeds) = inv.many ∙ sym (length-take-le i deeds (omega (arith, c.loop-deed-test.true))) in
     let told : zip (take (i + 1) deeds) c.push_reserved.new.self.items ≡ zip (take i deeds) answers ++ (deed, answer) ∷ [] =
     ap (λ (l : List Deed). zip l c.push_reserved.new.self.items) here ∙ ap (zip (take i deeds ++ deed ∷ [])) items ∙ zip_more (take i deeds) answers deed answer long in
+    let runs : HasMetStop c.play_deed-answer.new.world → ⊥ = λ met. let yes : c.has_met_stop.result ≡ true = c.has_met_stop.ensures.1 met in let no : false ≡ true = sym c.if-has_met_stop.false ∙ yes in absurd (cc) in
     record {
-      plays = subst (λ (l : List Deed). LeadOnDisks l c.push_reserved.new.self.items c.args.world.now c.play_deed.new.world) (sym here)
-          (subst (λ (l : List Answer). LeadOnDisks (take i deeds ++ deed ∷ []) l c.args.world.now c.play_deed.new.world) (sym items)
-          (leads_more (Unit {0}) about_of_store keeps_volume pends_in leaves_now moment_in left_in failures_in disk_in (take i deeds) answers c.args.world.now c.loop-deed.world c.play_deed.new.world deed answer inv.plays c.play_deed.ensures.does));
-      pass = subst (λ (l : Trace). IsOfOneVolume about_of_store keeps_volume leaves_now (fed_in l) (handed_in l) c.args.world.now c.play_deed.new.world) (sym told)
-          (pass_more about_of_store keeps_volume leaves_now c.lives_are_of_one_volume.ensures.happenings c.args.world.now c.loop-deed.world c.play_deed.new.world c.sound.ensures.joined c.sound-in-loop-deed.ensures.joined
-          (zip (take i deeds) answers) deed answer inv.pass c.play_deed.ensures.one_volume);
+      plays = subst (λ (l : List Deed). LeadOnDisks l c.push_reserved.new.self.items c.args.world.now c.play_deed-answer.new.world) (sym here)
+          (subst (λ (l : List Answer). LeadOnDisks (take i deeds ++ deed ∷ []) l c.args.world.now c.play_deed-answer.new.world) (sym items)
+          (leads_more (Unit {0}) about_of_store keeps_volume pends_in leaves_now moment_in left_in failures_in disk_in (take i deeds) answers c.args.world.now c.loop-deed.world c.play_deed-answer.new.world deed answer long inv.plays c.play_deed-answer.ensures.does runs));
+      pass = subst (λ (l : Trace). IsOfOneVolume about_of_store keeps_volume leaves_now (fed_in l) (handed_in l) c.args.world.now c.play_deed-answer.new.world) (sym told)
+          (pass_more about_of_store keeps_volume leaves_now c.lives_are_of_one_volume.ensures.happenings c.args.world.now c.loop-deed.world c.play_deed-answer.new.world c.sound.ensures.joined c.sound-in-loop-deed.ensures.joined
+          (zip (take i deeds) answers) deed answer inv.pass c.play_deed-answer.ensures.one_volume);
+      runs = runs;
       many = let sum = length-append answers (answer ∷ []) in omega (arith, inv.many, ap length items, sum);
       count = omega (arith, inv.count, c.push_reserved.ensures.len);
       room = omega (arith, inv.room, c.push_reserved.ensures.capacity);
     }
 
+pub returns-then-has_met_stop-clause-all : goal.returns-then-has_met_stop-clause-all
+returns-then-has_met_stop-clause-all c = omega (arith, c.loop-deed.invariant.many, c.loop-deed-test.true)
+
+pub returns-then-has_met_stop-clause-plays : goal.returns-then-has_met_stop-clause-plays
+returns-then-has_met_stop-clause-plays c =
+    let inv = c.loop-deed.invariant in
+    let i = c.loop-deed.deed-index in
+    let deeds = c.args.deeds.now in
+    let deed = c.deed-item.result in
+    let here : take (i + 1) deeds ≡ take i deeds ++ deed ∷ [] = take_more deeds i deed c.loop-deed-test.true ∙ ap (λ (d : Deed). take i deeds ++ d ∷ []) (sym c.deed-item.is) in
+    let whole : take i deeds ++ deed ∷ drop (i + 1) deeds ≡ deeds =
+    sym (append_assoc (take i deeds) (deed ∷ []) (drop (i + 1) deeds)) ∙ ap (λ (l : List Deed). l ++ drop (i + 1) deeds) (sym here) ∙ take-append-drop (i + 1) deeds in
+    let long : length c.loop-deed.answers.items ≡ length (take i deeds) = inv.many ∙ sym (length-take-le i deeds (omega (arith, c.loop-deed-test.true))) in
+    subst (λ (l : List Deed). LeadOnDisks l c.loop-deed.answers.items c.args.world.now c.play_deed-answer.new.world) whole
+    (leads_to_stop (Unit {0}) about_of_store keeps_volume pends_in leaves_now moment_in left_in failures_in disk_in (take i deeds) c.loop-deed.answers.items c.args.world.now c.loop-deed.world c.play_deed-answer.new.world deed c.play_deed-answer.result
+    (drop (i + 1) deeds) long inv.plays c.play_deed-answer.ensures.does (c.has_met_stop.ensures.0 c.if-has_met_stop.true))
+
+pub returns-then-has_met_stop-clause-pass : goal.returns-then-has_met_stop-clause-pass
+returns-then-has_met_stop-clause-pass c =
+    let inv = c.loop-deed.invariant in
+    let i = c.loop-deed.deed-index in
+    let deeds = c.args.deeds.now in
+    let deed = c.deed-item.result in
+    let answers = c.loop-deed.answers.items in
+    let answer = c.play_deed-answer.result in
+    let long : length answers ≡ length (take i deeds) = inv.many ∙ sym (length-take-le i deeds (omega (arith, c.loop-deed-test.true))) in
+    let told : zip deeds answers ≡ zip (take i deeds) answers = ap (λ (l : List Deed). zip l answers) (sym (take-append-drop i deeds)) ∙ zip_less (take i deeds) answers (drop i deeds) long in
+    let met : HasMetStop c.play_deed-answer.new.world = c.has_met_stop.ensures.0 c.if-has_met_stop.true in (
+      handed_by deed answer,
+      subst (λ (l : Trace). IsOfOneVolume about_of_store keeps_volume leaves_now (fed_in l) (λ id. handed_in l id ++ handed_by deed answer id) c.args.world.now c.play_deed-answer.new.world) (sym told)
+          (pass_to_stop about_of_store keeps_volume leaves_now c.lives_are_of_one_volume.ensures.happenings c.args.world.now c.loop-deed.world c.play_deed-answer.new.world c.sound.ensures.joined c.sound-in-loop-deed.ensures.joined
+          (zip (take i deeds) answers) deed answer
+          (unfed (Unit {0}) about_of_store keeps_volume pends_in leaves_now moment_in left_in failures_in disk_in deed answer c.loop-deed.world c.play_deed-answer.new.world c.play_deed-answer.ensures.does inv.runs met)
+          inv.pass c.play_deed-answer.ensures.one_volume),
+    )
+
 pub returns-clause-all : goal.returns-clause-all
-returns-clause-all c = let end = c.loop-deed-test.false in let most = c.loop-deed.auto.deed-index-end in omega (arith, c.loop-deed.invariant.many, end, most)
+returns-clause-all c = let most = c.loop-deed.auto.deed-index-end in omega (arith, c.loop-deed.invariant.many, most)
 
 pub returns-clause-plays : goal.returns-clause-plays
 returns-clause-plays c = subst (λ (l : List Deed). LeadOnDisks l c.loop-deed.answers.items c.args.world.now c.loop-deed.world)
     (take_all c.loop-deed.deed-index c.args.deeds.now c.loop-deed-test.false) c.loop-deed.invariant.plays
 
 pub returns-clause-pass : goal.returns-clause-pass
-returns-clause-pass c = subst (λ (l : List Deed). IsOfOneVolume about_of_store keeps_volume leaves_now (fed_in (zip l c.loop-deed.answers.items)) (handed_in (zip l c.loop-deed.answers.items)) c.args.world.now c.loop-deed.world)
-    (take_all c.loop-deed.deed-index c.args.deeds.now c.loop-deed-test.false) c.loop-deed.invariant.pass
+returns-clause-pass c = (
+  no_one,
+  subst (λ (l : List Deed). IsOfOneVolume about_of_store keeps_volume leaves_now (fed_in (zip l c.loop-deed.answers.items)) (λ id. handed_in (zip l c.loop-deed.answers.items) id ++ no_one id) c.args.world.now c.loop-deed.world)
+      (take_all c.loop-deed.deed-index c.args.deeds.now c.loop-deed-test.false)
+      (pass_whole about_of_store keeps_volume leaves_now c.args.world.now c.loop-deed.world (zip (take c.loop-deed.deed-index c.args.deeds.now) c.loop-deed.answers.items) c.loop-deed.invariant.pass),
+)
