@@ -1,6 +1,6 @@
 -- A member's disk after a cut, and why it may not return: lemmas.
 use Rattle.std.proofs.Common.{◌≡◌, ℕ, zero, suc, ◌<◌, ◌≤◌, List, [], ◌∷◌, ◌++◌, length, map, refl, ap, sym, subst, ◌∙◌, inl, inr, arith}
-use Rattle.std.specs.Prelude.{◌⊎◌, All, Err, IfErr, IfSome, IsErrAnd, None, Ok, Option, Result, Some, slice_get}
+use Rattle.std.specs.Prelude.{◌⊎◌, All, Err, IfErr, IfOk, IfSome, IsErrAnd, None, Ok, Option, Result, Some, slice_get}
 use Rattle.std.specs.List.{AllZip}
 use Rattle.std.proofs.lemmas.List.{get_or-map, length-map}
 use Rattle.std.proofs.lemmas.List.Elements.{All-head, All-tail}
@@ -11,8 +11,9 @@ use Rattle.disk_model.specs.Memory.{given_of}
 use Rattle.disk_model.specs.declared.memory.MemDisk.{MemDisk}
 use Rattle.home_blocks.specs.Home.{IsNoVolume, IsOtherVersion}
 use Rattle.local_store.specs.About.{About}
-use Rattle.local_store.specs.Meaning.{HasDamagedArea, IsOpenable, IsUnfinished}
-use Rattle.local_store.specs.Refusal.{IsOfOpening}
+use Rattle.home_blocks.specs.Places.{disk_size_of}
+use Rattle.local_store.specs.Meaning.{HasDamagedArea, IsOpenable, IsUnfinished, Means}
+use Rattle.local_store.specs.Refusal.{IsNotOfDevice, IsOfFormatting, IsOfOpening}
 use Rattle.local_store.specs.declared.refusal.Refusal as store
 use Rattle.local_store.specs.declared.refusal.Refusal.TheVariants as stores
 use Rattle.volume.specs.declared.geometry.Geometry.{Geometry}
@@ -20,7 +21,7 @@ use Rattle.world.specs.World.{Seen, Shows}
 use Rattle.world_model.specs.Chain.{View}
 use Rattle.life.specs.Begun.{AreOnDisks, IsCutFrom, IsOfMember}
 use Rattle.life.specs.Plays.{ErasLead}
-use Rattle.life.specs.Refusal.{BreaksOff, EndsAtReturn, IsOfBeginning, IsOfReopening, IsOfReturning, ReturnsNobody}
+use Rattle.life.specs.Refusal.{BreaksOff, EndsAtReturn, IsOfMemory, IsOfReopening, ReturnsNobody}
 use Rattle.life.specs.declared.era.Answers.{Answers}
 use Rattle.life.specs.declared.era.Era.{Era}
 use Rattle.life.specs.declared.refusal.Refusal.{Refusal}
@@ -32,6 +33,15 @@ use Rattle.life.proofs.Starting.{IsStore, about_of_store, all_mapped, keeps_volu
 pub if_some : {A : Type 0} (o : Option A) (P : A → Type 0) → ((x : A) → o ≡ Some x → P x) → IfSome o P
 if_some None P each = tt
 if_some (Some x) P each = each x refl
+
+-- what is so of a result, and comes to more
+pub ok_more : {T E : Type 0} (r : Result T E) (P Q : T → Type 0) → IfOk r P → ((x : T) → P x → Q x) → IfOk r Q
+ok_more (Ok x) P Q is more = more x is
+ok_more (Err e) P Q is more = tt
+
+pub err_more : {T E : Type 0} (r : Result T E) (P Q : E → Type 0) → IfErr r P → ((e : E) → P e → Q e) → IfErr r Q
+err_more (Ok x) P Q is more = tt
+err_more (Err e) P Q is more = more e is
 
 -- what is so of an error is so of it where it is passed on
 pub passed_on : {T E : Type 0} (result : Result T E) (e : E) (P : E → Type 0) → IsErrAnd result (λ y. y ≡ e) → P e → IfErr result P
@@ -75,6 +85,15 @@ cut_of_member old v at m disk shows here cut on =
     let own = all_at (λ n. (0 < (about_of_store n.node.store).incarnation) × ((about_of_store n.node.store).geometry ≡ old.chain.geometry)) old.chain.members at m on here in
     (record { meaning = _; means = is; given = own.0; long = omega (arith, m.node.store.room, cut.left.size) }, own.1)
 
+-- one that gives the same is the same member's
+pub member_as : (one other : MemDisk) → given_of other ≡ given_of one → IsOfMember one → IsOfMember other
+member_as one other same is = record {
+  meaning = is.meaning;
+  means = subst (Means is.meaning) (sym same) is.means;
+  given = is.given;
+  long = subst (λ (l : List ℕ). disk_size_of is.meaning.geometry ≤ length l) (sym same) is.long;
+}
+
 -- ---- why it may be refused
 
 pub reopened : (bytes : List ℕ) (refusal : store.Refusal) → IsOfOpening refusal → (refusal ≡ stores.NotAVolume → IsNoVolume bytes ⊎ HasDamagedArea bytes) → (refusal ≡ stores.OtherVersion → IsOtherVersion bytes)
@@ -91,15 +110,26 @@ reopened bytes stores.Backwards told none other unfinished openable = absurd tol
 pub ends_as : (refusal : Refusal) (members others at : ℕ) → members ≡ others → EndsAtReturn members at refusal → EndsAtReturn others at refusal
 ends_as refusal members others at same ends = subst (λ n. EndsAtReturn n at refusal) same ends
 
-pub returned_not : (refusal : Refusal) (members at : ℕ) → IsOfReturning refusal → EndsAtReturn members at refusal
-returned_not Memory members at is = tt
-returned_not NotInChain members at is = absurd is
-returned_not (Store refusal) members at is = is
+-- a new disk refuses nothing, and nor does one that can't fail any more
+pub of_memory : (refusal : store.Refusal) → IsOfFormatting refusal → IsNotOfDevice refusal → IsOfMemory (Store refusal)
+of_memory stores.Memory told calm = tt
+of_memory (stores.Device error) told calm = calm
+of_memory stores.Full told calm = absurd told
+of_memory stores.Broken told calm = absurd told
+of_memory stores.NotAVolume told calm = absurd told
+of_memory stores.OtherVersion told calm = absurd told
+of_memory stores.Unfinished told calm = absurd told
+of_memory stores.Backwards told calm = absurd told
 
-pub begins_not : (refusal : Refusal) (members : ℕ) (eras : List Era) → IsOfBeginning refusal → BreaksOff members eras refusal
-begins_not Memory members eras is = tt
-begins_not NotInChain members eras is = absurd is
-begins_not (Store refusal) members eras is = inl is
+pub reopening_of_memory : (refusal : store.Refusal) → IsOfReopening refusal → IsNotOfDevice refusal → IsOfMemory (Store refusal)
+reopening_of_memory stores.Memory told calm = tt
+reopening_of_memory (stores.Device error) told calm = calm
+reopening_of_memory stores.Full told calm = absurd told
+reopening_of_memory stores.Broken told calm = absurd told
+reopening_of_memory stores.NotAVolume told calm = absurd told
+reopening_of_memory stores.OtherVersion told calm = absurd told
+reopening_of_memory stores.Unfinished told calm = absurd told
+reopening_of_memory stores.Backwards told calm = absurd told
 
 module _ {S : Type 0} (premise : Type 0) (about : S → About) (keeps : S → List ℕ → Type 0) (is_pending : S → ℕ → Type 0) (may_leave_now : S → List ℕ → Type 0) (moment : S → ℕ)
     (left_since : S → ℕ → List ℕ → Type 0) (failures : S → ℕ) (disk : S → MemDisk) where
@@ -115,6 +145,5 @@ module _ {S : Type 0} (premise : Type 0) (about : S → About) (keeps : S → Li
   pub breaks_off : (refusal : Refusal) (eras : List Era) (answers : List Answers) (first w : Seen S) (members : ℕ) (era : Era) (rest : List Era)
       → ErasLead premise about keeps is_pending may_leave_now moment left_since failures disk eras answers first w → length first.chain.members ≡ members
       → EndsAtReturn (length w.chain.members) era.returned refusal → BreaksOff members (eras ++ era ∷ rest) refusal
-  breaks_off Memory eras answers first w members era rest leads many ends = tt
-  breaks_off NotInChain eras answers first w members era rest leads many ends = returns_nobody eras answers first w members era rest leads many ends
-  breaks_off (Store refusal) eras answers first w members era rest leads many ends = inr ends
+  breaks_off refusal eras answers first w members era rest leads many (inl memory) = inl memory
+  breaks_off refusal eras answers first w members era rest leads many (inr (none, beyond)) = inr (none, returns_nobody eras answers first w members era rest leads many beyond)

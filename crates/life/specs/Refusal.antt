@@ -1,18 +1,19 @@
 -- Why a world doesn't begin, or doesn't go on.
-use Rattle.std.specs.Prelude.{◌≢◌, ◌⊎◌, ℕ, ◌≤◌, List, [], ◌∷◌}
+use Rattle.std.specs.Prelude.{◌≡◌, ◌≢◌, ◌⊎◌, ℕ, ◌≤◌, List, [], ◌∷◌}
 use Rattle.disk_model.specs.declared.error.DiskError.TheVariants as faults
-use Rattle.local_store.specs.Refusal.{IsCaused, IsOfFormatting, IsOfOpening}
+use Rattle.local_store.specs.Refusal.{IsCaused, IsOfOpening}
 use Rattle.local_store.specs.declared.refusal.Refusal as store
 use Rattle.local_store.specs.declared.refusal.Refusal.TheVariants as stores
 use Rattle.life.specs.declared.era.Era.{Era}
 use Rattle.life.specs.declared.refusal.Refusal.{Refusal}
 use Rattle.life.specs.declared.refusal.Refusal.TheVariants.{Memory, NotInChain, Store}
 
--- what `begin` may be refused with
-abbrev pub IsOfBeginning : Refusal → Type 0
-IsOfBeginning Memory = Unit {0}
-IsOfBeginning NotInChain = ⊥
-IsOfBeginning (Store refusal) = IsOfFormatting refusal
+-- memory ran out, in the store or its disk too
+abbrev pub IsOfMemory : Refusal → Type 0
+IsOfMemory Memory = Unit {0}
+IsOfMemory (Store stores.Memory) = Unit {0}
+IsOfMemory (Store (stores.Device error)) = error ≡ faults.Memory
+IsOfMemory _ = ⊥
 
 -- what `recover` may be refused with
 abbrev pub IsOfRecovering : Refusal → Type 0
@@ -38,20 +39,15 @@ IsOfReturning Memory = Unit {0}
 IsOfReturning NotInChain = ⊥
 IsOfReturning (Store refusal) = IsOfReopening refusal
 
--- why a chain of so many members doesn't go on from the disk at a place: memory ran out, or no member is there, or the disk's store
--- was refused
+-- why a chain of so many members doesn't go on from the disk at a place: memory ran out, or no member is there
 abbrev pub EndsAtReturn : (members returned : ℕ) → Refusal → Type 0
-EndsAtReturn members returned Memory = Unit {0}
-EndsAtReturn members returned NotInChain = members ≤ returned
-EndsAtReturn members returned (Store refusal) = IsOfReopening refusal
+EndsAtReturn members returned refusal = IsOfMemory refusal ⊎ ((refusal ≡ NotInChain) × (members ≤ returned))
 
 -- some era returns a place that is no member's then: there are so many in the first era, and one in each later one
 abbrev pub ReturnsNobody : ℕ → List Era → Type 0
 ReturnsNobody members [] = ⊥
 ReturnsNobody members (era ∷ eras) = (members ≤ era.returned) ⊎ ReturnsNobody 1 eras
 
--- why the life of a chain of so many members through these eras breaks off
+-- why the life of a chain of so many members through these eras breaks off: memory ran out, or an era returns nobody
 abbrev pub BreaksOff : ℕ → List Era → Refusal → Type 0
-BreaksOff members eras Memory = Unit {0}
-BreaksOff members eras NotInChain = ReturnsNobody members eras
-BreaksOff members eras (Store refusal) = IsOfFormatting refusal ⊎ IsOfReopening refusal
+BreaksOff members eras refusal = IsOfMemory refusal ⊎ ((refusal ≡ NotInChain) × ReturnsNobody members eras)

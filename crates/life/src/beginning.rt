@@ -4,7 +4,7 @@ ghost use Rattle.std.specs.List.{AllPairs, range_with_len};
 ghost use Rattle.chain.specs.Opening.{AreEven, recorded_in};
 ghost use Rattle.chain_core.specs.Node.{size_of};
 ghost use Rattle.life.specs.Begun.{AreOnDisks, BeginsWith, first_about};
-ghost use Rattle.life.specs.Refusal.{IsOfBeginning};
+ghost use Rattle.life.specs.Refusal.{IsOfMemory};
 ghost use Rattle.volume.specs.Writes.{volume_of};
 
 use crate::refusal::Refusal;
@@ -26,7 +26,7 @@ const FIRST_INCARNATION: u64 = 1;
 
 /// A world of so many members, 1 to 8, at the slots from 0 up, over new disks in memory, with a volume of zeros and without clients.
 ///
-/// 100 `Memory`, and what `Store::format` refuses.
+/// 100 `Memory`, and only that: nothing is armed on a new disk.
 pub fn begin(
     alloc: Global,
     geometry: Geometry,
@@ -38,7 +38,7 @@ pub fn begin(
     ensures disks { IfOk result (λ world. AreOnDisks ⟦<Store<MemDisk> as StoreLike>⟧.about world) }
     ensures begins { IfOk result (BeginsWith ⟦<Store<MemDisk> as StoreLike>⟧.about ⟦<Store<MemDisk> as StoreLike>⟧.keeps ⟦<Store<MemDisk> as StoreLike>⟧.may_leave_now
         geometry 0 (volume_of (4096 * geometry.blocks) [])) }
-    ensures refused { IfErr result IsOfBeginning }
+    ensures refused { IfErr result IsOfMemory }
 {
     let stores = first_stores(alloc, geometry, members)?;
     Ok(world_of(alloc, stores)?)
@@ -53,7 +53,7 @@ fn first_stores(
     requires few { members ≤ 8 }
     ensures about { IfOk result (λ stores. map ⟦<Store<MemDisk> as StoreLike>⟧.about stores.items ≡ map (first_about geometry) (range_with_len 0 members)) }
     ensures kept { IfOk result (λ stores. All (λ s. ⟦<Store<MemDisk> as StoreLike>⟧.keeps s (replicate (4096 * geometry.blocks) 0)) stores.items) }
-    ensures refused { IfErr result IsOfBeginning }
+    ensures refused { IfErr result IsOfMemory }
 {
     let mut stores = Vec::with_capacity(alloc, usize::from(members))?;
     for number in 0..members {
@@ -67,7 +67,7 @@ fn first_store(alloc: Global, geometry: Geometry, number: u8) -> Result<Store<Me
     requires { number < 8 }
     ensures about { IfOk result (λ s. ⟦<Store<MemDisk> as StoreLike>⟧.about s ≡ first_about geometry number) }
     ensures kept { IfOk result (λ s. ⟦<Store<MemDisk> as StoreLike>⟧.keeps s (replicate (4096 * geometry.blocks) 0)) }
-    ensures refused { IfErr result IsOfBeginning }
+    ensures refused { IfErr result IsOfMemory }
 {
     let slot = Slot::new(number).unwrap();
     let disk = MemDisk::new(alloc, disk_size(geometry), Script::new(alloc))?;

@@ -1,7 +1,8 @@
 //! Whole lives.
 ghost use Rattle.std.specs.Prelude.{◌≡◌, ◌*◌, ◌<◌, ◌≤◌, ◌↔◌, ◌++◌, ℕ, IfErr, IfOk, IfSome, IsTrue, List, Some, length, slice_get, zip};
 ghost use Rattle.clients.specs.Clients.{no_one};
-ghost use Rattle.disk_model.specs.Memory.{given_of};
+ghost use Rattle.disk_model.specs.Disk.{Only};
+ghost use Rattle.disk_model.specs.Memory.{given_of, may_be_left};
 ghost use Rattle.flush_barrier.specs.declared.session_id.SessionId.{SessionId};
 ghost use Rattle.disk_model.specs.declared.memory.MemDisk.{MemDisk};
 ghost use Rattle.local_store.specs.Meaning.{Meaning, Means};
@@ -9,7 +10,7 @@ ghost use Rattle.std.specs.List.{AllZip};
 ghost use Rattle.life.specs.Begun.{AreOnDisks, BeginsWith, IsOfMember, export_of};
 ghost use Rattle.life.specs.Headline.{IsOneLife, fed_in, handed_in, told_in};
 ghost use Rattle.life.specs.Lived.{Continues, IsFresh};
-ghost use Rattle.life.specs.Refusal.{BreaksOff, EndsAtReturn};
+ghost use Rattle.life.specs.Refusal.{BreaksOff, EndsAtReturn, IsOfMemory};
 ghost use Rattle.nbd_session.specs.declared.answer.Export.{Export};
 ghost use Rattle.world_model.specs.Chain.{StandsFor, View};
 ghost use Rattle.world_model.specs.Machine.{State};
@@ -23,11 +24,11 @@ use crate::beginning::begin;
 use crate::cutting::cut;
 use crate::era::{Answers, Deed, Era};
 use crate::playing::play;
-use crate::recovering::recover;
+use crate::recovering::{Refused, recover};
 use crate::refusal::Refusal;
 use chain_steps::Cause;
 use clients::sessions_are_lawful;
-use disk_model::{DiskError, Event, MemDisk};
+use disk_model::{Cut, DiskError, Event, MemDisk};
 use local_store::{Store, StoreLike, disks_mean_one};
 use std::alloc::{AllocError, Global};
 use volume::Geometry;
@@ -49,7 +50,10 @@ pub struct Lived {
 /// deeds are played, one after another, until a device call meets its stop; then everything stops, and the chain goes on from one
 /// member's disk. The deed in which a stop was met has no answer any more, and no deed behind it is played.
 ///
-/// 192 `NotInChain` where an era returns a place that is none; 100 `Memory`; and what the disks refuse.
+/// What was armed and wasn't met before a cut counts the calls of the recovery behind it. A recovery in which the device fails or stops
+/// is done again: after another cut, with nothing armed any more.
+///
+/// 192 `NotInChain` where an era returns a place that is none; and 100 `Memory`.
 pub fn live(alloc: Global, geometry: Geometry, members: u8, eras: &[Era]) -> Result<Lived, Refusal>
     requires some { 0 < members }
     requires few { members ≤ 8 }
@@ -104,7 +108,7 @@ fn live_era(
     };
     world.sound();
     let disks = cut(alloc, world, era.cut)?;
-    let next = go_on(alloc, disks, era.returned)?;
+    let next = go_on(alloc, disks, era.returned, era.cut)?;
     Ok((told, next))
 }
 
@@ -179,8 +183,13 @@ fn arm(alloc: Global, world: &mut World<Store<MemDisk>>, at: usize, event: Event
 }
 
 /// The chain goes on from the disk at a place, if there is one.
-fn go_on(alloc: Global, disks: Vec<MemDisk>, at: usize) -> Result<World<Store<MemDisk>>, Refusal>
-    requires { IfSome (slice_get disks.items at) IsOfMember }
+fn go_on(
+    alloc: Global,
+    disks: Vec<MemDisk>,
+    at: usize,
+    cut: Cut,
+) -> Result<World<Store<MemDisk>>, Refusal>
+    requires { IfSome (slice_get disks.items at) (λ disk. IsOfMember disk × Only (given_of disk) (may_be_left disk)) }
     ensures alone { IfOk result (λ world. length world.chain.members ≡ 1) }
     ensures disks { IfOk result (λ world. AreOnDisks ⟦<Store<MemDisk> as StoreLike>⟧.about world) }
     ensures goes_on { IfOk result (λ world. (disk : MemDisk) × (slice_get disks.items at ≡ Some disk) × (meaning : Meaning) × Means meaning (given_of disk)
@@ -192,7 +201,47 @@ fn go_on(alloc: Global, disks: Vec<MemDisk>, at: usize) -> Result<World<Store<Me
     if at >= disks.len() {
         return Err(Refusal::NotInChain);
     }
-    match recover(alloc, disks.swap_remove(at)) {
+    go_on_from(alloc, disks.swap_remove(at), cut)
+}
+
+/// The chain goes on from a member's disk, on which nothing else may be left than what it gives.
+fn go_on_from(alloc: Global, disk: MemDisk, cut: Cut) -> Result<World<Store<MemDisk>>, Refusal>
+    requires member { IsOfMember disk }
+    requires only { Only (given_of disk) (may_be_left disk) }
+    ensures alone { IfOk result (λ world. length world.chain.members ≡ 1) }
+    ensures disks { IfOk result (λ world. AreOnDisks ⟦<Store<MemDisk> as StoreLike>⟧.about world) }
+    ensures goes_on { IfOk result (λ world. (meaning : Meaning) × Means meaning (given_of disk)
+        × BeginsWith ⟦<Store<MemDisk> as StoreLike>⟧.about ⟦<Store<MemDisk> as StoreLike>⟧.keeps ⟦<Store<MemDisk> as StoreLike>⟧.may_leave_now
+        meaning.geometry meaning.front meaning.volume world) }
+    ensures refused { IfErr result IsOfMemory }
+{
+    match recover(alloc, disk) {
+        Ok(world) => Ok(world),
+        Err(refused) => {
+            let Refused { refusal, disk } = refused;
+            match disk {
+                Some(back) => recover_again(alloc, back, cut),
+                None => Err(refusal),
+            }
+        }
+    }
+}
+
+/// A recovery is done again, after a cut, with nothing armed any more.
+fn recover_again(alloc: Global, disk: MemDisk, cut: Cut) -> Result<World<Store<MemDisk>>, Refusal>
+    requires member { IsOfMember disk }
+    requires only { Only (given_of disk) (may_be_left disk) }
+    ensures alone { IfOk result (λ world. length world.chain.members ≡ 1) }
+    ensures disks { IfOk result (λ world. AreOnDisks ⟦<Store<MemDisk> as StoreLike>⟧.about world) }
+    ensures goes_on { IfOk result (λ world. (meaning : Meaning) × Means meaning (given_of disk)
+        × BeginsWith ⟦<Store<MemDisk> as StoreLike>⟧.about ⟦<Store<MemDisk> as StoreLike>⟧.keeps ⟦<Store<MemDisk> as StoreLike>⟧.may_leave_now
+        meaning.geometry meaning.front meaning.volume world) }
+    ensures refused { IfErr result IsOfMemory }
+{
+    let mut disk = disk;
+    disk.cut(cut);
+    disk.disarm();
+    match recover(alloc, disk) {
         Ok(world) => Ok(world),
         Err(refused) => Err(refused.refusal),
     }

@@ -1,8 +1,9 @@
 //! A chain of one goes on.
-ghost use Rattle.std.specs.Prelude.{◌≡◌, ◌<◌, ℕ, List, IfErr, IfOk, IfSome, false, length};
-ghost use Rattle.disk_model.specs.Memory.{failures_of, given_of};
+ghost use Rattle.std.specs.Prelude.{◌≡◌, ◌<◌, ℕ, List, IfErr, IfOk, IfSome, None, false, length};
+ghost use Rattle.disk_model.specs.Disk.{NothingNew};
+ghost use Rattle.disk_model.specs.Memory.{failures_of, given_of, may_be_left, most_failures_of};
 ghost use Rattle.life.specs.Begun.{AreOnDisks, BeginsWith, IsOfMember};
-ghost use Rattle.life.specs.Refusal.{IsCausedBy, IsOfRecovering, IsOfReturning};
+ghost use Rattle.life.specs.Refusal.{IsCausedBy, IsOfMemory, IsOfRecovering, IsOfReturning};
 ghost use Rattle.local_store.specs.Meaning.{Meaning, Means};
 
 use crate::beginning::world_of;
@@ -23,7 +24,7 @@ pub struct Refused {
 
 /// The member of a disk goes on alone, without clients: at the front that the disk means, with the volume there.
 ///
-/// What `Store::open` refuses; 131 `NotAVolume` also for an incarnation of 0, which no member's disk is given; and 100 `Memory`.
+/// What `Store::open` refuses, which is the device's only where the disk can fail; 131 `NotAVolume` also for an incarnation of 0, which no member's disk is given; and 100 `Memory`.
 pub fn recover(alloc: Global, disk: MemDisk) -> Result<World<Store<MemDisk>>, Refused>
     ensures alone { IfOk result (λ world. length world.chain.members ≡ 1) }
     ensures disks { IfOk result (λ world. AreOnDisks ⟦<Store<MemDisk> as StoreLike>⟧.about world) }
@@ -33,6 +34,9 @@ pub fn recover(alloc: Global, disk: MemDisk) -> Result<World<Store<MemDisk>>, Re
     ensures refused { IfErr result (λ e. IsOfRecovering e.refusal) }
     ensures returning { IfErr result (λ e. IsOfMember disk → IsOfReturning e.refusal) }
     ensures cause { IfErr result (λ e. IfSome e.disk (λ back. IsCausedBy (failures_of disk) (failures_of back) e.refusal)) }
+    ensures calm { IfErr result (λ e. IsOfMember disk → failures_of disk ≡ most_failures_of disk → IsOfMemory e.refusal) }
+    ensures back { IfErr result (λ e. IfSome e.disk (λ back. (given_of back ≡ given_of disk) × NothingNew (may_be_left disk) (may_be_left back))) }
+    ensures gone { IfErr result (λ e. e.disk ≡ None → e.refusal ≡ Refusal.Memory) }
 {
     disks_mean_one();
     meanings_are_opened();

@@ -1,16 +1,37 @@
-use Rattle.std.proofs.Common.{length, refl, arith}
+use Rattle.std.proofs.Common.{◌≡◌, Some, length, refl, inl, inr, subst, arith}
+use Rattle.std.specs.Prelude.{IfSome, slice_get}
 use Rattle.std.proofs.lemmas.Option.{slice_get_read}
+use Rattle.disk_model.specs.Disk.{Only}
+use Rattle.disk_model.specs.Memory.{given_of, may_be_left}
+use Rattle.disk_model.specs.declared.memory.MemDisk.{MemDisk}
+use Rattle.life.specs.Begun.{IsOfMember}
+use Rattle.life.proofs.Returning.{err_more, ok_more}
 use Rattle.life.proofs.living.go_on.Goals as goal
 
-pub returns-in-Ok-clause-goes_on : goal.returns-in-Ok-clause-goes_on
-returns-in-Ok-clause-goes_on c =
-    let (meaning, means, begins) = c.in-Ok.ensures.goes_on in
-    let within = c.if-at-len.false in
-    let held = c.args.disks.ok in
-    let many = c.len.ensures in (
-      c.swap_remove.result,
-      slice_get_read c.args.disks.items (length c.args.disks.items) c.args.at c.swap_remove.result refl (omega (arith, within, held, many)) c.swap_remove.ensures.value,
-      meaning,
-      means,
-      begins,
-    )
+-- what the disk at the place is
+abbrev IsGood : MemDisk → Type 0
+IsGood disk = IsOfMember disk × Only (given_of disk) (may_be_left disk)
+
+pub returns-then-at-len-clause-refused : goal.returns-then-at-len-clause-refused
+returns-then-at-len-clause-refused c = inr (refl, omega (arith, c.if-at-len.true, c.len.ensures))
+
+pub go_on_from-requires-clause-member : goal.go_on_from-requires-clause-member
+go_on_from-requires-clause-member c =
+    let here : slice_get c.args.disks.items c.args.at ≡ Some c.swap_remove.result =
+    slice_get_read c.args.disks.items (length c.args.disks.items) c.args.at c.swap_remove.result refl (omega (arith, c.if-at-len.false, c.args.disks.ok, c.len.ensures)) c.swap_remove.ensures.value in
+    (subst (λ o. IfSome o IsGood) here c.requires).0
+
+pub go_on_from-requires-clause-only : goal.go_on_from-requires-clause-only
+go_on_from-requires-clause-only c =
+    let here : slice_get c.args.disks.items c.args.at ≡ Some c.swap_remove.result =
+    slice_get_read c.args.disks.items (length c.args.disks.items) c.args.at c.swap_remove.result refl (omega (arith, c.if-at-len.false, c.args.disks.ok, c.len.ensures)) c.swap_remove.ensures.value in
+    (subst (λ o. IfSome o IsGood) here c.requires).1
+
+pub returns-clause-goes_on : goal.returns-clause-goes_on
+returns-clause-goes_on c =
+    let here : slice_get c.args.disks.items c.args.at ≡ Some c.swap_remove.result =
+    slice_get_read c.args.disks.items (length c.args.disks.items) c.args.at c.swap_remove.result refl (omega (arith, c.if-at-len.false, c.args.disks.ok, c.len.ensures)) c.swap_remove.ensures.value in
+    ok_more c.go_on_from.result _ _ c.go_on_from.ensures.goes_on (λ world on. (c.swap_remove.result, here, on))
+
+pub returns-clause-refused : goal.returns-clause-refused
+returns-clause-refused c = err_more c.go_on_from.result _ _ c.go_on_from.ensures.refused (λ e memory. inl memory)

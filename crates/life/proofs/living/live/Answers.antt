@@ -1,4 +1,4 @@
-use Rattle.std.proofs.Common.{◌≡◌, ◌≤◌, ◌+◌, ◌*◌, ◌++◌, [], ◌∷◌, List, length, drop, take, refl, ap, subst, sym, ◌∙◌, arith}
+use Rattle.std.proofs.Common.{◌≡◌, ◌≤◌, ◌+◌, ◌*◌, ◌++◌, [], ◌∷◌, List, length, drop, take, refl, ap, subst, sym, ◌∙◌, inl, arith}
 use Rattle.std.specs.Prelude.{zip}
 use Rattle.std.specs.List.{AllZip}
 use Rattle.std.proofs.lemmas.List.{append_assoc, length-append, length-take-le, take-append-drop, take_all, take_more}
@@ -11,7 +11,7 @@ use Rattle.life.proofs.Beside.{all_more}
 use Rattle.life.proofs.Lives.{begins_life, lives_on, one_life, told_more}
 use Rattle.life.proofs.Leading.{plays_on}
 use Rattle.life.specs.Refusal.{BreaksOff}
-use Rattle.life.proofs.Returning.{begins_not, breaks_off, passed_on}
+use Rattle.life.proofs.Returning.{breaks_off, passed_on}
 use Rattle.life.proofs.Starting.{PlayedOnDisks, about_of_store, disk_in, failures_in, keeps_volume, leaves_now, left_in, moment_in, pends_in}
 use Rattle.life.proofs.living.live.Goals as goal
 
@@ -93,4 +93,4 @@ returns-in_err-told-clause-refused c =
 pub returns-in_err-world-clause-refused : goal.returns-in_err-world-clause-refused
 returns-in_err-world-clause-refused c =
     passed_on c.from_residual-in_err-world.result c.in_err-world.field-0.0 (BreaksOff c.args.members c.args.eras.now) c.from_residual-in_err-world.ensures.1
-    (begins_not c.in_err-world.field-0.0 c.args.members c.args.eras.now c.in_err-world.ensures.refused)
+    (inl c.in_err-world.ensures.refused)

@@ -1,7 +1,8 @@
 use Rattle.std.proofs.Common.{List, ap, subst, sym, length, ◌≡◌, ◌∙◌}
 use Rattle.std.specs.Prelude.{zip}
 use Rattle.std.proofs.lemmas.Slice.Zip.{AllZip-long}
-use Rattle.disk_model.specs.Memory.{given_of}
+use Rattle.disk_model.specs.Disk.{Only}
+use Rattle.disk_model.specs.Memory.{given_of, may_be_left}
 use Rattle.chain.specs.Chain.{bytes_of}
 use Rattle.world_model.specs.Chain.{StandsFor}
 use Rattle.life.specs.Begun.{IsCutFrom, IsOfMember, export_of}
@@ -26,9 +27,9 @@ go_on-requires c =
     let one = c.in-Ok.ensures.pass.1 fresh.view s fresh.shows (subst (λ n. StandsFor n fresh.view s) size fresh.stands) in
     let stays = deeds_stay about_of_store (Unit {0}) keeps_volume pends_in leaves_now moment_in left_in failures_in disk_in c.deref.result.now c.in-Ok.told.items c.args.world c.play_all.new.world c.in-Ok.ensures.plays in
     let on = disks_stay about_of_store c.args.world c.play_all.new.world stays c.requires.disks in
-    if_some _ IsOfMember (λ disk there.
+    if_some _ (λ disk. IsOfMember disk × Only (given_of disk) (may_be_left disk)) (λ disk there.
     let (m, here, cut) = zip_there (λ m disk. IsCutFrom leaves_now m.node.store disk) c.play_all.new.world.chain.members c.in_ok-disks.disks.items c.args.era.now.returned disk c.in_ok-disks.ensures there in
-    (cut_of_member c.play_all.new.world one.w c.args.era.now.returned m disk one.shows here cut on).0)
+    ((cut_of_member c.play_all.new.world one.w c.args.era.now.returned m disk one.shows here cut on).0, cut.only))
 
 pub returns-clause-plays : goal.returns-clause-plays
 returns-clause-plays c =
