@@ -32,7 +32,7 @@ pub trait Disk {
     /// How often the device has failed.
     ghost failures: { Self → ℕ };
 
-    /// How many failures there can be at most, now and from now on: it doesn't rise.
+    /// How many failures there can be at most, now and from now on: no call here raises it.
     ghost most_failures: { Self → ℕ };
 
     /// How many bytes the disk has.
