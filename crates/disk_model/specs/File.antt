@@ -1,5 +1,6 @@
 -- What a file's disk shows of itself.
 use Rattle.std.specs.Prelude.{◌≡◌, ℕ, ℤ, Bool, false, Option, None}
+use Rattle.disk_model.specs.Counts.{most_counted}
 use Rattle.disk_model.specs.declared.file.FileDisk.{FileDisk}
 
 -- how many bytes it has
@@ -9,6 +10,10 @@ file_len disk = disk.len
 -- how often the device has failed
 abbrev pub file_failures : FileDisk → ℕ
 file_failures disk = disk.failures
+
+-- how often it can have failed at most, from now on
+abbrev pub file_most_failures : FileDisk → ℕ
+file_most_failures disk = most_counted (file_failures disk)
 
 -- whether a write or a sync has failed since it was opened
 abbrev pub file_is_broken : FileDisk → Bool

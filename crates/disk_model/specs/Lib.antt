@@ -1,4 +1,6 @@
+pub mod Calm
 pub mod Content
+pub mod Counts
 pub mod Disk
 pub mod Error
 pub mod Event

@@ -1,6 +1,7 @@
 -- What a disk in memory shows of itself, and what a call makes of that.
 use Rattle.std.specs.Prelude.{◌≡◌, ℕ, min, Bool, true, false, is_some, is_ok, ◌+◌, if◌then◌else◌, List, ◌++◌, [], ◌∷◌, length, take, Result, Err}
 use Rattle.disk_model.specs.Content.{IsImage, MayHaveLeft}
+use Rattle.disk_model.specs.Counts.{most_by}
 use Rattle.disk_model.specs.Disk.{put}
 use Rattle.disk_model.specs.There.{there_or}
 use Rattle.disk_model.specs.Script.{fate_of, next_call, answer}
@@ -57,6 +58,10 @@ script_of disk = disk.turns.script
 -- whether it has stopped
 abbrev pub has_stopped : MemDisk → Bool
 has_stopped disk = is_some disk.there
+
+-- how often it can have failed at most, from now on
+abbrev pub most_failures_of : MemDisk → ℕ
+most_failures_of disk = most_by (script_of disk) (has_stopped disk) (failures_of disk)
 
 -- what becomes of the next call, if it hasn't stopped
 abbrev pub next_fate : MemDisk → Fate

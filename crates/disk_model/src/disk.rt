@@ -32,6 +32,9 @@ pub trait Disk {
     /// How often the device has failed.
     ghost failures: { Self → ℕ };
 
+    /// How many failures there can be at most, now and from now on: no call here raises it.
+    ghost most_failures: { Self → ℕ };
+
     /// How many bytes the disk has.
     fn len(&self) -> u64
         ensures { result ≡ size self.now };
@@ -45,7 +48,8 @@ pub trait Disk {
         ensures leaves { keeps_model → NothingNew (may_leave_now self.old) (may_leave_now self.new) }
         ensures time { keeps_model → Elapses (moment self.old) (moment self.new)
             (may_have_left_since self.old) (may_have_left_since self.new) (may_leave_now self.new) }
-        ensures cause { HasCause DiskError.ReadFault (failures self.old) (failures self.new) result };
+        ensures cause { HasCause DiskError.ReadFault (failures self.old) (failures self.new) result }
+        ensures most { most_failures self.new ≤ most_failures self.old };
 
     /// Writes over what is there. Until a sync, a stop may leave any bytes in the range.
     /// 102 `WriteFault`: some of it may be written, so a read may give any bytes in the range, and a stop may leave any.
@@ -60,7 +64,8 @@ pub trait Disk {
         ensures memory { keeps_model → IsErrOf result DiskError.Memory → NothingNew (may_leave_now self.old) (may_leave_now self.new) }
         ensures time { keeps_model → Elapses (moment self.old) (moment self.new)
             (may_have_left_since self.old) (may_have_left_since self.new) (may_leave_now self.new) }
-        ensures cause { HasCause DiskError.WriteFault (failures self.old) (failures self.new) result };
+        ensures cause { HasCause DiskError.WriteFault (failures self.old) (failures self.new) result }
+        ensures most { most_failures self.new ≤ most_failures self.old };
 
     /// After it, a stop leaves what a read gives. 103 `SyncFault`: nothing is made durable.
     fn sync(&mut self) -> Result<(), DiskError>
@@ -70,7 +75,11 @@ pub trait Disk {
         ensures leaves { keeps_model → NothingNew (may_leave_now self.old) (may_leave_now self.new) }
         ensures time { keeps_model → Elapses (moment self.old) (moment self.new)
             (may_have_left_since self.old) (may_have_left_since self.new) (may_leave_now self.new) }
-        ensures cause { HasCause DiskError.SyncFault (failures self.old) (failures self.new) result };
+        ensures cause { HasCause DiskError.SyncFault (failures self.old) (failures self.new) result }
+        ensures most { most_failures self.new ≤ most_failures self.old };
+
+    /// The count of failures keeps to the most that there can be.
+    ghost within_most: { (disk : Self) → failures disk ≤ most_failures disk };
 
     /// A read gives as many bytes as the disk has.
     ghost gives_size: { keeps_model → (disk : Self) → length (gives disk) ≡ size disk };

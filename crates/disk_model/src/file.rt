@@ -159,7 +159,8 @@ fn folder_of(path: &str) -> &str {
 impl Disk for FileDisk {
     ghost use Rattle.std.specs.Prelude.{◌≡◌, ◌⊎◌, ◌↔◌, ◌+◌, ◌-◌, ◌^◌, ◌≤◌, [], length, IsTrue, IsErr, OnOk, IsErrOf};
     ghost use Rattle.disk_model.specs.Error.{HasCause};
-    ghost use Rattle.disk_model.specs.File.{file_len, file_failures, file_is_broken, file_last_error};
+    ghost use Rattle.disk_model.specs.File.{file_len, file_failures, file_most_failures, file_is_broken, file_last_error};
+    ghost use Rattle.disk_model.specs.Counts.{within_counted};
 
     ghost keeps_model = { ⊥ };
 
@@ -174,6 +175,10 @@ impl Disk for FileDisk {
     ghost may_have_left_since = { λ _ _ _. Unit {0} };
 
     ghost failures = { file_failures };
+
+    ghost most_failures = { file_most_failures };
+
+    ghost within_most = { λ d. within_counted d.failures };
 
     ghost gives_size = { λ no. absurd no };
 
@@ -195,6 +200,7 @@ impl Disk for FileDisk {
         ensures counted { OnOk result (file_failures self.new ≡ file_failures self.old) }
         ensures memory { IsErrOf result DiskError.Memory ↔ (file_failures self.old ≡ 2 ^ 64 - 1) }
         ensures cause { HasCause DiskError.ReadFault (file_failures self.old) (file_failures self.new) result }
+        ensures most { file_most_failures self.new ≤ file_most_failures self.old }
         ensures latch { file_is_broken self.new ≡ file_is_broken self.old }
         ensures kept { OnOk result (file_last_error self.new ≡ file_last_error self.old) }
     {
@@ -211,6 +217,7 @@ impl Disk for FileDisk {
         ensures counted { OnOk result (file_failures self.new ≡ file_failures self.old) }
         ensures memory { IsErrOf result DiskError.Memory ↔ (file_failures self.old ≡ 2 ^ 64 - 1) }
         ensures cause { HasCause DiskError.WriteFault (file_failures self.old) (file_failures self.new) result }
+        ensures most { file_most_failures self.new ≤ file_most_failures self.old }
         ensures latched { IsTrue (file_is_broken self.old) → IsErr result }
         ensures latch { IsTrue (file_is_broken self.new) ↔ (IsTrue (file_is_broken self.old) ⊎ IsErrOf result DiskError.WriteFault) }
         ensures kept { OnOk result (file_last_error self.new ≡ file_last_error self.old) }
@@ -231,6 +238,7 @@ impl Disk for FileDisk {
         ensures counted { OnOk result (file_failures self.new ≡ file_failures self.old) }
         ensures memory { IsErrOf result DiskError.Memory ↔ (file_failures self.old ≡ 2 ^ 64 - 1) }
         ensures cause { HasCause DiskError.SyncFault (file_failures self.old) (file_failures self.new) result }
+        ensures most { file_most_failures self.new ≤ file_most_failures self.old }
         ensures latched { IsTrue (file_is_broken self.old) → IsErr result }
         ensures latch { IsTrue (file_is_broken self.new) ↔ (IsTrue (file_is_broken self.old) ⊎ IsErrOf result DiskError.SyncFault) }
         ensures kept { OnOk result (file_last_error self.new ≡ file_last_error self.old) }

@@ -64,6 +64,18 @@ impl MemDisk {
         self.turns.script.push(counted)
     }
 
+    /// Forgets what the script has still to come: nothing more happens to the disk but what its calls do. A disk that has
+    /// stopped stays so.
+    pub fn disarm(&mut self)
+        ensures script { script_of self.new ≡ [] }
+        ensures stays { IsAsBefore self.old self.new }
+        ensures leaves { NothingNew (may_be_left self.old) (may_be_left self.new) }
+        ensures time { Elapses (moment_of self.old) (moment_of self.new)
+            (left_since self.old) (left_since self.new) (may_be_left self.new) }
+    {
+        self.turns.script = Script::new(self.alloc);
+    }
+
     /// Makes it a disk as newly opened, with a content that a stop now may leave. What the script has still to come
     /// stays, and its calls count on.
     pub fn cut(&mut self, cut: Cut)
@@ -174,7 +186,8 @@ impl Disk for MemDisk {
     ghost use Rattle.std.specs.List.{slice_range};
     ghost use Rattle.disk_model.specs.Disk.{Elapses, Follows, Holds, NothingNew, Only, Torn};
     ghost use Rattle.disk_model.specs.Error.{HasCause};
-    ghost use Rattle.disk_model.specs.Memory.{bytes_of, given_of, size_of, may_be_left, moment_of, left_since, failures_of, unsynced_of, script_of, IsServed, IsAsBefore, IsWritten};
+    ghost use Rattle.disk_model.specs.Memory.{bytes_of, given_of, size_of, may_be_left, moment_of, left_since, failures_of, most_failures_of, unsynced_of, script_of, has_stopped, IsServed, IsAsBefore, IsWritten};
+    ghost use Rattle.disk_model.specs.Counts.{within_by};
     ghost use Rattle.disk_model.specs.Images.{counts_now, only_now, is_image};
 
     ghost keeps_model = { Unit {0} };
@@ -190,6 +203,10 @@ impl Disk for MemDisk {
     ghost may_have_left_since = { left_since };
 
     ghost failures = { failures_of };
+
+    ghost most_failures = { most_failures_of };
+
+    ghost within_most = { λ d. within_by (script_of d) (has_stopped d) (failures_of d) };
 
     ghost gives_size = { λ _ d. refl };
 
@@ -214,6 +231,7 @@ impl Disk for MemDisk {
         ensures time { Elapses (moment_of self.old) (moment_of self.new)
             (left_since self.old) (left_since self.new) (may_be_left self.new) }
         ensures cause { HasCause DiskError.ReadFault (failures_of self.old) (failures_of self.new) result }
+        ensures most { most_failures_of self.new ≤ most_failures_of self.old }
         ensures served { result ≢ Err DiskError.Memory → IsServed DiskError.ReadFault self.old self.new result }
         ensures memory { IsErrOf result DiskError.Memory → IsAsBefore self.old self.new }
         ensures unsynced { unsynced_of self.new ≡ unsynced_of self.old }
@@ -245,6 +263,7 @@ impl Disk for MemDisk {
         ensures time { Elapses (moment_of self.old) (moment_of self.new)
             (left_since self.old) (left_since self.new) (may_be_left self.new) }
         ensures cause { HasCause DiskError.WriteFault (failures_of self.old) (failures_of self.new) result }
+        ensures most { most_failures_of self.new ≤ most_failures_of self.old }
         ensures served { result ≢ Err DiskError.Memory → IsServed DiskError.WriteFault self.old self.new result }
         ensures memory { IsErrOf result DiskError.Memory → IsAsBefore self.old self.new }
         ensures written { result ≢ Err DiskError.Memory → IsWritten self.old self.new at bytes.now }
@@ -264,6 +283,7 @@ impl Disk for MemDisk {
         ensures time { Elapses (moment_of self.old) (moment_of self.new)
             (left_since self.old) (left_since self.new) (may_be_left self.new) }
         ensures cause { HasCause DiskError.SyncFault (failures_of self.old) (failures_of self.new) result }
+        ensures most { most_failures_of self.new ≤ most_failures_of self.old }
         ensures served { result ≢ Err DiskError.Memory → IsServed DiskError.SyncFault self.old self.new result }
         ensures memory { IsErrOf result DiskError.Memory → IsAsBefore self.old self.new }
         ensures synced { unsynced_of self.new ≡ (if is_ok result then [] else unsynced_of self.old) }

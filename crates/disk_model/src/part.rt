@@ -62,6 +62,7 @@ impl Part {
         ensures time { D.keeps_model → Elapses (D.moment disk.old) (D.moment disk.new)
             (D.may_have_left_since disk.old) (D.may_have_left_since disk.new) (D.may_leave_now disk.new) }
         ensures cause { HasCause DiskError.ReadFault (D.failures disk.old) (D.failures disk.new) result }
+        ensures most { D.most_failures disk.new ≤ D.most_failures disk.old }
     {
         disk.read(self.start + at, bytes)
     }
@@ -84,6 +85,7 @@ impl Part {
         ensures time { D.keeps_model → Elapses (D.moment disk.old) (D.moment disk.new)
             (D.may_have_left_since disk.old) (D.may_have_left_since disk.new) (D.may_leave_now disk.new) }
         ensures cause { HasCause DiskError.WriteFault (D.failures disk.old) (D.failures disk.new) result }
+        ensures most { D.most_failures disk.new ≤ D.most_failures disk.old }
     {
         disk.write_at(self.start + at, bytes)
     }
@@ -99,6 +101,7 @@ impl Part {
         ensures time { D.keeps_model → Elapses (D.moment disk.old) (D.moment disk.new)
             (D.may_have_left_since disk.old) (D.may_have_left_since disk.new) (D.may_leave_now disk.new) }
         ensures cause { HasCause DiskError.SyncFault (D.failures disk.old) (D.failures disk.new) result }
+        ensures most { D.most_failures disk.new ≤ D.most_failures disk.old }
     {
         disk.sync()
     }

@@ -125,6 +125,9 @@ pub struct Turns {
 }
 
 impl Turns {
+    ghost use Rattle.std.specs.Prelude.{◌≤◌};
+    ghost use Rattle.disk_model.specs.Counts.{most_by};
+
     /// What becomes of the next call. A stopped disk counts a failure and tells that it stopped.
     /// Where failures can't be counted any more, it is 100 `Memory`, and nothing changed.
     pub fn begin(&mut self, has_stopped: bool) -> Result<Fate, DiskError>
@@ -135,6 +138,7 @@ impl Turns {
         ensures told { IfErr result (λ e. (e ≡ DiskError.Memory) ⊎ (e ≡ DiskError.Stopped)) }
         ensures memory { IsErrOf result DiskError.Memory → (self.old.failures ≡ 2 ^ 64 - 1) × (self.new ≡ self.old) }
         ensures stopped { IsErrOf result DiskError.Stopped → IsTrue has_stopped × (self.new ≡ record self.old { failures = self.old.failures + 1 }) }
+        ensures most { most_by self.new.script has_stopped self.new.failures ≤ most_by self.old.script has_stopped self.old.failures }
     {
         if self.failures == u64::MAX {
             return Err(DiskError::Memory);

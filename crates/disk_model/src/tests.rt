@@ -179,6 +179,23 @@ fn entries(rt: HostRuntime) -> Result<(), Fail> {
     Ok(())
 }
 
+// What was armed is forgotten, and a disk that has stopped stays so.
+#[test]
+fn disarmed(rt: HostRuntime) -> Result<(), Fail> {
+    let mut disk = MemDisk::new(rt.alloc(), 2, Script::new(rt.alloc()))?;
+    disk.arm(Event::FailAt { call: 1 })?;
+    disk.arm(Event::StopAt { call: 2, bytes: 0 })?;
+    disk.disarm();
+    assert_eq!(rt; disk.write_at(0, &[7, 7]), DONE);
+    assert_eq!(rt; disk.sync(), DONE);
+    assert_eq!(rt; disk.bytes(), [7, 7].as_slice());
+    disk.arm(Event::StopAt { call: 1, bytes: 0 })?;
+    assert_eq!(rt; disk.sync(), STOPPED);
+    disk.disarm();
+    assert!(rt; disk.is_stopped());
+    Ok(())
+}
+
 #[test]
 fn parts(rt: HostRuntime) -> Result<(), Fail> {
     let alloc = rt.alloc();

@@ -26,6 +26,7 @@ pub(crate) fn write_durably<D: Disk>(
     ensures done { OnOk result (D.failures disk.new ≡ D.failures disk.old) }
     ensures told { IfErr result (λ e. e ≢ DiskError.ReadFault) }
     ensures cause { IfErr result (λ e. e ≢ DiskError.Memory → D.failures disk.old < D.failures disk.new) }
+    ensures most { D.most_failures disk.new ≤ D.most_failures disk.old }
 {
     part.write_at(disk, at, bytes)?;
     part.sync(disk)

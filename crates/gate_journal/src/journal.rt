@@ -73,6 +73,7 @@ impl Journal {
         ensures size { D.size disk.new ≡ D.size disk.old }
         ensures told { IfErr result IsOfWriting }
         ensures cause { HasCause (D.failures disk.old) (D.failures disk.new) result }
+        ensures most { D.most_failures disk.new ≤ D.most_failures disk.old }
     {
         write_durably(part, disk, 0, &[CLOSED])?;
         Ok(Journal {
@@ -118,6 +119,7 @@ impl Journal {
         ensures size { D.size disk.new ≡ D.size disk.old }
         ensures told { IfErr result IsOfOpening }
         ensures cause { HasCause (D.failures disk.old) (D.failures disk.new) result }
+        ensures most { D.most_failures disk.new ≤ D.most_failures disk.old }
     {
         part.sync(disk)?;
         if part.is_empty() {
@@ -262,6 +264,7 @@ impl Journal {
         ensures size { D.size disk.new ≡ D.size disk.old }
         ensures told { IfErr result (λ r. r ≢ Refusal.Broken → IsOfReading r) }
         ensures cause { HasCause (D.failures disk.old) (D.failures disk.new) result }
+        ensures most { D.most_failures disk.new ≤ D.most_failures disk.old }
     {
         if self.is_broken() {
             return Err(Refusal::Broken);

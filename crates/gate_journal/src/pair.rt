@@ -97,6 +97,7 @@ fn read_newest<D: Disk>(
     ensures size { D.size disk.new ≡ D.size disk.old }
     ensures told { IfErr result IsOfLoading }
     ensures cause { HasCause (D.failures disk.old) (D.failures disk.new) result }
+    ensures most { D.most_failures disk.new ≤ D.most_failures disk.old }
 {
     let Some(head) = entry else {
         return Ok(None);
@@ -121,6 +122,7 @@ fn write_both<D: Disk>(part: Part, disk: &mut D, at: u64, bytes: &[u8]) -> Resul
     ensures later { D.failures disk.old ≤ D.failures disk.new }
     ensures done { OnOk result (D.failures disk.new ≡ D.failures disk.old) }
     ensures cause { IfErr result (λ e. e ≢ DiskError.Memory → D.failures disk.old < D.failures disk.new) }
+    ensures most { D.most_failures disk.new ≤ D.most_failures disk.old }
 {
     slot_part(part, 0).write_at(disk, at, bytes)?;
     slot_part(part, 1).write_at(disk, at, bytes)?;
@@ -143,6 +145,7 @@ fn clear<D: Disk>(part: Part, disk: &mut D) -> Result<(), DiskError>
     ensures later { D.failures disk.old ≤ D.failures disk.new }
     ensures done { OnOk result (D.failures disk.new ≡ D.failures disk.old) }
     ensures cause { IfErr result (λ e. e ≢ DiskError.Memory → D.failures disk.old < D.failures disk.new) }
+    ensures most { D.most_failures disk.new ≤ D.most_failures disk.old }
 {
     write_both(part, disk, 1, &[0; HEAD_NUMBERS])?;
     write_both(part, disk, 0, &[CLOSED])
@@ -177,6 +180,7 @@ impl GatedPair {
         ensures size { D.size disk.new ≡ D.size disk.old }
         ensures told { IfErr result IsOfWriting }
         ensures cause { HasCause (D.failures disk.old) (D.failures disk.new) result }
+        ensures most { D.most_failures disk.new ≤ D.most_failures disk.old }
     {
         clear(part, disk)?;
         let mut pair = GatedPair {
@@ -213,6 +217,7 @@ impl GatedPair {
         ensures size { D.size disk.new ≡ D.size disk.old }
         ensures told { IfErr result IsOfLoading }
         ensures cause { HasCause (D.failures disk.old) (D.failures disk.new) result }
+        ensures most { D.most_failures disk.new ≤ D.most_failures disk.old }
     {
         part.sync(disk)?;
         let first = read_head(slot_part(part, 0), disk)?;
@@ -312,6 +317,7 @@ impl GatedPair {
         ensures unchanged { IfErr result (λ r. ¬ IsOfDevice r → (self.new ≡ self.old) × (disk.new ≡ disk.old)) }
         ensures device { IfErr result (λ r. IsOfDevice r → self.new ≡ record self.old { broken = true }) }
         ensures cause { HasCause (D.failures disk.old) (D.failures disk.new) result }
+        ensures most { D.most_failures disk.new ≤ D.most_failures disk.old }
     {
         self.may_store()?;
         if let Err(error) = self.close_next(disk) {
@@ -339,6 +345,7 @@ impl GatedPair {
         ensures later { D.failures disk.old ≤ D.failures disk.new }
         ensures done { OnOk result (D.failures disk.new ≡ D.failures disk.old) }
         ensures cause { IfErr result (λ e. e ≢ DiskError.Memory → D.failures disk.old < D.failures disk.new) }
+        ensures most { D.most_failures disk.new ≤ D.most_failures disk.old }
     {
         close_gate(slot_part(self.part, self.into), disk, self.is_closed)
     }
@@ -384,6 +391,7 @@ impl GatedPair {
         ensures unchanged { IfErr result (λ r. ¬ IsOfDevice r → (self.new ≡ self.old) × (disk.new ≡ disk.old)) }
         ensures device { IfErr result (λ r. IsOfDevice r → self.new ≡ record self.old { broken = true }) }
         ensures cause { HasCause (D.failures disk.old) (D.failures disk.new) result }
+        ensures most { D.most_failures disk.new ≤ D.most_failures disk.old }
     {
         self.may_store()?;
         if let Err(error) = self.write_next(disk, payload) {
@@ -418,6 +426,7 @@ impl GatedPair {
         ensures later { D.failures disk.old ≤ D.failures disk.new }
         ensures done { OnOk result (D.failures disk.new ≡ D.failures disk.old) }
         ensures cause { IfErr result (λ e. e ≢ DiskError.Memory → D.failures disk.old < D.failures disk.new) }
+        ensures most { D.most_failures disk.new ≤ D.most_failures disk.old }
     {
         let part = slot_part(self.part, self.into);
         write_entry(part, disk, self.number + 1, payload)
@@ -464,6 +473,7 @@ impl GatedPair {
         ensures unchanged { IfErr result (λ r. ¬ IsOfDevice r → (self.new ≡ self.old) × (disk.new ≡ disk.old)) }
         ensures device { IfErr result (λ r. IsOfDevice r → self.new ≡ record self.old { is_closed = self.new.is_closed; broken = true }) }
         ensures cause { HasCause (D.failures disk.old) (D.failures disk.new) result }
+        ensures most { D.most_failures disk.new ≤ D.most_failures disk.old }
     {
         self.begin_store(disk)?;
         self.end_store(disk, payload, slot, front)

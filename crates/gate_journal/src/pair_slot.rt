@@ -80,6 +80,7 @@ pub(crate) fn close_gate<D: Disk>(
     ensures later { D.failures disk.old ≤ D.failures disk.new }
     ensures done { OnOk result (D.failures disk.new ≡ D.failures disk.old) }
     ensures cause { IfErr result (λ e. e ≢ DiskError.Memory → D.failures disk.old < D.failures disk.new) }
+    ensures most { D.most_failures disk.new ≤ D.most_failures disk.old }
 {
     if is_closed {
         write_durably(part, disk, 0, &[])
@@ -124,6 +125,7 @@ pub(crate) fn write_entry<D: Disk>(
     ensures later { D.failures disk.old ≤ D.failures disk.new }
     ensures done { OnOk result (D.failures disk.new ≡ D.failures disk.old) }
     ensures cause { IfErr result (λ e. e ≢ DiskError.Memory → D.failures disk.old < D.failures disk.new) }
+    ensures most { D.most_failures disk.new ≤ D.most_failures disk.old }
 {
     let body = encoded_body(number, payload);
     write_durably(part, disk, 1, &body[..12 + payload.len()])?;
@@ -140,6 +142,7 @@ pub(crate) fn read_head<D: Disk>(part: Part, disk: &mut D) -> Result<Head, Refus
     ensures size { D.size disk.new ≡ D.size disk.old }
     ensures told { IfErr result IsOfLoading }
     ensures cause { HasCause (D.failures disk.old) (D.failures disk.new) result }
+    ensures most { D.most_failures disk.new ≤ D.most_failures disk.old }
 {
     let bytes: [u8; HEAD_SIZE] = read_array(part, disk, 0)?;
     if bytes[0] != OPEN {
@@ -173,6 +176,7 @@ pub(crate) fn read_payload<D: Disk>(
     ensures size { D.size disk.new ≡ D.size disk.old }
     ensures told { IfErr result IsOfLoading }
     ensures cause { HasCause (D.failures disk.old) (D.failures disk.new) result }
+    ensures most { D.most_failures disk.new ≤ D.most_failures disk.old }
 {
     let mut payload = vec![in alloc; 0; len as usize]?;
     part.read(disk, HEAD_SIZE as u64, &mut payload)?;

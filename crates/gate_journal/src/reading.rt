@@ -42,6 +42,7 @@ pub(crate) fn read_array<D: Disk, const N: usize>(
     ensures told { IfErr result IsOfReading }
     ensures undamaged { IsErrOf result Refusal.Damaged → ⊥ }
     ensures cause { HasCause (D.failures disk.old) (D.failures disk.new) result }
+    ensures most { D.most_failures disk.new ≤ D.most_failures disk.old }
 {
     let mut bytes = [0; N];
     part.read(disk, at, &mut bytes)?;
@@ -58,6 +59,7 @@ fn read_gate<D: Disk>(part: Part, disk: &mut D, at: u64) -> Result<u8, Refusal>
     ensures told { IfErr result IsOfReading }
     ensures undamaged { IsErrOf result Refusal.Damaged → ⊥ }
     ensures cause { HasCause (D.failures disk.old) (D.failures disk.new) result }
+    ensures most { D.most_failures disk.new ≤ D.most_failures disk.old }
 {
     let bytes: [u8; 1] = read_array(part, disk, at)?;
     Ok(bytes[0])
@@ -73,6 +75,7 @@ fn read_header<D: Disk>(part: Part, disk: &mut D, at: u64) -> Result<Header, Ref
     ensures told { IfErr result IsOfReading }
     ensures undamaged { IsErrOf result Refusal.Damaged → ⊥ }
     ensures cause { HasCause (D.failures disk.old) (D.failures disk.new) result }
+    ensures most { D.most_failures disk.new ≤ D.most_failures disk.old }
 {
     let bytes: [u8; 12] = read_array(part, disk, at)?;
     Ok(Header {
@@ -92,6 +95,7 @@ fn read_image<D: Disk>(part: Part, disk: &mut D, at: u64) -> Result<Image, Refus
     ensures told { IfErr result IsOfReading }
     ensures undamaged { IsErrOf result Refusal.Damaged → ⊥ }
     ensures cause { HasCause (D.failures disk.old) (D.failures disk.new) result }
+    ensures most { D.most_failures disk.new ≤ D.most_failures disk.old }
 {
     let record: [u8; RECORD_SIZE] = read_array(part, disk, at)?;
     let mut bytes = [0; IMAGE_SIZE];
@@ -120,6 +124,7 @@ fn read_images<D: Disk>(
     ensures told { IfErr result IsOfReading }
     ensures undamaged { IsErrOf result Refusal.Damaged → ⊥ }
     ensures cause { HasCause (D.failures disk.old) (D.failures disk.new) result }
+    ensures most { D.most_failures disk.new ≤ D.most_failures disk.old }
 {
     let mut images = Vec::with_capacity(alloc, count as usize)?;
     for index in 0..count {
@@ -163,6 +168,7 @@ fn read_body<D: Disk>(
     ensures size { D.size disk.new ≡ D.size disk.old }
     ensures told { IfErr result IsOfReading }
     ensures cause { HasCause (D.failures disk.old) (D.failures disk.new) result }
+    ensures most { D.most_failures disk.new ≤ D.most_failures disk.old }
 {
     let room = room_behind(at, part.len());
     if room == 0 {
@@ -199,6 +205,7 @@ pub(crate) fn read_batch<D: Disk>(
     ensures size { D.size disk.new ≡ D.size disk.old }
     ensures told { IfErr result IsOfReading }
     ensures cause { HasCause (D.failures disk.old) (D.failures disk.new) result }
+    ensures most { D.most_failures disk.new ≤ D.most_failures disk.old }
 {
     if read_gate(part, disk, at)? != OPEN {
         return Ok(None);

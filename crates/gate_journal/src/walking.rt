@@ -54,6 +54,7 @@ pub(crate) fn read_batches<D: Disk>(
     ensures size { D.size disk.new ≡ D.size disk.old }
     ensures told { IfErr result IsOfReading }
     ensures cause { HasCause (D.failures disk.old) (D.failures disk.new) result }
+    ensures most { D.most_failures disk.new ≤ D.most_failures disk.old }
 {
     let mut batches = Vec::new(alloc);
     let mut place = Place {

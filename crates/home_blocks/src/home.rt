@@ -59,6 +59,7 @@ impl Home {
         ensures size { D.size disk.new ≡ D.size disk.old }
         ensures told { IfErr result IsOfWriting }
         ensures cause { HasCause (D.failures disk.old) (D.failures disk.new) result }
+        ensures most { D.most_failures disk.new ≤ D.most_failures disk.old }
     {
         let payload = superblock.encoded();
         let (slot, front) = (superblock.slot(), superblock.front());
@@ -86,6 +87,7 @@ impl Home {
         ensures size { D.size disk.new ≡ D.size disk.old }
         ensures told { IfErr result IsOfOpening }
         ensures cause { HasCause (D.failures disk.old) (D.failures disk.new) result }
+        ensures most { D.most_failures disk.new ≤ D.most_failures disk.old }
     {
         if disk.len() < PAIR_SIZE {
             return Err(Refusal::NotAVolume);

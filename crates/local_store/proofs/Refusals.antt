@@ -1,12 +1,14 @@
 -- Which refusals of the crates below are told as which.
-use Rattle.std.proofs.Common.{◌≡◌, Result, Ok, Err, IsErrOf, ap, refl, subst, sym, ◌∙◌}
+use Rattle.std.proofs.Common.{◌≡◌, ◌≤◌, ℕ, Result, Ok, Err, IsErrOf, ap, arith, refl, subst, sym, ◌∙◌}
+use Rattle.disk_model.specs.declared.error.DiskError.{DiskError}
+use Rattle.disk_model.specs.declared.error.DiskError.TheVariants as faults
 use Rattle.gate_journal.specs.declared.refusal.Refusal.{Refusal as JournalRefusal}
 use Rattle.gate_journal.specs.declared.refusal.Refusal.TheVariants as journal
 use Rattle.home_blocks.specs.declared.refusal.Refusal.{Refusal as HomeRefusal}
 use Rattle.home_blocks.specs.declared.refusal.Refusal.TheVariants as home
-use Rattle.local_store.specs.Refusal.{by_home, by_journal}
+use Rattle.local_store.specs.Refusal.{by_home, by_journal, IsCaused, IsNotOfDevice}
 use Rattle.local_store.specs.declared.refusal.Refusal.{Refusal}
-use Rattle.local_store.specs.declared.refusal.Refusal.TheVariants.{NotAVolume, OtherVersion}
+use Rattle.local_store.specs.declared.refusal.Refusal.TheVariants.{Memory, Full, Broken, NotAVolume, OtherVersion, Unfinished, Backwards, Device}
 
 IsNone : Refusal → Type 0
 IsNone NotAVolume = Unit {0}
@@ -56,3 +58,23 @@ told_by_home {T} {U} r told same is = ap (λ (e : HomeRefusal). Err e) (home_no_
 
 pub told_by_journal : {T U : Type 0} (r : JournalRefusal) (told : Refusal) → told ≡ by_journal r → IsErrOf {T = T} (Err told) NotAVolume → IsErrOf {T = U} (Err r) journal.Damaged
 told_by_journal {T} {U} r told same is = ap (λ (e : JournalRefusal). Err e) (journal_damaged r (sym same ∙ error_is is))
+
+IsMemory : DiskError → Type 0
+IsMemory faults.Memory = Unit {0}
+IsMemory _ = ⊥
+
+-- where the disk hasn't failed since, the refusal isn't the device's
+pub not_of_device : (r : Refusal) (before now : ℕ) → IsCaused before now r → now ≤ before → IsNotOfDevice r
+unfolding IsMemory
+not_of_device Memory before now caused le = tt
+not_of_device Full before now caused le = tt
+not_of_device Broken before now caused le = tt
+not_of_device NotAVolume before now caused le = tt
+not_of_device OtherVersion before now caused le = tt
+not_of_device Unfinished before now caused le = tt
+not_of_device Backwards before now caused le = tt
+not_of_device (Device faults.Memory) before now caused le = refl
+not_of_device (Device faults.ReadFault) before now caused le = absurd (omega (arith, le, caused (λ is. subst IsMemory (sym is) tt)))
+not_of_device (Device faults.WriteFault) before now caused le = absurd (omega (arith, le, caused (λ is. subst IsMemory (sym is) tt)))
+not_of_device (Device faults.SyncFault) before now caused le = absurd (omega (arith, le, caused (λ is. subst IsMemory (sym is) tt)))
+not_of_device (Device faults.Stopped) before now caused le = absurd (omega (arith, le, caused (λ is. subst IsMemory (sym is) tt)))

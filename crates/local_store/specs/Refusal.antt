@@ -96,6 +96,11 @@ abbrev pub IsCaused : ℕ → ℕ → Refusal → Type 0
 IsCaused before now (Device error) = error ≢ faults.Memory → before < now
 IsCaused before now _ = Unit {0}
 
+-- it isn't the device's, unless the device had no memory
+abbrev pub IsNotOfDevice : Refusal → Type 0
+IsNotOfDevice (Device error) = error ≡ faults.Memory
+IsNotOfDevice _ = Unit {0}
+
 -- The disk's failures don't fall; a call that is done met none, and a refusal of the device comes of one.
 pub record HasCause {T : Type 0} (before now : ℕ) (result : Result T Refusal) : Type 0 where
   pub later : before ≤ now

@@ -76,6 +76,7 @@ impl Contents {
         ensures told { IfErr result IsOfFormatting }
         ensures unchanged { IsErrOf result Refusal.Memory → disk.new ≡ disk.old }
         ensures cause { HasCause (D.failures disk.old) (D.failures disk.new) result }
+        ensures most { D.most_failures disk.new ≤ D.most_failures disk.old }
     {
         let pending = Pending::new(alloc, geometry.blocks)?;
         let cache = Cache::new(alloc)?;
@@ -120,6 +121,7 @@ impl Contents {
         ensures size { D.size disk.new ≡ D.size disk.old }
         ensures told { IfErr result IsOfOpening }
         ensures cause { HasCause (D.failures disk.old) (D.failures disk.new) result }
+        ensures most { D.most_failures disk.new ≤ D.most_failures disk.old }
     {
         let home = match Home::open(alloc, disk) {
             Ok(home) => home,
@@ -517,6 +519,7 @@ fn write_zeros<D: Disk>(disk: &mut D, geometry: Geometry) -> Result<(), Refusal>
     ensures told { IfErr result IsOfTicking }
     ensures own { IfErr result IsOfDevice }
     ensures cause { HasCause (D.failures disk.old) (D.failures disk.new) result }
+    ensures most { D.most_failures disk.new ≤ D.most_failures disk.old }
 {
     let part = home_part(geometry);
     let zeros = [0; BLOCK_SIZE as usize];

@@ -5,7 +5,7 @@ ghost use Rattle.home_blocks.specs.Places.{disk_size_of};
 ghost use Rattle.gate_journal.specs.Runs.{OnlyReads};
 ghost use Rattle.local_store.specs.About.{about_of};
 ghost use Rattle.local_store.specs.Meaning.{HasDamagedArea, IsUnfinished, Means};
-ghost use Rattle.local_store.specs.Refusal.{IsCaused, IsOfFormatting, IsOfOpening};
+ghost use Rattle.local_store.specs.Refusal.{IsCaused, IsNotOfDevice, IsOfFormatting, IsOfOpening};
 ghost use Rattle.local_store.specs.Store.{IsStored, geometry_of, meaning_in};
 
 use crate::contents::Contents;
@@ -47,6 +47,8 @@ impl<D: Disk + Drop> Store<D> {
         ensures size { IfErr result (λ e. D.size e.1 ≡ D.size disk) }
         ensures told { IfErr result (λ e. IsOfFormatting e.0) }
         ensures cause { IfErr result (λ e. IsCaused (D.failures disk) (D.failures e.1) e.0) }
+        // Where the disk can't fail any more, the refusal isn't the device's.
+        ensures calm { IfErr result (λ e. D.failures disk ≡ D.most_failures disk → IsNotOfDevice e.0) }
     {
         let mut disk = disk;
         match Contents::format(alloc, &mut disk, slot, incarnation, geometry) {
@@ -76,6 +78,8 @@ impl<D: Disk + Drop> Store<D> {
         ensures size { IfErr result (λ e. D.size e.1 ≡ D.size disk) }
         ensures told { IfErr result (λ e. IsOfOpening e.0) }
         ensures cause { IfErr result (λ e. IsCaused (D.failures disk) (D.failures e.1) e.0) }
+        // Where the disk can't fail any more, the refusal isn't the device's.
+        ensures calm { IfErr result (λ e. D.failures disk ≡ D.most_failures disk → IsNotOfDevice e.0) }
     {
         let mut disk = disk;
         match Contents::open(alloc, &mut disk) {

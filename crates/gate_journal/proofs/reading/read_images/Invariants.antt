@@ -15,4 +15,5 @@ invariant-loop-index g l = record {
   whole : All IsWhole l.images.items;
   size : g.D.Disk.size l.disk ≡ g.D.Disk.size l.fn.disk;
   done : g.D.Disk.failures l.disk ≡ g.D.Disk.failures l.fn.disk;
+  most : g.D.Disk.most_failures l.disk ≤ g.D.Disk.most_failures l.fn.disk;
 }

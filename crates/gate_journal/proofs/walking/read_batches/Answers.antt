@@ -38,4 +38,5 @@ loop-batches-preserved g c =
         omega (arith, next.limit, c.behind-place.ensures.front),
       );
       done = grind (arith, common_steps);
+      most = omega (arith, c.loop-batches.invariant.most, c.in_ok-batch.ensures.most);
     }

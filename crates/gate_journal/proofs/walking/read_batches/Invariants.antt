@@ -16,6 +16,7 @@ invariant-loop-batches g l = record {
   size : g.D.Disk.size l.disk ≡ g.D.Disk.size l.fn.disk;
   fronts : (l.before ≤ l.place.front) × (l.place.front ≤ max l.before MAX_NUMBER);
   done : g.D.Disk.failures l.disk ≡ g.D.Disk.failures l.fn.disk;
+  most : g.D.Disk.most_failures l.disk ≤ g.D.Disk.most_failures l.fn.disk;
 }
 
 abbrev pub decreases-loop-batches : goal.decreases-loop-batches
