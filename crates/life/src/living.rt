@@ -243,6 +243,10 @@ fn recover_again(alloc: Global, disk: MemDisk, cut: Cut) -> Result<World<Store<M
     disk.disarm();
     match recover(alloc, disk) {
         Ok(world) => Ok(world),
-        Err(refused) => Err(refused.refusal),
+        Err(refused) => {
+            let Refused { refusal, disk } = refused;
+            drop(disk);
+            Err(refusal)
+        }
     }
 }
