@@ -1,5 +1,5 @@
 -- The sessions of a chain's clients: what holds of all of them, what they ask, and how their histories go on.
-use Rattle.std.specs.Prelude.{◌≡◌, ◌≢◌, ◌⊎◌, ◌==◌, ℕ, None, Option, Some, Bool, true, List, [], ◌∷◌, ◌++◌, All, if◌then◌else◌, map, position, slice_get}
+use Rattle.std.specs.Prelude.{◌≡◌, ◌≢◌, ◌⊎◌, ◌==◌, ℕ, None, Option, Some, Bool, true, List, [], ◌∷◌, ◌++◌, All, if◌then◌else◌, position, slice_get}
 use Rattle.std.specs.List.{AllPairs, flat_map}
 use Rattle.board.specs.Seats.{BoardId}
 use Rattle.flush_barrier.specs.declared.session_id.SessionId.{SessionId}

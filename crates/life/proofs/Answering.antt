@@ -1,9 +1,9 @@
 -- What a call of a world is, is what its answer says: lemmas.
 use Rattle.std.proofs.Common.{◌≡◌, ℕ, ◌<◌, ◌≤◌, arith, Bool, true, false, cond, List, [], length, refl, ap, inl, sym, subst, ◌∙◌}
-use Rattle.std.specs.Prelude.{None, Option, Some, Result, Ok, Err, get_or, ◌==◌}
+use Rattle.std.specs.Prelude.{None, Option, Some, Result, Ok, Err, ◌==◌}
 use Rattle.std.proofs.Math.Nat.{le_refl}
 use Rattle.chain_core.specs.declared.refusal.Refusal.{Refusal}
-use Rattle.clients.specs.Clients.{IsOver, no_one, of_session}
+use Rattle.clients.specs.Clients.{no_one, of_session}
 use Rattle.flush_barrier.specs.declared.session_id.SessionId.{SessionId}
 use Rattle.local_store.specs.About.{About}
 use Rattle.clients.specs.declared.output.Output.{Output}

@@ -1,6 +1,6 @@
 -- One era after another: lemmas.
 use Rattle.std.proofs.Common.{◌≡◌, ℕ, List, [], ◌∷◌, ◌++◌, length, refl, ap, sym, subst, ◌∙◌, inl, inr, arith}
-use Rattle.std.specs.Prelude.{◌==◌, ◌*◌, All, None, Option, Some, fold, get_or, map, slice_get, zip}
+use Rattle.std.specs.Prelude.{◌==◌, ◌*◌, All, None, Option, Some, fold, get_or, slice_get, zip}
 use Rattle.std.specs.List.{AllZip}
 use Rattle.std.proofs.lemmas.Bool.{eqb-true}
 use Rattle.std.proofs.lemmas.Grind.{flat_map-append}

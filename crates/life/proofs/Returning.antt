@@ -25,7 +25,7 @@ use Rattle.life.specs.Refusal.{BreaksOff, EndsAtReturn, IsOfMemory, IsOfReopenin
 use Rattle.life.specs.declared.era.Answers.{Answers}
 use Rattle.life.specs.declared.era.Era.{Era}
 use Rattle.life.specs.declared.refusal.Refusal.{Refusal}
-use Rattle.life.specs.declared.refusal.Refusal.TheVariants.{Memory, NotInChain, Store}
+use Rattle.life.specs.declared.refusal.Refusal.TheVariants.{Memory, Store}
 use Rattle.life.proofs.Owners.{StayOwn, own_of}
 use Rattle.life.proofs.Starting.{IsStore, about_of_store, all_mapped, keeps_volume, leaves_now}
 

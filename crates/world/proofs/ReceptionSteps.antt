@@ -1,30 +1,24 @@
 -- What a client's call is in the model of the one volume: requests are sent and taken up, a session begins, or nothing happens.
-use Rattle.std.proofs.Common.{◌≡◌, ◌≢◌, ℕ, zero, suc, Bool, true, false, eqb, Some, None, Result, Ok, Err, List, [], ◌∷◌, ◌++◌, length, map, set, refl, ap, sym, subst, ◌∙◌, inl, inr, arith}
-use Rattle.std.specs.Prelude.{All, IfOk, IsSome, OnErr, ◌==◌, get_or, slice_get}
+use Rattle.std.proofs.Common.{◌≡◌, ℕ, Bool, true, false, eqb, Some, Result, Ok, Err, List, [], ◌∷◌, ◌++◌, length, map, set, refl, ap, sym, subst, ◌∙◌, inl, inr, arith}
+use Rattle.std.specs.Prelude.{All, IfOk, IsSome, OnErr, slice_get}
 use Rattle.std.specs.List.{insert}
 use Rattle.std.proofs.lemmas.Bool.{cases_Bool, cond-true, cond-false, eq-eqb, eqb-true}
 use Rattle.std.proofs.Math.Nat.{le_refl}
-use Rattle.std.proofs.lemmas.List.{append-nil, get_or-set_other, get_or-set_same, length-append, map-append, map-set, set-set}
-use Rattle.std.proofs.lemmas.List.Edits.{insert_end}
-use Rattle.std.proofs.lemmas.List.Elements.{All-append, All-cons, All-head, All-nil, All-tail}
-use Rattle.std.proofs.lemmas.List.Quantifiers.{position-Some}
-use Rattle.std.proofs.lemmas.Option.{get_or_from_slice_get, same_Some, slice_get-get_or}
-use Rattle.std.proofs.lemmas.Slice.Zip.{AllZip-long}
+use Rattle.std.proofs.lemmas.List.{append-nil, length-append, map-append, map-set, set-set}
+use Rattle.std.proofs.lemmas.List.Elements.{All-cons, All-head, All-nil, All-tail}
 use Rattle.board.specs.Seats.{BoardId}
 use Rattle.flush_barrier.specs.declared.session_id.SessionId.{SessionId}
 use Rattle.local_store.specs.About.{About}
 use Rattle.nbd_session.specs.Begun.{greeted}
 use Rattle.nbd_session.specs.Demand.{Asked, asked_by}
 use Rattle.nbd_session.specs.Demand as demands
-use Rattle.nbd_session.specs.Progress.{is_over}
 use Rattle.nbd_session.specs.declared.demand.Demand.{Demand}
 use Rattle.world_model.specs.Chain.{Member, View}
-use Rattle.world_model.specs.Counting.{all_behind, get_within}
 use Rattle.world_model.specs.Life.{RequestsSent, RequestsTakenUp, SessionBegins}
 use Rattle.world_model.specs.Requests.{Held, sent_event}
 use Rattle.chain.specs.Chain.{bytes_of}
 use Rattle.chain.specs.Chain as chain
-use Rattle.chain.proofs.Cells.{Place, set_there, zip_at}
+use Rattle.chain.proofs.Cells.{Place, set_there}
 use Rattle.chain.proofs.Cells as cells
 use Rattle.clients.specs.Calls.{AreAtPlaces, Begins, IsDemandOf}
 use Rattle.clients.specs.Clients.{Client, GoOn, Sessions, held_of, held_under, no_one, of_session, place_of, replies_in}

@@ -1,5 +1,5 @@
 -- What contracts see of a world, what holds of every one, and when a call of it is of the one volume.
-use Rattle.std.specs.Prelude.{◌≡◌, ◌⊎◌, ℕ, ◌<◌, ◌≤◌, ◌==◌, None, Some, List, [], ◌∷◌, ◌++◌, All, if◌then◌else◌, length, map}
+use Rattle.std.specs.Prelude.{◌≡◌, ◌⊎◌, ℕ, ◌<◌, ◌≤◌, ◌==◌, None, Some, List, [], ◌∷◌, All, if◌then◌else◌, length, map}
 use Rattle.std.specs.List.{flat_map}
 use Rattle.board.specs.Seats.{BoardId}
 use Rattle.flush_barrier.specs.declared.session_id.SessionId.{SessionId}

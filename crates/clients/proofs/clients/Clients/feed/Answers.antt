@@ -1,4 +1,4 @@
-use Rattle.std.proofs.Common.{◌≡◌, Result, Ok, Err, Option, Some, map, sym, ◌∙◌, subst}
+use Rattle.std.proofs.Common.{◌≡◌, Result, Ok, Err, Option, Some, map, sym, subst}
 use Rattle.std.specs.Prelude.{IfOk, IfSome}
 use Rattle.nbd_session.specs.Demand.{asked_by}
 use Rattle.clients.proofs.CallSteps.{changed_at_places, changed_stay_over, demands_of, feed_stays, found_at, read_at}
