@@ -14,6 +14,6 @@ returns-in-Ok-new g c =
           (subst (λ l. IfSome (slice_get l 0) (λ first. (v : List ℕ) → All (λ s. g.S.StoreLike.keeps s v) l
           → BeginsWith g.S.StoreLike.about g.S.StoreLike.keeps g.S.StoreLike.may_leave_now (g.S.StoreLike.about first).geometry (g.S.StoreLike.about first).front v c.in-Ok-new.world)) one
           (world_begins g.S.StoreLike.about g.S.StoreLike.keeps g.S.StoreLike.may_leave_now items c.args.recorded c.in-Ok.chain c.in-Ok-new.world
-          c.in-Ok.ensures.sizes c.in-Ok.ensures.words (c.in-Ok.ensures.begins premise) c.in-Ok-new.ensures.chain c.in-Ok-new.ensures.sessions c.in-Ok-new.ensures.shows))
+          c.in-Ok.ensures.sizes c.in-Ok.ensures.words (c.in-Ok.ensures.begins premise) c.in-Ok-new.ensures.chain c.in-Ok-new.ensures.sessions c.in-Ok-new.ensures.shows c.in-Ok.ensures.members))
           volume (All-cons (λ s. g.S.StoreLike.keeps s volume) c.args.store [] kept (All-nil (λ s. g.S.StoreLike.keeps s volume)));
     }
