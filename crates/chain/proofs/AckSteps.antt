@@ -1,17 +1,18 @@
 -- An Ack comes to a member of a chain.
-use Rattle.std.proofs.Common.{◌≡◌, ◌⊎◌, ℕ, zero, suc, ◌+◌, ◌<◌, max, List, [], ◌∷◌, ◌++◌, length, map, refl, ap, sym, subst, ◌∙◌, arith, inl, inr}
+use Rattle.std.proofs.Common.{◌≡◌, ◌⊎◌, ℕ, zero, suc, ◌+◌, ◌<◌, max, List, [], ◌∷◌, ◌++◌, length, map, refl, ap, sym, subst, ◌∙◌, arith, inl, inr, ◌≢◌, ◌≤◌}
 use Rattle.std.specs.Prelude.{All, IfErr, IfNone, IfOk, IfSome, Option, None, Some, Result, Ok, Err, slice_get, slice_index_or, slice_set}
 use Rattle.std.specs.List.{AllZip}
 use Rattle.std.proofs.lemmas.Grind.{flat_map-append}
-use Rattle.std.proofs.lemmas.List.{append-nil}
+use Rattle.std.proofs.lemmas.List.{append-nil, append_assoc}
 use Rattle.std.proofs.lemmas.List.Elements.{All-nil, All-cons, All-head}
 use Rattle.std.proofs.lemmas.Option.{slice_get_read}
 use Rattle.configurations.specs.Record.{Record}
 use Rattle.flush_barrier.specs.Reply.{GivenReply}
 use Rattle.local_store.specs.About.{About}
-use Rattle.chain_steps.specs.Node.{NodeState, Stepped, Taken, epoch_of}
+use Rattle.chain_steps.specs.Node.{NodeState, Stepped, Taken, epoch_of, last_of}
 use Rattle.chain_steps.specs.Place.{predecessor_of}
 use Rattle.chain_steps.specs.Steps.{deliver, know, send, take_message}
+use Rattle.chain_steps.specs.declared.cause.Cause.TheVariants.{Disorder}
 use Rattle.chain_steps.specs.declared.message.Envelope.{Envelope}
 use Rattle.chain_steps.specs.declared.message.Message.{Message}
 use Rattle.chain_steps.specs.declared.message.Message.TheVariants.{Put, Ack, Turn, Submit}
@@ -19,15 +20,17 @@ use Rattle.chain_steps.specs.declared.message.Sent.{Sent}
 use Rattle.chain_core.specs.Node.{Seen}
 use Rattle.chain_core.specs.Refusal.{number_of}
 use Rattle.chain_core.specs.declared.refusal.Refusal.{Refusal}
-use Rattle.world_model.specs.Chain.{ArePutOut, Member, View}
+use Rattle.world_model.specs.Chain.{ArePutOut, Member, View, StandsFor}
 use Rattle.world_model.specs.Event.{ClientEvent}
 use Rattle.world_model.specs.Life.{AckTaken}
+use Rattle.world_model.specs.Machine.{State}
 use Rattle.chain.specs.Chain.{Chained, Goes, IsFormed, IsIn, Shows, bytes_of}
 use Rattle.chain.specs.Links.{IsAck, IsAckOf, ack_in, acks_in}
 use Rattle.chain.specs.Member.{IsShown, Linked}
-use Rattle.chain.specs.Passing.{AckComes, HasNone, IsRefused, Passes, PassesTo, Refuses, replies_in}
+use Rattle.chain.specs.Passing.{AckComes, HasNone, IsRefused, Passes, PassesTo, Refuses, replies_in, HasHalted}
 use Rattle.chain.proofs.ComingSteps.{Both, IsSame, are_same, both_of, formed_same, get_next, get_there, goes_on, halts_at, same_behind, twin}
 use Rattle.chain.proofs.PassingSteps.{ack_is, deliver_here, passes_same, runs_not}
+use Rattle.chain.proofs.Orderly.{ack_orderly, acks_there, committed_there}
 use Rattle.chain.proofs.Stepping.{all_at, rests, shown_still}
 
 -- ---- an Ack that is taken
@@ -124,10 +127,10 @@ module _ {S : Type 0} (about : S → About) (old : Chained S) (above : List (Lin
       behind = omega (arith, so.behind);
     })
 
-    pub ack_goes : (events : List ClientEvent) → ArePutOut replies events → All (IsAckOf (epoch_of member.node.state)) next.acks
+    pub ack_goes : (s : State) (events : List ClientEvent) → StandsFor (bytes_of old) v s → ArePutOut replies events → All (IsAckOf (epoch_of member.node.state)) next.acks
         → (w : View) × Shows about keeps may_leave_now (record old { members = acked }) w × Goes (bytes_of old) v w events
-    ack_goes events put_out linked = elim did [
-      | inr is ↦ rw (is.are, is.stays, is.silent, append-nil member.acks) (halts_at about keeps may_leave_now old v shows above member (next ∷ below) were is.cause events (subst (λ rs. ArePutOut rs events) is.told put_out))
+    ack_goes s events stands put_out linked = elim did [
+      | inr is ↦ rw (is.are, is.stays, is.silent, append-nil member.acks) (halts_at about keeps may_leave_now old v shows above member (next ∷ below) were is.cause (orderly is) events (subst (λ rs. ArePutOut rs events) is.told put_out))
       | inl is ↦
           let state = member.node.state in
           let took = ack_taken slot is.envelope state is.stepped is.ran (All-head (IsAckOf (epoch_of state)) is.envelope left (subst (All (IsAckOf (epoch_of state))) is.first linked)) is.taken is.runs in
@@ -168,6 +171,20 @@ module _ {S : Type 0} (about : S → About) (old : Chained S) (above : List (Lin
             are = refl;
           })
     ]
+      where
+        -- it doesn't stop because of the Ack, which is of committed writes, and those it has applied
+        orderly : (is : HasHalted slot member.node node next.acks left sent replies) → is.cause ≢ Disorder
+        orderly is = ack_orderly slot is.envelope member.node.state is.cause is.ran
+            (All-head (IsAckOf (epoch_of member.node.state)) is.envelope is.rest (subst (All (IsAckOf (epoch_of member.node.state))) is.first linked))
+            (λ front message.
+            let t = twin about keeps may_leave_now old v shows above member (next ∷ below) were in
+            let u = next_of t.under t.rest in
+            let here : v.members ≡ t.over ++ t.own ∷ u.own ∷ u.others = t.are ∙ ap (λ (l : List Member). t.over ++ t.own ∷ l) u.are in
+            let behind_it : v.members ≡ (t.over ++ t.own ∷ []) ++ u.own ∷ u.others = here ∙ sym (append_assoc t.over (t.own ∷ []) (u.own ∷ u.others)) in
+            let first : u.own.acks ≡ front ∷ acks_in is.rest = ap (λ (x : Member). x.acks) u.fits.is ∙ ap acks_in is.first ∙ ap (λ (m : Message). ack_in m ++ acks_in is.rest) message in
+            let committed = acks_there (bytes_of old) v s stands (t.over ++ t.own ∷ []) u.own u.others behind_it front (acks_in is.rest) first in
+            let applied = subst (λ (n : NodeState). v.told.front ≤ last_of n) (ap (λ (x : Member). x.node) t.fits.is) (committed_there (bytes_of old) v s stands t.over t.own t.under t.are) in
+            omega (arith, committed, applied)) is.why
 
 -- ---- what an Ack came to
 
@@ -247,16 +264,16 @@ module _ {S V : Type 0} (items : V → List GivenReply) (at : ℕ) where
 
   pub ack_came_goes : (about : S → About) (keeps : S → List ℕ → Type 0) (may_leave_now : S → List ℕ → Type 0) (old new : Chained S) (r : Result (Option V) Refusal) → AckCame old new r
       → (m n : Linked S) → slice_get old.members at ≡ Some m → slice_get old.members (at + 1) ≡ Some n → All (IsAckOf (epoch_of m.node.state)) n.acks
-      → (v : View) (events : List ClientEvent) → Shows about keeps may_leave_now old v → ArePutOut (replies_in items r) events
+      → (v : View) (s : State) (events : List ClientEvent) → Shows about keeps may_leave_now old v → StandsFor (bytes_of old) v s → ArePutOut (replies_in items r) events
       → (w : View) × Shows about keeps may_leave_now new w × Goes (bytes_of old) v w events
-  ack_came_goes about keeps may_leave_now old new (Ok None) came m n here there linked v events shows put_out = rests about keeps may_leave_now old new v events came.same shows put_out
-  ack_came_goes about keeps may_leave_now old new (Err refusal) came m n here there linked v events shows put_out = rests about keeps may_leave_now old new v events came.same shows put_out
-  ack_came_goes about keeps may_leave_now old new (Ok (Some given)) came m n here there linked v events shows put_out =
+  ack_came_goes about keeps may_leave_now old new (Ok None) came m n here there linked v s events shows stands put_out = rests about keeps may_leave_now old new v events came.same shows put_out
+  ack_came_goes about keeps may_leave_now old new (Err refusal) came m n here there linked v s events shows stands put_out = rests about keeps may_leave_now old new v events came.same shows put_out
+  ack_came_goes about keeps may_leave_now old new (Ok (Some given)) came m n here there linked v s events shows stands put_out =
       let m_both : Some m ≡ Some came.member = sym here ∙ ap (λ l. slice_get l at) came.were ∙ get_there came.above came.member (came.next ∷ came.below) at came.place in
       let n_both : Some n ≡ Some came.next = sym there ∙ ap (λ l. slice_get l (at + 1)) came.were ∙ get_next came.above came.member came.next came.below at came.place in
       let m_same : m ≡ came.member = cc m_both in
       let n_same : n ≡ came.next = cc n_both in
-      rw came.are (ack_goes about old came.above came.member came.next came.below came.node came.left came.sent came.slot (items given) came.were came.did keeps may_leave_now v shows events put_out
+      rw came.are (ack_goes about old came.above came.member came.next came.below came.node came.left came.sent came.slot (items given) came.were came.did keeps may_leave_now v shows s events stands put_out
       (subst (λ (x : Linked S). All (IsAckOf (epoch_of x.node.state)) came.next.acks) m_same (subst (λ (x : Linked S). All (IsAckOf (epoch_of m.node.state)) x.acks) n_same linked)))
 
 -- ---- the link is taken out and put back

@@ -1,7 +1,7 @@
 -- A member goes on with a front that it looked up.
 --
 -- That its store's front is its durable one is a premise here.
-use Rattle.std.proofs.Common.{◌≡◌, ◌⊎◌, ℕ, ◌-◌, ◌≤◌, List, [], ◌∷◌, ◌++◌, length, take, map, nat_lt, refl, ap, sym, subst, ◌∙◌, inl, inr, arith}
+use Rattle.std.proofs.Common.{◌≡◌, ◌⊎◌, ℕ, ◌-◌, ◌≤◌, List, [], ◌∷◌, ◌++◌, length, take, map, nat_lt, refl, ap, sym, subst, ◌∙◌, inl, inr, arith, ◌≢◌, ◌<◌}
 use Rattle.std.specs.Prelude.{Option, Some, None, fold, slice_get, slice_set}
 use Rattle.std.specs.List.{AllZip}
 use Rattle.std.proofs.lemmas.Bool.{cases_Bool}
@@ -33,6 +33,7 @@ use Rattle.chain.specs.Chain.{Chained, Goes, IsFormed, Shows, bytes_of, told_of}
 use Rattle.chain.specs.Member.{HasCalled, IsLeft, IsLinked, IsShown, Linked, fronts_of, musters_of, receipts_of}
 use Rattle.chain.proofs.Cells.{Place, Twin, place_of, twin_of}
 use Rattle.chain.proofs.FloorSteps.{gathered}
+use Rattle.chain.proofs.Orderly.{committed_there, device_is_one, looked_there, memory_is_one}
 use Rattle.chain.proofs.Stepping.{formed_then}
 
 -- what such a step leaves of the member's state
@@ -246,9 +247,9 @@ module _ {S : Type 0} (premise : Type 0) (about : S → About) (failures : S →
     )
 
     -- the member stops
-    stops : (cause : Cause) → after.node.state ≡ (stop cause before.node.state).node → did.out ≡ (stop cause before.node.state).out → GoesOn
-    stops cause node sent = does_so (Stop cause) (λ on. let none : Some cause ≡ None = ap (λ (n : NodeState). n.stopped) (sym node) ∙ on in absurd (cc))
-        (rw node_is (rw (← ap (λ (o : Out). o.replies) sent, did.told) put_out), ap (λ (n : NodeState). record twin.own { node = n }) (node ∙ ap (λ (n : NodeState). (stop cause n).node) (sym node_is)))
+    stops : (cause : Cause) → cause ≢ causes.Disorder → after.node.state ≡ (stop cause before.node.state).node → did.out ≡ (stop cause before.node.state).out → GoesOn
+    stops cause other node sent = does_so (Stop cause) (λ on. let none : Some cause ≡ None = ap (λ (n : NodeState). n.stopped) (sym node) ∙ on in absurd (cc))
+        (other, rw node_is (rw (← ap (λ (o : Out). o.replies) sent, did.told) put_out), ap (λ (n : NodeState). record twin.own { node = n }) (node ∙ ap (λ (n : NodeState). (stop cause n).node) (sym node_is)))
 
     -- nothing happens
     stays : (after.node.state.stopped ≡ None → keeps after.node.store twin.own.volume) → after.node.state ≡ before.node.state → did.out.replies ≡ [] → GoesOn
@@ -272,7 +273,11 @@ module _ {S : Type 0} (premise : Type 0) (about : S → About) (failures : S →
     answers None was keeping node sent = stays keeping node (ap (λ (o : Out). o.replies) sent)
     answers (Some (Raised front)) was keeping node sent = stays keeping node (ap (λ (o : Out). o.replies) sent)
     answers (Some (Looked front)) was keeping node sent = elim (cases_Bool (nat_lt (last_of before.node.state) front.number)) [
-      | inl above ↦ stops causes.Disorder (rw above at node) (rw above at sent)
+      | inl above ↦
+          let applied = subst (λ (n : NodeState). v.told.front ≤ last_of n) node_is (committed_there (bytes_of old) v s stands twin.over twin.own twin.under twin.are) in
+          let looked = looked_there (bytes_of old) v s stands twin.over twin.own twin.under twin.are front (ap (λ (n : NodeState). n.found) node_is ∙ was) in
+          let beyond : last_of before.node.state < front.number = grind (arith, nat_tests) in
+          absurd (omega (arith, applied, looked, beyond))
       | inr within ↦
           let node_so : after.node.state ≡ (answer_at twin.own.volume front.number before.node.state).node = rw within at node in
           let sent_so : did.out ≡ (answer_at twin.own.volume front.number before.node.state).out = rw within at sent in
@@ -287,6 +292,6 @@ module _ {S : Type 0} (premise : Type 0) (about : S → About) (failures : S →
     pub answered_goes : GoesOn
     answered_goes = elim did.did [
       | inl (read, inl is) ↦ answers before.node.state.found refl (λ on. read.kept so twin.own.volume kept) (is.node twin.own.volume) (is.sent so twin.own.volume kept)
-      | inl (read, inr is) ↦ stops causes.Memory is.node is.sent
-      | inr broken ↦ stops (causes.Device broken.error) broken.node broken.sent
+      | inl (read, inr is) ↦ stops causes.Memory memory_is_one is.node is.sent
+      | inr broken ↦ stops (causes.Device broken.error) (device_is_one broken.error) broken.node broken.sent
     ]

@@ -1,8 +1,11 @@
 -- A member takes a request, or turns it away.
-use Rattle.std.proofs.Common.{◌≡◌, ℕ, ◌<◌, List, [], ◌∷◌, ◌++◌, length, refl, ap, sym, subst, ◌∙◌, inl, inr, rules, Result, Ok, Err}
-use Rattle.std.specs.Prelude.{◌⊎◌, All, IfErr, IfSome, None, OnErr, OnOk, Option, Some, map, slice_get, slice_set}
+use Rattle.std.proofs.Common.{◌≡◌, ◌≢◌, ℕ, zero, suc, ◌+◌, ◌<◌, Bool, true, false, arith, cond, eqb, List, [], ◌∷◌, ◌++◌, length, refl, ap, sym, subst, ◌∙◌, inl, inr, rules, Result, Ok, Err}
+use Rattle.std.specs.Prelude.{◌⊎◌, All, IfErr, IfSome, None, OnErr, OnOk, Option, Some, map, not, slice_get, slice_set}
+use Rattle.std.specs.List.{position_or_len}
 use Rattle.std.specs.Option.{option_map}
+use Rattle.std.proofs.lemmas.Bool.{eq-eqb, lt-ltb}
 use Rattle.std.proofs.lemmas.List.{append-nil, map-set}
+use Rattle.std.proofs.lemmas.Option.{slice_get-map}
 use Rattle.std.proofs.lemmas.List.Concat.{flat_map-append}
 use Rattle.std.proofs.lemmas.List.Elements.{All-append, All-cons, All-nil}
 use Rattle.configurations.specs.declared.member.Member as recorded
@@ -10,18 +13,18 @@ use Rattle.flush_barrier.specs.Owed.{OwedAt}
 use Rattle.flush_barrier.specs.Reply.{GivenReply}
 use Rattle.local_store.specs.About.{About}
 use Rattle.volume.specs.Writes.{Fits, Placed}
-use Rattle.chain_steps.specs.Node.{NodeState, Stepped, epoch_of}
-use Rattle.chain_steps.specs.Place.{head_of}
+use Rattle.chain_steps.specs.Node.{NodeState, Stepped, epoch_of, is_stopped}
+use Rattle.chain_steps.specs.Place.{head_of, is_member}
 use Rattle.chain_steps.specs.Steps.{flush, send, stop, submit}
 use Rattle.chain_steps.specs.Waiting.{debt_of, waits_for}
 use Rattle.gate_journal.specs.declared.batch.TheConstants.{MAX_NUMBER}
 use Rattle.chain_steps.specs.declared.cause.Cause.{Cause}
-use Rattle.chain_steps.specs.declared.cause.Cause.TheVariants.{LastTicket}
+use Rattle.chain_steps.specs.declared.cause.Cause.TheVariants.{Disorder, LastTicket, Told}
 use Rattle.chain_steps.specs.declared.message.Envelope.{Envelope}
 use Rattle.chain_steps.specs.declared.message.Message.TheVariants.{Submit}
 use Rattle.chain_steps.specs.declared.waiting.WriteToken.{WriteToken}
 use Rattle.chain_steps.specs.declared.waiting.WriteToken.TheVariants as tokens
-use Rattle.chain_core.specs.Node.{IsRefusedBy, Seen, size_of}
+use Rattle.chain_core.specs.Node.{IsRefusedBy, Seen, size_of, turned_away}
 use Rattle.chain_core.specs.declared.refusal.Refusal.{Refusal}
 use Rattle.chain_core.specs.declared.refusal.Refusal.TheVariants as refusals
 use Rattle.world_model.specs.Chain.{ArePutOut, Member, Ticketed, View}
@@ -32,11 +35,12 @@ use Rattle.world_model.specs.Life.{MemberTakes, Stop, Taking, Takes, Wait}
 use Rattle.world_model.specs.Life as life
 use Rattle.world_model.specs.Machine.{written}
 use Rattle.world_model.specs.Requests.{Held, IsNew, IsOfKind}
-use Rattle.chain.specs.Asking.{GoesTaking, HasFlushed, HasSubmitted, IsTurnedAway, IsUnnumbered, asked_by, flush_by}
+use Rattle.chain.specs.Asking.{GoesTaking, HasFlushed, HasPleaAt, HasStoppedAt, HasSubmitted, IsTurnedAway, IsUnnumbered, IsUnreadAt, asked_by, flush_by}
 use Rattle.chain.specs.Chain.{Chained, Goes, IsFormed, IsIn, Shows, bytes_of, recorded_as}
 use Rattle.chain.specs.Links.{IsSubmitOf, acks_in, puts_in, submit_in, submits_in}
 use Rattle.chain.specs.Member.{IsLinked, IsShown, Linked, fronts_of, member_of, musters_of, receipts_of}
-use Rattle.chain.proofs.Cells.{place_of, zip_at, zip_set}
+use Rattle.chain.proofs.Cells.{place_of, set_there, zip_at, zip_set}
+use Rattle.chain.proofs.Orderly.{last_ticket_is_one}
 use Rattle.chain.proofs.Stepping.{UsesAsBefore, all_at, formed_still, formed_then, one_does, rests, same_then, shown_still, then, told_stays}
 
 -- ---- what a write sends
@@ -47,17 +51,21 @@ sent_linked (Some slot) size ticket write node inside some = All-cons (IsSubmitO
 
 -- ---- a token comes back
 
-pub no_stop : (stepped : Stepped) (state : NodeState) → ⊥ → (cause : Cause) × (stepped ≡ stop cause state)
+-- the step by which a member stops
+abbrev IsStopOf : Stepped → NodeState → Type 0
+IsStopOf stepped state = (cause : Cause) × (cause ≢ Disorder) × (stepped ≡ stop cause state)
+
+pub no_stop : (stepped : Stepped) (state : NodeState) → ⊥ → IsStopOf stepped state
 no_stop stepped state none = absurd none
 
-pub last_ticket : (state : NodeState) → MAX_NUMBER < state.ticket → (cause : Cause) × (stop LastTicket state ≡ stop cause state)
-last_ticket state last = (LastTicket, refl)
+pub last_ticket : (state : NodeState) → MAX_NUMBER < state.ticket → IsStopOf (stop LastTicket state) state
+last_ticket state last = (LastTicket, last_ticket_is_one, refl)
 
-module _ {S : Type 0} (Stops : Type 0) (stepped : Stepped) (before after : Linked S) (replies : List GivenReply) (stops : Stops → (cause : Cause) × (stepped ≡ stop cause before.node.state)) where
+module _ {S : Type 0} (Stops : Type 0) (stepped : Stepped) (before after : Linked S) (replies : List GivenReply) (stops : Stops → IsStopOf stepped before.node.state) where
   -- nothing changed, or the member stopped
   abbrev pub Ends : Type 0
   Ends = ((after ≡ before) × (replies ≡ []))
-      ⊎ ((cause : Cause) × (after ≡ record before { node = record { store = before.node.store; state = (stop cause before.node.state).node } }) × (replies ≡ (stop cause before.node.state).out.replies))
+      ⊎ ((cause : Cause) × (cause ≢ Disorder) × (after ≡ record before { node = record { store = before.node.store; state = (stop cause before.node.state).node } }) × (replies ≡ (stop cause before.node.state).out.replies))
 
   pub ends_so : (refusal : Refusal) → IsTurnedAway Stops stepped replies refusal before after → Ends
   ends_so refusal (inr away) = inl (away.same, away.replies_none)
@@ -66,7 +74,7 @@ module _ {S : Type 0} (Stops : Type 0) (stepped : Stepped) (before after : Linke
   ends_so refusals.Stopped (inl (inl why, are)) = inl (are ∙ ap (λ n. record before { node = n }) why.1.node, why.1.replies_none)
   ends_so refusals.Stopped (inl (inr why, are)) =
       let by = stops why.1 in
-      inr (by.0, are ∙ ap (λ n. record before { node = n }) (why.2.node ∙ ap (λ (p : Stepped). record { store = before.node.store; state = p.node }) by.1), why.2.replies_told ∙ ap (λ (p : Stepped). p.out.replies) by.1)
+      inr (by.0, by.1, are ∙ ap (λ n. record before { node = n }) (why.2.node ∙ ap (λ (p : Stepped). record { store = before.node.store; state = p.node }) by.2), why.2.replies_told ∙ ap (λ (p : Stepped). p.out.replies) by.2)
   ends_so refusals.Full (inl away) = absurd away.0
   ends_so refusals.Early (inl away) = absurd away.0
   ends_so refusals.Busy (inl away) = absurd away.0
@@ -74,8 +82,8 @@ module _ {S : Type 0} (Stops : Type 0) (stepped : Stepped) (before after : Linke
   module _ (about : S → About) (old : Chained S) (at : ℕ) (here : slice_get old.members at ≡ Some before) where
     pub away_formed : Ends → IsFormed about old → IsFormed about (then old at before after here)
     away_formed (inl same) formed = formed_still old at before after here about same.0 formed
-    away_formed (inr stopped) formed = formed_then old at before after here about (ap recorded_as stopped.1) (λ idle. ap (λ m. m.puts) stopped.1 ∙ idle)
-        (λ is. rw stopped.1 (record { board = is.board; told = is.told; turned = is.turned; free = is.free; sizes = is.sizes; front = is.front; muster = is.muster })) formed
+    away_formed (inr stopped) formed = formed_then old at before after here about (ap recorded_as stopped.2) (λ idle. ap (λ m. m.puts) stopped.2 ∙ idle)
+        (λ is. rw stopped.2 (record { board = is.board; told = is.told; turned = is.turned; free = is.free; sizes = is.sizes; front = is.front; muster = is.muster })) formed
 
     pub away_goes : (keeps : S → List ℕ → Type 0) (may_leave_now : S → List ℕ → Type 0) → Ends → (v : View) (events : List ClientEvent) → Shows about keeps may_leave_now old v → ArePutOut replies events
         → (w : View) × Shows about keeps may_leave_now (then old at before after here) w × Goes (bytes_of old) v w events
@@ -83,15 +91,85 @@ module _ {S : Type 0} (Stops : Type 0) (stepped : Stepped) (before after : Linke
         rests about keeps may_leave_now old _ v events (same_then old at before after here same.0) shows (subst (λ rs. ArePutOut rs events) same.1 put_out)
     away_goes keeps may_leave_now (inr stopped) v events shows put_out =
         one_does about keeps may_leave_now old at before after here (Stop stopped.0) v events
-        (record { front = ap (λ l. fronts_of l.front) stopped.1; muster = ap (λ l. musters_of l.muster) stopped.1; receipt = ap (λ l. receipts_of l.receipt) stopped.1 }) shows (λ m so.
+        (record { front = ap (λ l. fronts_of l.front) stopped.2; muster = ap (λ l. musters_of l.muster) stopped.2; receipt = ap (λ l. receipts_of l.receipt) stopped.2 }) shows (λ m so.
         let node : m.node ≡ before.node.state = ap (λ (x : Member). x.node) so.is in (
           record m { node = (stop stopped.0 m.node).node },
           shown_still about keeps may_leave_now old before after m _ so
-              (ap (λ (x : Member). record x { node = (stop stopped.0 x.node).node }) so.is ∙ sym (ap (λ (l : Linked S). member_of l m.volume m.demands) stopped.1)) refl
-              (ap (λ l. l.node.store) stopped.1) (ap (λ l. l.node.state.table) stopped.1) (ap (λ l. l.node.state.known) stopped.1)
-              (λ runs. let none : Some stopped.0 ≡ None = sym (ap (λ l. l.node.state.stopped) stopped.1) ∙ runs in absurd (cc)),
-          (subst (λ n. ArePutOut (stop stopped.0 n).out.replies events) (sym node) (subst (λ rs. ArePutOut rs events) stopped.2 put_out), refl),
+              (ap (λ (x : Member). record x { node = (stop stopped.0 x.node).node }) so.is ∙ sym (ap (λ (l : Linked S). member_of l m.volume m.demands) stopped.2)) refl
+              (ap (λ l. l.node.store) stopped.2) (ap (λ l. l.node.state.table) stopped.2) (ap (λ l. l.node.state.known) stopped.2)
+              (λ runs. let none : Some stopped.0 ≡ None = sym (ap (λ l. l.node.state.stopped) stopped.2) ∙ runs in absurd (cc)),
+          (stopped.1, subst (λ n. ArePutOut (stop stopped.0 n).out.replies events) (sym node) (subst (λ rs. ArePutOut rs events) stopped.3 put_out), refl),
         ))
+
+-- ---- why it comes back
+
+step_on : (b : Bool) (n len : ℕ) → n < len → cond (not b) (1 + n) 0 < suc len
+step_on true n len within = omega arith
+step_on false n len within = omega (arith, within)
+
+-- a slot that is recorded is found
+found_in : (slot : ℕ) (ms : List recorded.Member) (at : ℕ) (x : recorded.Member) → slice_get ms at ≡ Some x → x.slot ≡ slot → position_or_len (λ (m : recorded.Member). eqb m.slot slot) ms < length ms
+found_in slot [] at x here is = let none : None ≡ Some x = here in absurd (cc)
+found_in slot (y ∷ ys) zero x here is =
+    let both : Some y ≡ Some x = here in
+    let same : y ≡ x = cc both in
+    let passes : eqb y.slot slot ≡ true = eq-eqb y.slot slot (ap (λ (m : recorded.Member). m.slot) same ∙ is) in
+    rw passes (omega arith)
+found_in slot (y ∷ ys) (suc at) x here is = step_on (eqb y.slot slot) (position_or_len (λ (m : recorded.Member). eqb m.slot slot) ys) (length ys) (found_in slot ys at x here is)
+
+-- a member of the chain is in the record that it was told
+in_record : {S : Type 0} (about : S → About) (c : Chained S) (at : ℕ) (m : Linked S) → IsFormed about c → slice_get c.members at ≡ Some m → is_member m.node.state.place ≡ true
+in_record about c at m formed here =
+    let is_in = all_at (IsIn about c.id c.seat c.chain c.geometry) c.members at m here formed.members in
+    let recorded_here : slice_get c.chain.members at ≡ Some (recorded_as m) = ap (λ l. slice_get l at) (sym formed.recorded) ∙ slice_get-map recorded_as c.members at ∙ ap (option_map recorded_as) here in
+    let slot = m.node.state.place.slot in
+    let found = lt-ltb (position_or_len (λ (r : recorded.Member). eqb r.slot slot) c.chain.members) (length c.chain.members) (found_in slot c.chain.members at (recorded_as m) recorded_here refl) in
+    rw (is_in.told, found) refl
+
+numbers_differ : (one other : ℕ) → Some one ≡ Some other → one ≢ other → ⊥
+numbers_differ one other is differ = differ (cc is)
+
+abbrev away_by : (stopped member : Bool) → Option ℕ
+away_by stopped member = cond stopped (Some 154) (cond member None (Some 151))
+
+by_stop : (stopped member : Bool) → away_by stopped member ≡ Some 154 → stopped ≡ true
+by_stop true member is = refl
+by_stop false true is = let no : None ≡ Some 154 = is in absurd (cc)
+by_stop false false is = absurd (numbers_differ 151 154 is (omega arith))
+
+by_no_member : (stopped member : Bool) → away_by stopped member ≡ Some 151 → member ≡ false
+by_no_member true member is = absurd (numbers_differ 154 151 is (omega arith))
+by_no_member false true is = let no : None ≡ Some 151 = is in absurd (cc)
+by_no_member false false is = refl
+
+module _ {S : Type 0} (about : S → About) (old : Chained S) (at : ℕ) (before after : Linked S) (here : slice_get old.members at ≡ Some before) (formed : IsFormed about old) where
+  stopped_then : is_stopped after.node.state ≡ true → HasStoppedAt at (then old at before after here)
+  stopped_then stopped = record { member = after; here = set_there old.members at before after here; stopped = stopped }
+
+  never_151 : {A : Type 0} → turned_away before.node.state ≡ Some 151 → A
+  never_151 away =
+      let clash : true ≡ false = sym (in_record about old at before formed here) ∙ by_no_member (is_stopped before.node.state) (is_member before.node.state.place) away in
+      absurd (cc)
+
+  pub away_pleads : (Stops : Type 0) (stepped : Stepped) (replies : List GivenReply) (stops : Stops → IsStopOf stepped before.node.state) (refusal : Refusal) → IsTurnedAway Stops stepped replies refusal before after
+      → HasPleaAt at (then old at before after here) refusal
+  away_pleads Stops stepped replies stops refusal (inr cannot) = rw cannot.memory tt
+  away_pleads Stops stepped replies stops refusals.Memory (inl away) = tt
+  away_pleads Stops stepped replies stops refusals.NotMember (inl away) = never_151 away.0.0
+  away_pleads Stops stepped replies stops refusals.Stopped (inl (inl why, are)) =
+      stopped_then (ap (λ n. is_stopped n.state) why.1.node ∙ by_stop (is_stopped before.node.state) (is_member before.node.state.place) why.0)
+  away_pleads Stops stepped replies stops refusals.Stopped (inl (inr why, are)) =
+      stopped_then (ap (λ n. is_stopped n.state) why.2.node ∙ ap (λ (p : Stepped). is_stopped p.node) (stops why.1).2)
+  away_pleads Stops stepped replies stops refusals.Full (inl away) = absurd away.0
+  away_pleads Stops stepped replies stops refusals.Early (inl away) = absurd away.0
+  away_pleads Stops stepped replies stops refusals.Busy (inl away) = absurd away.0
+
+  pub unread_pleads : (premise : Type 0) (failures : S → ℕ) (keeps : S → List ℕ → Type 0) (moment : S → ℕ) (left_since : S → ℕ → List ℕ → Type 0) (offset len : ℕ) (replies : List GivenReply) (refusal : Refusal)
+      → IsUnreadAt premise about failures keeps moment left_since offset len replies refusal before after → HasPleaAt at (then old at before after here) refusal
+  unread_pleads premise failures keeps moment left_since offset len replies refusal (inl away, are) =
+      away_pleads ⊥ (stop Told before.node.state) replies (no_stop (stop Told before.node.state) before.node.state) refusal (inl (away, are))
+  unread_pleads premise failures keeps moment left_since offset len replies refusal (inr (inl vain), are) = rw vain.0 tt
+  unread_pleads premise failures keeps moment left_since offset len replies refusal (inr (inr broken), are) = rw broken.0 (stopped_then (ap is_stopped broken.3.node))
 
 -- ---- the first demand is taken
 
@@ -229,13 +307,13 @@ module _ {S : Type 0} (about : S → About) (old : Chained S) (at : ℕ) (before
 -- ---- the links of a member that submits
 
 -- a node that refused a request is of the same epoch, over the same store
-refused_keeps : {S : Type 0} (Stops : Type 0) (stepped : Stepped) (old new : Seen S) (replies : List GivenReply) (refusal : Refusal) → (Stops → (cause : Cause) × (stepped ≡ stop cause old.state))
+refused_keeps : {S : Type 0} (Stops : Type 0) (stepped : Stepped) (old new : Seen S) (replies : List GivenReply) (refusal : Refusal) → (Stops → IsStopOf stepped old.state)
     → IsRefusedBy Stops stepped old new replies refusal → (epoch_of new.state ≡ epoch_of old.state) × (new.store ≡ old.store)
 refused_keeps Stops stepped old new replies refusals.Memory stops why = (ap (λ n. epoch_of n.state) why.1.node, ap (λ n. n.store) why.1.node)
 refused_keeps Stops stepped old new replies refusals.NotMember stops why = (ap (λ n. epoch_of n.state) why.1.node, ap (λ n. n.store) why.1.node)
 refused_keeps Stops stepped old new replies refusals.Stopped stops (inl why) = (ap (λ n. epoch_of n.state) why.1.node, ap (λ n. n.store) why.1.node)
 refused_keeps Stops stepped old new replies refusals.Stopped stops (inr why) =
-    (ap (λ n. epoch_of n.state) why.2.node ∙ ap (λ (p : Stepped). epoch_of p.node) (stops why.1).1, ap (λ n. n.store) why.2.node)
+    (ap (λ n. epoch_of n.state) why.2.node ∙ ap (λ (p : Stepped). epoch_of p.node) (stops why.1).2, ap (λ n. n.store) why.2.node)
 refused_keeps Stops stepped old new replies refusals.Full stops why = absurd why
 refused_keeps Stops stepped old new replies refusals.Early stops why = absurd why
 refused_keeps Stops stepped old new replies refusals.Busy stops why = absurd why

@@ -21,6 +21,7 @@ use Rattle.chain_steps.specs.Node.{NodeState, Stepped, epoch_of, last_of}
 use Rattle.chain_steps.specs.Place.{place_in, successor_of}
 use Rattle.chain_steps.specs.Steps.{apply, send, stop, volume_at}
 use Rattle.chain_steps.specs.declared.cause.Cause.{Cause}
+use Rattle.chain_steps.specs.declared.cause.Cause.TheVariants.{Disorder}
 use Rattle.chain_steps.specs.declared.message.Envelope.{Envelope}
 use Rattle.chain_steps.specs.declared.message.Message.{Message}
 use Rattle.chain_steps.specs.declared.message.Message.TheVariants.{Put}
@@ -38,8 +39,9 @@ use Rattle.world_model.specs.OrderSteps.{next_put, reaches_at}
 use Rattle.chain.specs.Chain.{Chained, Goes, IsFormed, IsIn, Shows, are_inner, bytes_of, recorded_as, told_of}
 use Rattle.chain.specs.Links.{IsPutOf, puts_in, put_in}
 use Rattle.chain.specs.Member.{IsShown, Linked, fronts_of, member_of, musters_of, receipts_of}
-use Rattle.chain.specs.Passing.{HasNone, IsRefused, Passes, PassesTo, PutComes, Refuses, replies_in, with_puts}
+use Rattle.chain.specs.Passing.{HasHalted, HasNone, IsRefused, Passes, PassesTo, PutComes, Refuses, replies_in, with_puts}
 use Rattle.chain.proofs.Cells.{Twin, twin_of}
+use Rattle.chain.proofs.Orderly.{put_orderly}
 use Rattle.chain.proofs.PassingSteps.{StaysOne, passes_same, put_taken}
 use Rattle.chain.proofs.Stepping.{all_at, rests, shown_still}
 
@@ -193,8 +195,8 @@ module _ {S : Type 0} (about : S → About) (keeps : S → List ℕ → Type 0) 
     halted cause = record member { node = record { store = member.node.store; state = (stop cause member.node.state).node } }
 
     -- the member stops
-    pub halts_at : (cause : Cause) (events : List ClientEvent) → ArePutOut (stop cause member.node.state).out.replies events → IsShownSo (above ++ halted cause ∷ below) events
-    halts_at cause events put_out =
+    pub halts_at : (cause : Cause) → cause ≢ Disorder → (events : List ClientEvent) → ArePutOut (stop cause member.node.state).out.replies events → IsShownSo (above ++ halted cause ∷ below) events
+    halts_at cause other events put_out =
         let own = twin.own in
         let so = twin.fits in
         let g : Member = record own { node = (stop cause own.node).node } in
@@ -202,7 +204,7 @@ module _ {S : Type 0} (about : S → About) (keeps : S → List ℕ → Type 0) 
         goes_on (MemberDoes (Stop cause)) events (above ++ halted cause ∷ below) (twin.over ++ g ∷ twin.under) refl
         (subst (λ l. AllZip IsSame l (above ++ halted cause ∷ below)) (sym were) (same_behind above (member ∷ below) (halted cause ∷ below) (record { one = record { board = refl; place = refl; incarnation = refl; turned = refl; holds = refl }; store = refl; front = refl; muster = refl; receipt = refl }, are_same below)))
         (twin.others (halted cause) g below twin.under (shown_still about keeps may_leave_now old member (halted cause) own g so (ap (λ (x : Member). record x { node = (stop cause x.node).node }) so.is) refl refl refl refl (λ runs. let clash : Some cause ≡ None = runs in absurd (cc))) twin.rest)
-        (record { above = twin.over; old = own; new = g; below = twin.under; were = twin.are; are = refl; change = (subst (λ (n : NodeState). ArePutOut (stop cause n).out.replies events) (sym node) put_out, refl) })
+        (record { above = twin.over; old = own; new = g; below = twin.under; were = twin.are; are = refl; change = (other, subst (λ (n : NodeState). ArePutOut (stop cause n).out.replies events) (sym node) put_out, refl) })
 
   -- the first of the others gets these messages, which carry this write
   abbrev pub CarriesOn : Kept → List Envelope → List (Linked S) → Type 0
@@ -327,7 +329,7 @@ module _ {S : Type 0} (about : S → About) (old : Chained S) (above : List (Lin
       → ((b : Linked S) (bs : List (Linked S)) → below ≡ b ∷ bs → is_some (successor_of member.node.state.place) ≡ true)
       → (w : View) × Shows about keeps may_leave_now (record old { members = passed }) w × Goes (bytes_of old) v w events
   put_goes keeps may_leave_now v s events shows stands put_out size linked turned next = elim did [
-    | inr is ↦ rw (is.are, is.stays, is.silent, with_none below) (halts_at about keeps may_leave_now old v shows above member below were is.cause events (subst (λ rs. ArePutOut rs events) is.told put_out))
+    | inr is ↦ rw (is.are, is.stays, is.silent, with_none below) (halts_at about keeps may_leave_now old v shows above member below were is.cause (orderly is) events (subst (λ rs. ArePutOut rs events) is.told put_out))
     | inl is ↦
         let state = member.node.state in
         let taken = put_taken size slot is.envelope state is.stepped is.ran (All-head (IsPutOf (epoch_of state) size) is.envelope left (subst (All (IsPutOf (epoch_of state) size)) is.first linked)) is.taken is.runs in
@@ -348,6 +350,15 @@ module _ {S : Type 0} (about : S → About) (old : Chained S) (above : List (Lin
               rw (none, is.are, does) (applies_at about keeps may_leave_now old v shows s stands above member below were taken.number taken.origin taken.write left sent first (carries below refl))
         ]
   ]
+    where
+      -- it doesn't stop because of the Put, which is the next
+      orderly : (is : HasHalted slot member.node node member.puts left sent replies) → is.cause ≢ Disorder
+      orderly is = put_orderly slot is.envelope member.node.state is.cause is.ran size
+          (All-head (IsPutOf (epoch_of member.node.state) size) is.envelope is.rest (subst (All (IsPutOf (epoch_of member.node.state) size)) is.first linked))
+          (λ n origin write message.
+          let k : Kept = record { number = n; origin = origin; write = write } in
+          let next : n ≡ last_of member.node.state + 1 = next_at about keeps may_leave_now old v shows s stands above member below were k is.rest (ap puts_in is.first ∙ ap (λ (m : Message). put_in m ++ puts_in is.rest) message) in
+          omega (arith, next)) is.why
 
 -- ---- places of a chain
 

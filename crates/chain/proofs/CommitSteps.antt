@@ -1,5 +1,5 @@
 -- A member commits, its store works, or it stops: what is shown of the chain then, and what happened in it.
-use Rattle.std.proofs.Common.{◌≡◌, ℕ, zero, suc, ◌+◌, ◌-◌, ◌<◌, ◌≤◌, false, List, [], ◌∷◌, ◌++◌, refl, ap, sym, subst, inl, inr, ◌∙◌, arith}
+use Rattle.std.proofs.Common.{◌≡◌, ℕ, zero, suc, ◌+◌, ◌-◌, ◌<◌, ◌≤◌, false, List, [], ◌∷◌, ◌++◌, refl, ap, sym, subst, inl, inr, ◌∙◌, arith, ◌≢◌}
 use Rattle.std.specs.Prelude.{◌≢◌, ◌⊎◌, All, max, slice_index, IfErr, IfOk, Ok, Err, Option, Result, Some, None, fold, map, slice_get, slice_set, take}
 use Rattle.std.specs.List.{AllZip, flat_map}
 use Rattle.std.proofs.Math.Nat.{le_refl}
@@ -19,7 +19,7 @@ use Rattle.volume.specs.Writes.{patched}
 use Rattle.chain_steps.specs.Node.{Commit, NodeState, Out, durable_of}
 use Rattle.chain_steps.specs.Steps.{stop, volume_at}
 use Rattle.chain_steps.specs.declared.cause.Cause.{Cause}
-use Rattle.chain_steps.specs.declared.cause.Cause.TheVariants.{Device, Memory, Told as ByWord}
+use Rattle.chain_steps.specs.declared.cause.Cause.TheVariants.{Device, Disorder, Memory, Told as ByWord}
 use Rattle.chain_core.specs.Commits.{HasStoppedBy, HasWorked}
 use Rattle.chain_core.specs.Node.{Seen}
 use Rattle.world_model.specs.Backing.{Disk, IsBacked, IsOnDisk}
@@ -33,6 +33,7 @@ use Rattle.chain.specs.Commits.{HasBegunCommits, HasCheckpointed, HasNoGroup, Ha
 use Rattle.chain.specs.LoneBoard.{Words, posted}
 use Rattle.chain.specs.Member.{HasCalled, IsLeft, IsShown, Linked, fronts_of, member_of, musters_of, receipts_of}
 use Rattle.chain.proofs.Cells.{place_of, set_there, twin_of}
+use Rattle.chain.proofs.Orderly.{device_is_one, memory_is_one, told_is_one}
 use Rattle.chain.proofs.Stepping.{UsesAsBefore, formed_then, one_does, shown_still}
 
 -- ---- the disk
@@ -123,7 +124,7 @@ abbrev pub Outcome : NodeState → NodeState → List GivenReply → Type 0
 Outcome old new replies =
     ((new ≡ old) × (replies ≡ []))
     ⊎ (((commit : Option Commit) × (new ≡ record old { commit = commit; found = None }) × (replies ≡ []))
-    ⊎ ((cause : Cause) × (new ≡ (stop cause old).node) × (replies ≡ (stop cause old).out.replies)))
+    ⊎ ((cause : Cause) × (cause ≢ Disorder) × (new ≡ (stop cause old).node) × (replies ≡ (stop cause old).out.replies)))
 
 -- The member ran, and its store tells of the same disk.
 pub record Works {S : Type 0} (about : S → About) (before after : Linked S) (replies : List GivenReply) : Type 0 where
@@ -155,11 +156,11 @@ remains_by about old new replies same (inr (inl is)) = record {
   geometry = same;
 }
 remains_by about old new replies same (inr (inr is)) = record {
-  board = ap (λ n. n.board) is.1;
-  place = ap (λ n. n.place) is.1;
-  incarnation = ap (λ n. n.incarnation) is.1;
-  turned = ap (λ n. n.turned) is.1;
-  holds = ap (λ n. n.holds) is.1;
+  board = ap (λ n. n.board) is.2;
+  place = ap (λ n. n.place) is.2;
+  incarnation = ap (λ n. n.incarnation) is.2;
+  turned = ap (λ n. n.turned) is.2;
+  holds = ap (λ n. n.holds) is.2;
   geometry = same;
 }
 
@@ -276,12 +277,12 @@ module _ {S : Type 0} (about : S → About) (keeps : S → List ℕ → Type 0) 
     ))
 
     -- the member stopped
-    halted_goes : (cause : Cause) → ArePutOut (stop cause before.node.state).out.replies events → Leads (with_node before store (stop cause before.node.state).node) v events
-    halted_goes cause put_out = one_does about keeps may_leave_now old at before _ here (Stop cause) v events (record { front = refl; muster = refl; receipt = refl }) shows (λ m so. (
+    halted_goes : (cause : Cause) → cause ≢ Disorder → ArePutOut (stop cause before.node.state).out.replies events → Leads (with_node before store (stop cause before.node.state).node) v events
+    halted_goes cause other put_out = one_does about keeps may_leave_now old at before _ here (Stop cause) v events (record { front = refl; muster = refl; receipt = refl }) shows (λ m so. (
       record m { node = (stop cause m.node).node },
       shown_over about keeps may_leave_now (bytes_of old) before m so store _ _ (ap (λ (x : Member). record x { node = (stop cause x.node).node }) so.is) refl disk refl refl
           (λ runs. let no : Some cause ≡ None = runs in absurd (cc)) (left m so),
-      (subst (λ n. ArePutOut (stop cause n).out.replies events) (sym (ap (λ (x : Member). x.node) so.is)) put_out, refl),
+      (other, subst (λ n. ArePutOut (stop cause n).out.replies events) (sym (ap (λ (x : Member). x.node) so.is)) put_out, refl),
     ))
 
   -- what a stop at any moment of a call leaves, where the member ran
@@ -317,7 +318,7 @@ module _ {S : Type 0} (about : S → About) (keeps : S → List ℕ → Type 0) 
         go : Outcome before.node.state after.node.state replies → Leads after v events
         go (inl is) = becomes _ is.0 (works_goes after.node.store works.disk v events shows left (λ m so runs. kept m so (ap (λ n. n.stopped) is.0 ∙ runs)) (subst (λ rs. ArePutOut rs events) is.1 put_out))
         go (inr (inl is)) = becomes _ is.1 (begun_goes after.node.store works.disk v events shows left is.0 (λ m so runs. kept m so (ap (λ n. n.stopped) is.1 ∙ runs)) (subst (λ rs. ArePutOut rs events) is.2 put_out))
-        go (inr (inr is)) = becomes _ is.1 (halted_goes after.node.store works.disk v events shows left is.0 (subst (λ rs. ArePutOut rs events) is.2 put_out))
+        go (inr (inr is)) = becomes _ is.2 (halted_goes after.node.store works.disk v events shows left is.0 is.1 (subst (λ rs. ArePutOut rs events) is.3 put_out))
 
     module _ (moment : S → ℕ) (left_since : S → ℕ → List ℕ → Type 0) (keeping : Keeps keeps about moment left_since before after) where
       pub works_leaves : LeavesAt about keeps may_leave_now moment left_since at old (record old { members = slice_set old.members at after })
@@ -343,7 +344,7 @@ module _ {S : Type 0} (about : S → About) (keeps : S → List ℕ → Type 0) 
 
     pub told_goes : (v : View) (events : List ClientEvent) → ShowsSo old v → ArePutOut replies events → Leads after v events
     told_goes v events shows put_out = subst (λ x. Leads x v events) (sym did.are)
-        (halted_goes before.node.store refl v events shows (λ m so c may. so.left c may) ByWord (subst (λ rs. ArePutOut rs events) did.told put_out))
+        (halted_goes before.node.store refl v events shows (λ m so c may. so.left c may) ByWord told_is_one (subst (λ rs. ArePutOut rs events) did.told put_out))
 
   -- nothing changes: what a stop leaves is what it left
   pub rests_stops : (IsMeant : Linked S → List ℕ → List ℕ → Type 0) (moment : S → ℕ) (left_since : S → ℕ → List ℕ → Type 0) (after : Linked S) → after ≡ before
@@ -441,7 +442,7 @@ seen_by replies (Err e) P Q events ok err put_out done refused = refused e err p
 -- the device refused
 stopped_by : {S : Type 0} (about : S → About) (failures : S → ℕ) (Tells : DiskError → Type 0) (old new : Seen S) (out : Out) (replies : List GivenReply) → out.replies ≡ replies → HasStoppedBy about failures Tells old new out
     → (disk_told (about new.store) ≡ disk_told (about old.store)) × Outcome old.state new.state replies
-stopped_by about failures Tells old new out replies told is = (ap disk_told is.broken, inr (inr (Device is.error, is.node, sym told ∙ ap (λ (o : Out). o.replies) is.sent)))
+stopped_by about failures Tells old new out replies told is = (ap disk_told is.broken, inr (inr (Device is.error, device_is_one is.error, is.node, sym told ∙ ap (λ (o : Out). o.replies) is.sent)))
 
 -- the store worked
 worked_so : {S : Type 0} (about : S → About) (tells : About) (old new : Seen S) (out : Out) (replies : List GivenReply) → disk_told tells ≡ disk_told (about old.store) → out.replies ≡ replies → HasWorked about tells old new out
@@ -511,7 +512,7 @@ module _ {S : Type 0} (premise : Type 0) (about : S → About) (failures : S →
             runs = did.runs;
             are = did.are;
             disk = ap disk_told is.tells;
-            outcome = inr (inr (Memory, is.node, sym did.told ∙ ap (λ (o : Out). o.replies) is.sent));
+            outcome = inr (inr (Memory, memory_is_one, is.node, sym did.told ∙ ap (λ (o : Out). o.replies) is.sent));
           }
           | inr is ↦
               let left = stopped_by about failures (MayTell ReadFault) before.node after.node did.out replies did.told is in

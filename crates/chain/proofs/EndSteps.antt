@@ -1,5 +1,5 @@
 -- A commit of a member ends, and the board tells its receipt.
-use Rattle.std.proofs.Common.{◌≡◌, ◌⊎◌, ℕ, suc, ◌*◌, ◌<◌, ◌≤◌, List, [], ◌∷◌, ◌++◌, length, map, refl, ap, sym, subst, ◌∙◌, inl, inr, arith}
+use Rattle.std.proofs.Common.{◌≡◌, ◌⊎◌, ℕ, suc, ◌*◌, ◌<◌, ◌≤◌, List, [], ◌∷◌, ◌++◌, length, map, refl, ap, sym, subst, ◌∙◌, inl, inr, arith, ◌≢◌}
 use Rattle.std.specs.Prelude.{◌≢◌, All, AllPairs, IfNone, IfSome, IsSomeAnd, Option, Some, None, slice_get, slice_set}
 use Rattle.std.specs.Option.{ForSome}
 use Rattle.std.proofs.Math.Nat.{le_refl}
@@ -17,7 +17,7 @@ use Rattle.chain_core.specs.Node.{IsStep, IsUnderWay}
 use Rattle.chain_steps.specs.Node.{Commit, NodeState, Out, durable_of}
 use Rattle.chain_steps.specs.Steps.{ended, silent, stop, volume_at}
 use Rattle.chain_steps.specs.declared.cause.Cause.{Cause}
-use Rattle.chain_steps.specs.declared.cause.Cause.TheVariants.{Device, Memory}
+use Rattle.chain_steps.specs.declared.cause.Cause.TheVariants.{Device, Disorder, Memory}
 use Rattle.world_model.specs.Backing.{Disk, IsBacked, IsOnDisk}
 use Rattle.world_model.specs.Chain.{ArePutOut, Member, StandsFor, BoardInUse, View, disk_of, slot_of}
 use Rattle.world_model.specs.ChainLaws.{with_members}
@@ -30,6 +30,7 @@ use Rattle.chain.specs.Chain.{Chained, Goes, IsFormed, Shows, bytes_of, told_of}
 use Rattle.chain.specs.Commits.{EndsAt, HasEndedCommit, MeansEither, kept_of}
 use Rattle.chain.specs.Member.{IsLeft, IsShown, Linked, fronts_of, musters_of, receipts_of}
 use Rattle.chain.proofs.CommitSteps.{Works, disk_told, gathers, gathers_all, left_durable, left_then, one_goes, runs_leaves, works_formed, works_lead_so}
+use Rattle.chain.proofs.Orderly.{device_is_one, memory_is_one}
 use Rattle.chain.proofs.Stepping.{formed_then}
 
 module _ {S : Type 0} (about : S → About) (keeps : S → List ℕ → Type 0) (may_leave_now : S → List ℕ → Type 0) (size : ℕ) (before : Linked S) (m : Member) (so : IsShown about keeps may_leave_now size before m)
@@ -139,10 +140,10 @@ module _ {S : Type 0} (premise : Type 0) (about : S → About) (is_pending : S �
     pub are : after ≡ record before { node = after.node; receipt = Some receipt }
     pub kept : premise → (volume : List ℕ) → keeps before.node.store volume → keeps after.node.store (volume_at volume before.node.state commit.front)
 
-  halts : (cause : Cause) → (disk_told (about after.node.store) ≡ disk_told (about before.node.store)) → after.node.state ≡ (stop cause before.node.state).node → replies ≡ (stop cause before.node.state).out.replies
+  halts : (cause : Cause) → cause ≢ Disorder → (disk_told (about after.node.store) ≡ disk_told (about before.node.store)) → after.node.state ≡ (stop cause before.node.state).node → replies ≡ (stop cause before.node.state).out.replies
       → after ≡ record before { node = after.node } → HasNoEnd
-  halts cause disk node told are = record {
-    works = record { runs = did.runs; are = are; disk = disk; outcome = inr (inr (cause, node, told)) };
+  halts cause other disk node told are = record {
+    works = record { runs = did.runs; are = are; disk = disk; outcome = inr (inr (cause, other, node, told)) };
     kept = λ volume keep on. let none : Some cause ≡ None = ap (λ (n : NodeState). n.stopped) (sym node) ∙ on in absurd (cc);
   }
 
@@ -162,8 +163,8 @@ module _ {S : Type 0} (premise : Type 0) (about : S → About) (is_pending : S �
     kept = λ volume keep on. subst (λ s. keeps s volume) (sym (ap (λ n. n.store) idle.0.node)) keep;
   })
   end_of (Some commit) None was are idle ends halted kept = inl (elim halted [
-    | inl is ↦ halts Memory (ap disk_told is.tells) is.node (sym did.told ∙ ap (λ (o : Out). o.replies) is.sent) are
-    | inr is ↦ halts (Device is.error) (ap disk_told is.broken) is.node (sym did.told ∙ ap (λ (o : Out). o.replies) is.sent) are
+    | inl is ↦ halts Memory memory_is_one (ap disk_told is.tells) is.node (sym did.told ∙ ap (λ (o : Out). o.replies) is.sent) are
+    | inr is ↦ halts (Device is.error) (device_is_one is.error) (ap disk_told is.broken) is.node (sym did.told ∙ ap (λ (o : Out). o.replies) is.sent) are
   ])
   end_of (Some commit) (Some receipt) was are idle ends halted kept = inr (record {
     commit = commit;

@@ -34,6 +34,7 @@ use Rattle.chain.specs.Musters.{HasFound, HasGauged, HasMustered, HasSettled}
 use Rattle.chain.specs.Muster.{next_of}
 use Rattle.chain.specs.declared.muster.Muster.{Muster}
 use Rattle.chain.proofs.Cells.{place_of, twin_of}
+use Rattle.chain.proofs.Orderly.{memory_is_one}
 use Rattle.chain.proofs.Stepping.{all_at, formed_then, shown_still}
 
 -- ---- what members have, gathered
@@ -421,5 +422,5 @@ module _ {S : Type 0} (about : S → About) (old : Chained S) (at : ℕ) (before
         | inl answers ↦ settled_by (λ n. (answer_floor floor n).node) answers.node (λ n. refl) (λ n. refl) (λ n. refl) (λ n. refl) (λ n. refl) keeps may_leave_now (AnswerFloor floor) v events shows (λ n. refl) (λ n. refl)
             (λ m same. (within, on.1, rw same (rw (← ap (λ (o : Out). o.replies) answers.sent, did.told) put_out), refl))
         | inr stops ↦ settled_by (λ n. (stop causes.Memory n).node) stops.node (λ n. refl) (λ n. refl) (λ n. refl) (λ n. refl) (λ n. refl) keeps may_leave_now (Stop causes.Memory) v events shows (λ n. refl) (λ n. refl)
-            (λ m same. (rw same (rw (← ap (λ (o : Out). o.replies) stops.sent, did.told) put_out), refl))
+            (λ m same. (memory_is_one, rw same (rw (← ap (λ (o : Out). o.replies) stops.sent, did.told) put_out), refl))
       ]

@@ -24,7 +24,7 @@ does_keep v (KeepRaised front) m g events did = ap (λ (x : Member). x.demands) 
 does_keep v (KnowRaised front acks) m g events did = ap (λ (x : Member). x.demands) did.4
 does_keep v (BeginCommit commit) m g events did = ap (λ (x : Member). x.demands) did.0
 does_keep v (EndCommit p) m g events did = ap (λ (x : Member). x.demands) did.2
-does_keep v (Stop cause) m g events did = ap (λ (x : Member). x.demands) did.1
+does_keep v (Stop cause) m g events did = ap (λ (x : Member). x.demands) did.2
 
 sent_keep : (k : Kept) (ms : List Member) → map demands_of (sent_on k ms) ≡ map demands_of ms
 sent_keep k [] = refl

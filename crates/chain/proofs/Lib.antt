@@ -12,6 +12,7 @@ mod FrontSteps
 pub mod Keeping
 mod MusterSteps
 mod OpeningSteps
+mod Orderly
 mod PassingSteps
 mod RaisedSteps
 mod ReadingSteps

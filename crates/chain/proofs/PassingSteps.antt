@@ -27,14 +27,14 @@ use Rattle.chain.specs.Passing.{IsRefused, Passes, PassesTo}
 
 -- ---- what a message may do
 
-taken_same : (a b : Stepped) → Taken a ≡ Taken b → b ≡ a
+pub taken_same : (a b : Stepped) → Taken a ≡ Taken b → b ≡ a
 taken_same a b is = let same : b ≡ a = cc is in same
 
-not_refused : {A : Type 0} (n : ℕ) (b : Stepped) → Refused n ≡ Taken b → A
+pub not_refused : {A : Type 0} (n : ℕ) (b : Stepped) → Refused n ≡ Taken b → A
 not_refused n b is = absurd (cc)
 
 -- one of two deliveries
-by_test : (b : Bool) (x y d : Delivery) (P : Type 0) → cond b x y ≡ d → (b ≡ true → x ≡ d → P) → (b ≡ false → y ≡ d → P) → P
+pub by_test : (b : Bool) (x y d : Delivery) (P : Type 0) → cond b x y ≡ d → (b ≡ true → x ≡ d → P) → (b ≡ false → y ≡ d → P) → P
 by_test true x y d P is one other = one refl is
 by_test false x y d P is one other = other refl is
 

@@ -1,9 +1,11 @@
 -- A member takes the front that it raised as its known commit.
 --
 -- That the front isn't below what it knew is a premise here.
-use Rattle.std.proofs.Common.{◌≡◌, ◌⊎◌, ℕ, ◌≤◌, length, List, [], ◌∷◌, ◌++◌, map, nat_lt, refl, ap, sym, subst, ◌∙◌, inl, inr, arith, length-append, append_assoc}
+use Rattle.std.proofs.Common.{◌≡◌, ◌⊎◌, ℕ, ◌≤◌, length, List, [], ◌∷◌, ◌++◌, map, nat_lt, refl, ap, sym, subst, ◌∙◌, inl, inr, arith, length-append, append_assoc, ◌≢◌, ◌<◌}
 use Rattle.std.specs.Prelude.{All, Option, Some, None, slice_get, slice_set}
+use Rattle.std.specs.List.{AllZip}
 use Rattle.std.proofs.lemmas.Bool.{cases_Bool}
+use Rattle.std.proofs.lemmas.Bool.Decides.{nat_tests}
 use Rattle.std.proofs.lemmas.List.{append-nil}
 use Rattle.std.proofs.lemmas.List.Elements.{All-append, All-cons, All-nil}
 use Rattle.board.specs.Seats.{FoundFront}
@@ -20,13 +22,16 @@ use Rattle.chain_steps.specs.declared.found.Found.TheVariants.{Looked, Raised}
 use Rattle.chain_steps.specs.declared.message.Envelope.{Envelope}
 use Rattle.chain_steps.specs.declared.message.Message.TheVariants.{Ack}
 use Rattle.chain_steps.specs.declared.message.Sent.{Sent}
-use Rattle.world_model.specs.Chain.{ArePutOut, Member, View}
+use Rattle.world_model.specs.Chain.{ArePutOut, Member, StandsFor, View}
 use Rattle.world_model.specs.Event.{ClientEvent}
 use Rattle.world_model.specs.Life.{KnowRaised, Stop}
+use Rattle.world_model.specs.Machine.{State}
 use Rattle.chain.specs.Chain.{Chained, Goes, IsFormed, Shows, bytes_of}
 use Rattle.chain.specs.Fronts.{HasKnown}
 use Rattle.chain.specs.Links.{IsAckOf, ack_in, acks_in}
 use Rattle.chain.specs.Member.{IsLinked, IsShown, Linked, fronts_of, member_of, musters_of, receipts_of}
+use Rattle.chain.proofs.Cells.{place_of, twin_of}
+use Rattle.chain.proofs.Orderly.{committed_there, memory_is_one, raised_there}
 use Rattle.chain.proofs.Stepping.{UsesAsBefore, formed_then, one_does, rests, same_then}
 
 -- what such a step leaves of the member's state, and that it sends Acks of its epoch
@@ -126,6 +131,7 @@ module _ {S : Type 0} (about : S → About) (old : Chained S) (at : ℕ) (before
   shown_more keeps may_leave_now m g so is volume more = shows_more about keeps may_leave_now (bytes_of old) before after m g so is volume both.0 both.1.table did.runs more
 
   module _ (above : (front : FoundFront) → before.node.state.found ≡ Some (Raised front) → before.node.state.known ≤ front.number)
+      (within : (front : FoundFront) → before.node.state.found ≡ Some (Raised front) → front.number ≤ last_of before.node.state)
       (keeps : S → List ℕ → Type 0) (may_leave_now : S → List ℕ → Type 0) (v : View) (events : List ClientEvent) (shows : Shows about keeps may_leave_now old v) (put_out : ArePutOut replies events) where
     abbrev GoesOn : Type 0
     GoesOn = (w : View) × Shows about keeps may_leave_now now w × Goes (bytes_of old) v w events
@@ -140,13 +146,13 @@ module _ {S : Type 0} (about : S → About) (old : Chained S) (at : ℕ) (before
     shown_as : (m : Member) (acks : List ℕ) → IsShown about keeps may_leave_now (bytes_of old) before m → acks_in after.acks ≡ acks → record m { node = after.node.state; acks = acks } ≡ member_of after m.volume m.demands
     shown_as m acks so is = ap (λ (x : Member). record x { node = after.node.state; acks = acks }) so.is ∙ rw (ap (λ (x : Linked S). x.puts) did.are, ap (λ (x : Linked S). x.submits) did.are, is) refl
 
-    stops : (cause : Cause) → after.node.state ≡ (stop cause before.node.state).node → did.out ≡ (stop cause before.node.state).out → GoesOn
-    stops cause node sent = one_does about keeps may_leave_now old at before after here (Stop cause) v events uses shows (λ m so.
+    stops : (cause : Cause) → cause ≢ causes.Disorder → after.node.state ≡ (stop cause before.node.state).node → did.out ≡ (stop cause before.node.state).out → GoesOn
+    stops cause other node sent = one_does about keeps may_leave_now old at before after here (Stop cause) v events uses shows (λ m so.
         let node_is : m.node ≡ before.node.state = ap (λ (x : Member). x.node) so.is in
         let acks : acks_in after.acks ≡ m.acks = ap acks_in (acks_are ∙ ap (λ (o : Out). before.acks ++ map (λ (sent : Sent). sent.envelope) o.messages) sent ∙ append-nil before.acks) ∙ sym (ap (λ (x : Member). x.acks) so.is) in (
           record m { node = after.node.state },
           shown_more keeps may_leave_now m (record m { node = after.node.state }) so (shown_as m m.acks so acks) refl (omega (arith, ap (λ (n : NodeState). n.known) node)),
-          (rw node_is (rw (← ap (λ (o : Out). o.replies) sent, did.told) put_out), ap (λ (n : NodeState). record m { node = n }) (node ∙ ap (λ (n : NodeState). (stop cause n).node) (sym node_is))),
+          (other, rw node_is (rw (← ap (λ (o : Out). o.replies) sent, did.told) put_out), ap (λ (n : NodeState). record m { node = n }) (node ∙ ap (λ (n : NodeState). (stop cause n).node) (sym node_is))),
         ))
 
     stays : after.node.state ≡ before.node.state → did.out ≡ record { messages = []; replies = [] } → GoesOn
@@ -191,16 +197,27 @@ module _ {S : Type 0} (about : S → About) (old : Chained S) (at : ℕ) (before
     by None was node sent = stays node sent
     by (Some (Looked front)) was node sent = stays node sent
     by (Some (Raised front)) was node sent = elim (cases_Bool (nat_lt (last_of before.node.state) front.number)) [
-      | inl over ↦ stops causes.Disorder (rw over at node) (rw over at sent)
-      | inr within ↦ knows front (predecessor_of before.node.state.place) refl was (rw within at node) (rw within at sent)
+      | inl over ↦ let beyond : last_of before.node.state < front.number = grind (arith, nat_tests) in absurd (omega (arith, within front was, beyond))
+      | inr reached ↦ knows front (predecessor_of before.node.state.place) refl was (rw reached at node) (rw reached at sent)
     ]
 
     pub known_goes : GoesOn
     known_goes = elim did.did [
       | inl is ↦ by before.node.state.found refl (ap (λ (n : Seen S). n.state) is.node) is.sent
-      | inr is ↦ stops causes.Memory (ap (λ (n : Seen S). n.state) is.node) is.sent
+      | inr is ↦ stops causes.Memory memory_is_one (ap (λ (n : Seen S). n.state) is.node) is.sent
     ]
 
 -- a front that a sound member raised isn't below what it knows
 pub raised_above : (about : About) (keeping : Keeping) (node : NodeState) → IsSound about keeping node → (front : FoundFront) → node.found ≡ Some (Raised front) → node.known ≤ front.number
 raised_above about keeping node is front was = omega (arith, is.ahead, (is.found (Raised front) was).1)
+
+-- and a member of a chain has applied all up to a front that it raised
+pub within_here : {S : Type 0} (about : S → About) (keeps : S → List ℕ → Type 0) (may_leave_now : S → List ℕ → Type 0) (old : Chained S) (at : ℕ) (before : Linked S) → slice_get old.members at ≡ Some before
+    → (v : View) (s : State) → Shows about keeps may_leave_now old v → StandsFor (bytes_of old) v s → (front : FoundFront) → before.node.state.found ≡ Some (Raised front) → front.number ≤ last_of before.node.state
+within_here about keeps may_leave_now old at before here v s shows stands front was =
+    let place = place_of old.members at before here in
+    let twin = twin_of (IsShown about keeps may_leave_now (bytes_of old)) place.above before place.below v.members (subst (λ l. AllZip (IsShown about keeps may_leave_now (bytes_of old)) l v.members) place.split shows.members) in
+    let node_is : twin.own.node ≡ before.node.state = ap (λ (m : Member). m.node) twin.fits.is in
+    let applied = subst (λ (n : NodeState). v.told.front ≤ last_of n) node_is (committed_there (bytes_of old) v s stands twin.over twin.own twin.under twin.are) in
+    let raised = raised_there (bytes_of old) v s stands twin.over twin.own twin.under twin.are front (ap (λ (n : NodeState). n.found) node_is ∙ was) in
+    omega (arith, applied, raised)

@@ -31,6 +31,7 @@ use Rattle.chain.specs.Commits.{LeavesAt, MeansOld}
 use Rattle.chain.specs.Member.{IsLeft, IsLinked, IsShown, Linked, fronts_of, member_of, musters_of, receipts_of}
 use Rattle.chain.proofs.AskingSteps.{takes_at, takes_by}
 use Rattle.chain.proofs.CommitSteps.{Remains, Works, disk_told, formed_called, is_old, left_then, rests_leaves, runs_leaves, shown_over, with_node, works_formed, works_lead, works_leaves}
+use Rattle.chain.proofs.Orderly.{device_is_one}
 use Rattle.chain.proofs.Stepping.{UsesAsBefore, formed_still, in_at, rests, same_then, shown_still}
 
 -- ---- what of the member stays
@@ -115,7 +116,7 @@ module _ {S : Type 0} (premise : Type 0) (about : S → About) (failures : S →
             runs = runs_so before.node.state broken.1;
             are = unread.1;
             disk = ap disk_told broken.3.failed.broken;
-            outcome = inr (inr (Device broken.3.error, broken.3.node, ap (λ (o : Out). o.replies) broken.3.sent));
+            outcome = inr (inr (Device broken.3.error, device_is_one broken.3.error, broken.3.node, ap (λ (o : Out). o.replies) broken.3.sent));
           };
           kept = λ so volume keep on. let none : Some (Device broken.3.error) ≡ None = ap (λ (n : NodeState). n.stopped) (sym broken.3.node) ∙ on in absurd (cc);
         }

@@ -1,5 +1,5 @@
 -- A submitted write comes to the head of a chain.
-use Rattle.std.proofs.Common.{◌≡◌, ℕ, zero, suc, ◌+◌, ◌<◌, ◌≤◌, ◌*◌, true, cond, List, [], ◌∷◌, ◌++◌, length, map, refl, ap, sym, subst, ◌∙◌, arith, inl, inr}
+use Rattle.std.proofs.Common.{◌≡◌, ◌≢◌, ℕ, zero, suc, ◌+◌, ◌<◌, ◌≤◌, ◌*◌, true, cond, List, [], ◌∷◌, ◌++◌, length, map, refl, ap, sym, subst, ◌∙◌, arith, inl, inr}
 use Rattle.std.specs.Prelude.{All, IfErr, IfNone, IfOk, IfSome, Option, None, Some, Result, Ok, Err, is_some, option_map, slice_get, slice_index_or, slice_set}
 use Rattle.std.specs.List.{AllZip}
 use Rattle.std.proofs.lemmas.List.Elements.{All-nil, All-head, All-weaker}
@@ -14,6 +14,7 @@ use Rattle.volume.specs.declared.geometry.Geometry.{Geometry}
 use Rattle.chain_steps.specs.Node.{NodeState, Stepped, Taken, epoch_of, last_of}
 use Rattle.chain_steps.specs.Place.{incarnation_in, place_in, successor_of}
 use Rattle.chain_steps.specs.Steps.{apply, deliver, origin_of, send, take_message}
+use Rattle.chain_steps.specs.declared.cause.Cause.TheVariants.{Disorder}
 use Rattle.chain_steps.specs.declared.message.Envelope.{Envelope}
 use Rattle.chain_steps.specs.declared.message.Message.{Message}
 use Rattle.chain_steps.specs.declared.message.Message.TheVariants.{Put, Ack, Turn, Submit}
@@ -29,8 +30,9 @@ use Rattle.world_model.specs.Machine.{State}
 use Rattle.chain.specs.Chain.{Chained, Goes, IsFormed, IsIn, Shows, bytes_of, recorded_as}
 use Rattle.chain.specs.Links.{IsPutOf, IsSubmitInside, IsSubmitOf, puts_in, submit_in, submits_in}
 use Rattle.chain.specs.Member.{IsShown, Linked}
-use Rattle.chain.specs.Passing.{AreOf, HasNone, HeadTakes, IsRefused, Passes, PassesTo, Refuses, SubmitComes, replies_in, with_puts}
+use Rattle.chain.specs.Passing.{AreOf, HasHalted, HasNone, HeadTakes, IsRefused, Passes, PassesTo, Refuses, SubmitComes, replies_in, with_puts}
 use Rattle.chain.proofs.ComingSteps.{CarriesOn, IsSame, applied_so, are_same, are_same_then, formed_same, get_there, goes_on, halts_at, has_successor, in_all, known_there, place_is, same_behind, same_puts, sent_carries, shown_on, twin, with_none}
+use Rattle.chain.proofs.Orderly.{submit_orderly}
 use Rattle.chain.proofs.PassingSteps.{Numbers, applied_sends, deliver_here, number_is, passes_same, runs_not}
 use Rattle.chain.proofs.Stepping.{all_at, rests, shown_still}
 
@@ -68,13 +70,17 @@ submit_sends size slot old new link left sent replies linked (inl is) =
 
 -- ---- what happens
 
+-- a member stands at its place in the record
+at_place : {S : Type 0} (about : S → About) (c : Chained S) (at : ℕ) (m : Linked S) → IsFormed about c → AreMembers c.chain.members → slice_get c.members at ≡ Some m → place_in c.chain m.node.state.place.slot ≡ Some at
+at_place about c at m formed are here =
+    place_is c.chain at (recorded_as m) are.once (ap (λ l. slice_get l at) (sym formed.recorded) ∙ slice_get-map recorded_as c.members at ∙ ap (option_map recorded_as) here)
+
 -- the sender is in the record, with its incarnation
 has_incarnation : {S : Type 0} (about : S → About) (c : Chained S) (at : ℕ) (m : Linked S) → IsFormed about c → AreMembers c.chain.members → slice_get c.members at ≡ Some m
     → incarnation_in c.chain m.node.state.place.slot ≡ Some m.node.state.incarnation
 has_incarnation about c at m formed are here =
     let recorded_here : slice_get c.chain.members at ≡ Some (recorded_as m) = ap (λ l. slice_get l at) (sym formed.recorded) ∙ slice_get-map recorded_as c.members at ∙ ap (option_map recorded_as) here in
-    let place : place_in c.chain m.node.state.place.slot ≡ Some at = place_is c.chain at (recorded_as m) are.once recorded_here in
-    rw (place, recorded_here) refl
+    rw (at_place about c at m formed are here, recorded_here) refl
 
 module _ {S : Type 0} (about : S → About) (old : Chained S) (one : List (Linked S)) (sender : Linked S) (other : List (Linked S)) (head : Linked S) (below : List (Linked S)) (node : Seen S) (left sent : List Envelope) (replies : List GivenReply)
     (were : old.members ≡ one ++ sender ∷ other) (without : one ++ record sender { submits = left } ∷ other ≡ head ∷ below) (did : Passes sender.node.state.place.slot head.node node sender.submits left sent replies) where
@@ -137,7 +143,7 @@ module _ {S : Type 0} (about : S → About) (old : Chained S) (one : List (Linke
     number_goes s events stands put_out formed are_members at place size linked turned chain next = elim did [
       | inr is ↦
           let all : old.members ≡ head ∷ below = were ∙ ap (λ (l : List Envelope). one ++ record sender { submits = l } ∷ other) (sym is.stays) ∙ without in
-          rw (is.are, is.silent, with_none below) (halts_at about keeps may_leave_now old v shows [] head below all is.cause events (subst (λ rs. ArePutOut rs events) is.told put_out))
+          rw (is.are, is.silent, with_none below) (halts_at about keeps may_leave_now old v shows [] head below all is.cause (orderly is all) events (subst (λ rs. ArePutOut rs events) is.told put_out))
       | inl is ↦
           let state = head.node.state in
           let slot = sender.node.state.place.slot in
@@ -194,6 +200,16 @@ module _ {S : Type 0} (about : S → About) (old : Chained S) (one : List (Linke
             refl,
           ))
     ]
+      where
+        -- it doesn't stop because of the write, which comes to the head from a member
+        orderly : (is : HasHalted sender.node.state.place.slot head.node node sender.submits left sent replies) → old.members ≡ head ∷ below → is.cause ≢ Disorder
+        orderly is all =
+            let here : slice_get old.members at ≡ Some sender = ap (λ l. slice_get l at) were ∙ get_there one sender other at place in
+            let first : slice_get old.members 0 ≡ Some head = ap (λ l. slice_get l 0) all in
+            let some = has_incarnation about old at sender formed are_members here in
+            submit_orderly sender.node.state.place.slot is.envelope head.node.state is.cause is.ran size
+            (All-head (IsSubmitOf (epoch_of head.node.state) size) is.envelope is.rest (subst (All (IsSubmitOf (epoch_of head.node.state) size)) is.first linked))
+            (rw (chain, at_place about old 0 head formed are_members first) refl) (rw (chain, some) refl) is.why
 
   -- the head is one of the chain
   given_formed : IsFormed about old → IsFormed about (record old { members = head ∷ below })

@@ -1,5 +1,5 @@
 -- What a member does with a write or a FLUSH of its sessions.
-use Rattle.std.specs.Prelude.{◌≡◌, ◌⊎◌, ℕ, ◌≤◌, ⊤, IfSome, None, List, [], ◌∷◌, ◌++◌, map, slice_get, slice_set}
+use Rattle.std.specs.Prelude.{◌≡◌, ◌⊎◌, ℕ, ◌≤◌, true, ⊤, IfSome, None, Some, List, [], ◌∷◌, ◌++◌, map, slice_get, slice_set}
 use Rattle.disk_model.specs.Disk.{LeavesOnly}
 use Rattle.flush_barrier.specs.Owed.{Owed, OwedAt}
 use Rattle.flush_barrier.specs.Reply.{GivenReply}
@@ -8,7 +8,7 @@ use Rattle.local_store.specs.About.{About, meaning_with}
 use Rattle.local_store.specs.Meaning.{Means}
 use Rattle.version_table.specs.Held.{IsClean}
 use Rattle.volume.specs.Writes.{Placed}
-use Rattle.chain_steps.specs.Node.{Out, Stepped}
+use Rattle.chain_steps.specs.Node.{Out, Stepped, is_stopped}
 use Rattle.chain_steps.specs.Steps.{flush, read_asked, read_at_once, submit}
 use Rattle.chain_steps.specs.declared.waiting.WriteToken.{WriteToken}
 use Rattle.chain_steps.specs.declared.waiting.WriteToken.TheVariants as tokens
@@ -62,6 +62,21 @@ pub record CannotGrow {S : Type 0} (old new : Linked S) (replies : List GivenRep
 abbrev pub IsTurnedAway : {S : Type 0} → (Stops : Type 0) → Stepped → List GivenReply → Refusal → Linked S → Linked S → Type 0
 IsTurnedAway Stops stepped replies refusal old new =
     (IsRefusedBy Stops stepped old.node new.node replies refusal × (new ≡ record old { node = new.node })) ⊎ CannotGrow old new replies refusal
+
+-- the member at the place has stopped
+pub record HasStoppedAt {S : Type 0} (at : ℕ) (c : Chained S) : Type 0 where
+  pub member : Linked S
+  pub here : slice_get c.members at ≡ Some member
+  pub stopped : is_stopped member.node.state ≡ true
+
+-- a request comes back for memory, or since the member at the place has stopped; no other refusal is given
+abbrev pub HasPleaAt : {S : Type 0} → ℕ → Chained S → Refusal → Type 0
+HasPleaAt at c refusals.Memory = ⊤
+HasPleaAt at c refusals.Stopped = HasStoppedAt at c
+HasPleaAt at c refusals.Full = ⊥
+HasPleaAt at c refusals.NotMember = ⊥
+HasPleaAt at c refusals.Early = ⊥
+HasPleaAt at c refusals.Busy = ⊥
 
 -- Some things happen, one after another, and clients see these events of them all; then these demands are left of those that
 -- waited for the member at the place, and sessions keep what they kept.

@@ -8,7 +8,7 @@ ghost use Rattle.volume.specs.Writes.{Fits};
 ghost use Rattle.chain_steps.specs.Steps.{flush, stop, submit};
 ghost use Rattle.chain_steps.specs.Waiting.{board_of};
 ghost use Rattle.chain_core.specs.Node.{IsRefusedBy, size_of};
-ghost use Rattle.chain.specs.Asking.{HasFlushed, HasRead, HasSubmitted, IsTurnedAway, IsUnnumbered, IsUnreadAt, ReadsSo, TakesOfOneVolume, asked_by, flush_by, read_by};
+ghost use Rattle.chain.specs.Asking.{HasFlushed, HasPleaAt, HasRead, HasSubmitted, IsTurnedAway, IsUnnumbered, IsUnreadAt, ReadsSo, TakesOfOneVolume, asked_by, flush_by, read_by};
 ghost use Rattle.chain.specs.Chain.{Changes, IsOfOneVolume, bytes_of};
 ghost use Rattle.chain.specs.Commits.{LeavesAt};
 
@@ -123,7 +123,7 @@ impl<S: StoreLike + Drop> Chain<S> {
     /// The member at a place sends a write of its sessions to the head, and keeps its token under the next ticket. The write has at
     /// least one byte, and lies in the volume; the token is of the chain's board, and has no number.
     ///
-    /// 154 `Stopped`, 151 `NotMember`, 100 `Memory`: the token comes back, and nothing changed. Where the greatest ticket is
+    /// 154 `Stopped`, 100 `Memory`: the token comes back, and nothing changed. Where the greatest ticket is
     /// used, the member stops: the token comes back with 154, and the other tokens' refusals with it.
     pub fn submit(
         &mut self,
@@ -139,6 +139,7 @@ impl<S: StoreLike + Drop> Chain<S> {
         ensures submitted { OnOk result (Changes at self.old self.new (HasSubmitted token write)) }
         ensures back { IfErr result (λ r. r.token ≡ token) }
         ensures refused { IfErr result (λ r. Changes at self.old self.new (λ old new. IsTurnedAway (MAX_NUMBER < old.node.state.ticket) (stop Cause.LastTicket old.node.state) r.replies.items r.refusal old new)) }
+        ensures pleads { IfErr result (λ r. HasPleaAt at self.new r.refusal) }
         ensures takes { S.keeps_model → OnOk result (TakesOfOneVolume S.about S.keeps S.may_leave_now at (asked_by token write) self.old self.new []) }
         ensures one_volume { S.keeps_model → IfErr result (λ r. IsOfOneVolume S.about S.keeps S.may_leave_now self.old self.new r.replies.items) }
     {
@@ -148,7 +149,7 @@ impl<S: StoreLike + Drop> Chain<S> {
     /// The member at a place takes a FLUSH of its sessions, which waits for the first front that is looked up behind it. The token
     /// is of the chain's board, and has no number.
     ///
-    /// 154 `Stopped`, 151 `NotMember`, 100 `Memory`: the token comes back, and nothing changed.
+    /// 154 `Stopped`, 100 `Memory`: the token comes back, and nothing changed.
     pub fn flush(&mut self, at: usize, token: OwedFlush) -> Result<(), Refused<OwedFlush>>
         requires at { at < length self.old.members }
         requires of_board { token.board ≡ self.old.id }
@@ -156,6 +157,7 @@ impl<S: StoreLike + Drop> Chain<S> {
         ensures flushed { OnOk result (Changes at self.old self.new (HasFlushed token)) }
         ensures back { IfErr result (λ r. r.token ≡ token) }
         ensures refused { IfErr result (λ r. Changes at self.old self.new (λ old new. IsTurnedAway ⊥ (flush token old.node.state) r.replies.items r.refusal old new)) }
+        ensures pleads { IfErr result (λ r. HasPleaAt at self.new r.refusal) }
         ensures takes { S.keeps_model → OnOk result (TakesOfOneVolume S.about S.keeps S.may_leave_now at (flush_by token) self.old self.new []) }
         ensures one_volume { S.keeps_model → IfErr result (λ r. IsOfOneVolume S.about S.keeps S.may_leave_now self.old self.new r.replies.items) }
     {
@@ -166,7 +168,7 @@ impl<S: StoreLike + Drop> Chain<S> {
     /// write above its known commit touches a block of them, it is answered at once, at the known commit; else it waits for the first
     /// front that is looked up behind it. The token is of the chain's board.
     ///
-    /// 154 `Stopped`, 151 `NotMember`, 100 `Memory`: the token comes back, and nothing changed, but that the store may have been read
+    /// 154 `Stopped`, 100 `Memory`: the token comes back, and nothing changed, but that the store may have been read
     /// where memory ran out. Where the device refuses, the member stops: the token comes back with 154, and the other tokens' refusals
     /// with it.
     pub fn read(
@@ -183,6 +185,7 @@ impl<S: StoreLike + Drop> Chain<S> {
         ensures read { IfOk result (λ replies. Changes at self.old self.new (HasRead (ReadsSo S.keeps_model S.about S.keeps S.moment S.may_have_left_since offset len token) replies.items)) }
         ensures back { IfErr result (λ r. r.token ≡ token) }
         ensures refused { IfErr result (λ r. Changes at self.old self.new (IsUnreadAt S.keeps_model S.about S.failures S.keeps S.moment S.may_have_left_since offset len r.replies.items r.refusal)) }
+        ensures pleads { IfErr result (λ r. HasPleaAt at self.new r.refusal) }
 
         // A stop at any moment of the call leaves what the member was shown with.
         ensures any_moment { S.keeps_model → LeavesAt S.about S.keeps S.may_leave_now S.moment S.may_have_left_since at self.old self.new }

@@ -31,7 +31,7 @@ use Rattle.clients.specs.declared.delivered.Delivered.TheVariants.{ToSession, Dr
 use Rattle.clients.specs.declared.output.Output.{Output}
 use Rattle.clients.proofs.Histories.{go_on_answered, go_on_ended, go_on_handed, go_on_none, go_on_still}
 use Rattle.clients.proofs.Places.{IsApart, apart_by_ids, ids_stay, none_there, place_before, place_by_ids, place_is}
-use Rattle.clients.proofs.Zips.{get_before, get_past}
+use Rattle.clients.proofs.Items.{get_before, get_past}
 
 -- ---- the sessions stay sessions, at their places
 

@@ -1,4 +1,4 @@
 pub mod CallSteps
 pub mod Histories
+pub mod Items
 pub mod Places
-pub mod Zips

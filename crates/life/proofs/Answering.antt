@@ -11,7 +11,7 @@ use Rattle.world.specs.Reception.{fed_in, given_to}
 use Rattle.world.specs.Telling.{handed_by, handed_if, handed_in, handed_some, outputs_of}
 use Rattle.world.specs.World.{IsOfOneVolume, Seen}
 use Rattle.world.specs.declared.told.Told.{Told}
-use Rattle.world.proofs.Accounts.{none_asked}
+use Rattle.world.proofs.Sending.{none_asked}
 use Rattle.world.proofs.Going.{goes_nowhere}
 use Rattle.world.proofs.GoingOn.{go_on_as, go_on_still}
 use Rattle.life.specs.Played.{fed_to, handed_of, told_in, tried_in, went_in}

@@ -1,6 +1,6 @@
 -- What goes with what: lemmas.
 use Rattle.std.proofs.Common.{◌≡◌, ℕ, zero, suc, List, [], ◌∷◌, ◌++◌, length, map, refl, ap, sym, subst, ◌∙◌, arith}
-use Rattle.std.specs.Prelude.{Result, Ok, Err, IfOk, None, Some, slice_get}
+use Rattle.std.specs.Prelude.{None, Some, slice_get}
 use Rattle.std.specs.List.{AllZip}
 use Rattle.std.proofs.lemmas.List.{append_assoc, append-nil}
 
@@ -23,11 +23,6 @@ one_behind xs rest next all x whole is = append_assoc xs (x ∷ []) next ∙ ap 
 pub all_yielded : {A : Type 0} (yielded rest all : List A) → yielded ++ rest ≡ all → length rest ≡ 0 → yielded ≡ all
 all_yielded yielded [] all whole none = sym (append-nil yielded) ∙ whole
 all_yielded yielded (x ∷ rest) all whole none = absurd (omega (arith, none))
-
--- what is said of an answer, said otherwise
-pub ok_then : {T E : Type 0} (result : Result T E) (P R : T → Type 0) → IfOk result P → ((t : T) → P t → R t) → IfOk result R
-ok_then (Ok t) P R ok then = then t ok
-ok_then (Err e) P R ok then = tt
 
 -- who stands beside an item
 pub zip_there : {A B : Type 0} (R : A → B → Type 0) (xs : List A) (ys : List B) (k : ℕ) (y : B) → AllZip R xs ys → slice_get ys k ≡ Some y → (x : A) × (slice_get xs k ≡ Some x) × R x y

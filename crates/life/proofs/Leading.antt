@@ -1,5 +1,6 @@
 -- One deed, and one era, behind others: lemmas.
 use Rattle.std.proofs.Common.{◌≡◌, ℕ, List, [], ◌∷◌, ◌++◌, length, refl, subst, arith}
+use Rattle.chain_steps.specs.declared.cause.Cause.{Cause}
 use Rattle.disk_model.specs.declared.memory.MemDisk.{MemDisk}
 use Rattle.local_store.specs.About.{About}
 use Rattle.volume.specs.declared.geometry.Geometry.{Geometry}
@@ -19,10 +20,10 @@ module _ {S : Type 0} (premise : Type 0) (about : S → About) (keeps : S → Li
   abbrev Does : Deed → Answer → Seen S → Seen S → Type 0
   Does = DoesDeed premise about keeps is_pending may_leave_now moment left_since failures disk
 
-  abbrev Eras : List Era → List Answers → Seen S → Seen S → Type 0
+  abbrev Eras : List Era → List Answers → List (List Cause) → Seen S → Seen S → Type 0
   Eras = ErasLead premise about keeps is_pending may_leave_now moment left_since failures disk
 
-  abbrev OneEra : Era → List Answer → Seen S → Seen S → Type 0
+  abbrev OneEra : Era → List Answer → List Cause → Seen S → Seen S → Type 0
   OneEra = EraLeads premise about keeps is_pending may_leave_now moment left_since failures disk
 
   -- one deed more
@@ -44,19 +45,21 @@ module _ {S : Type 0} (premise : Type 0) (about : S → About) (keeps : S → Li
       (next, first, on, leads_to_stop deeds answers next mid new deed answer rest (omega (arith, many)) later did met)
 
   -- one era more
-  pub eras_more : (eras : List Era) (answers : List Answers) (old mid new : Seen S) (era : Era) (these : Answers) → Eras eras answers old mid → OneEra era these.items.items mid new
-      → Eras (eras ++ era ∷ []) (answers ++ these ∷ []) old new
-  eras_more [] [] old mid new era these leads did = (new, subst (λ w. OneEra era these.items.items w new) leads did, refl)
-  eras_more [] (a ∷ answers) old mid new era these leads did = absurd leads
-  eras_more (e ∷ eras) [] old mid new era these leads did = absurd leads
-  eras_more (e ∷ eras) (a ∷ answers) old mid new era these (next, first, later) did = (next, first, eras_more eras answers next mid new era these later did)
+  pub eras_more : (eras : List Era) (answers : List Answers) (stops : List (List Cause)) (old mid new : Seen S) (era : Era) (these : Answers) (causes : List Cause) → Eras eras answers stops old mid
+      → OneEra era these.items.items causes mid new → Eras (eras ++ era ∷ []) (answers ++ these ∷ []) (stops ++ causes ∷ []) old new
+  eras_more [] [] [] old mid new era these causes leads did = (new, subst (λ w. OneEra era these.items.items causes w new) leads did, refl)
+  eras_more [] [] (c ∷ stops) old mid new era these causes leads did = absurd leads
+  eras_more [] (a ∷ answers) stops old mid new era these causes leads did = absurd leads
+  eras_more (e ∷ eras) [] stops old mid new era these causes leads did = absurd leads
+  eras_more (e ∷ eras) (a ∷ answers) [] old mid new era these causes leads did = absurd leads
+  eras_more (e ∷ eras) (a ∷ answers) (c ∷ stops) old mid new era these causes (next, first, later) did = (next, first, eras_more eras answers stops next mid new era these causes later did)
 
-  pub plays_on : (geometry : Geometry) (members : ℕ) (eras : List Era) (answers : List Answers) (mid new : Seen S) (era : Era) (these : Answers)
-      → IsPlayed premise about keeps is_pending may_leave_now moment left_since failures disk geometry members eras answers mid → OneEra era these.items.items mid new
-      → IsPlayed premise about keeps is_pending may_leave_now moment left_since failures disk geometry members (eras ++ era ∷ []) (answers ++ these ∷ []) new
-  plays_on geometry members eras answers mid new era these played leads = record {
+  pub plays_on : (geometry : Geometry) (members : ℕ) (eras : List Era) (answers : List Answers) (stops : List (List Cause)) (mid new : Seen S) (era : Era) (these : Answers) (causes : List Cause)
+      → IsPlayed premise about keeps is_pending may_leave_now moment left_since failures disk geometry members eras answers stops mid → OneEra era these.items.items causes mid new
+      → IsPlayed premise about keeps is_pending may_leave_now moment left_since failures disk geometry members (eras ++ era ∷ []) (answers ++ these ∷ []) (stops ++ causes ∷ []) new
+  plays_on geometry members eras answers stops mid new era these causes played leads = record {
     first = played.first;
     many = played.many;
     begins = played.begins;
-    plays = eras_more eras answers played.first mid new era these played.plays leads;
+    plays = eras_more eras answers stops played.first mid new era these causes played.plays leads;
   }

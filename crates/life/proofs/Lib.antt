@@ -4,6 +4,7 @@ mod Leading
 mod Lives
 mod Owners
 pub mod Passing
+mod Pleas
 mod Returning
 pub mod Starting
 mod Stops

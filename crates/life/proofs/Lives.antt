@@ -17,11 +17,13 @@ use Rattle.version_table.specs.Held.{writes_upto}
 use Rattle.volume.specs.Writes.{patched, volume_of}
 use Rattle.volume.specs.declared.geometry.Geometry.{Geometry}
 use Rattle.chain_steps.specs.Steps.{volume_at}
+use Rattle.chain_steps.specs.declared.cause.Cause.{Cause}
 use Rattle.world_model.specs.Chain.{StandsFor, View}
 use Rattle.world_model.specs.ChainLaws.{FirstChain, IsBeginning, RestartsChain, with_members}
 use Rattle.world_model.specs.Event.{ClientEvent}
 use Rattle.world_model.specs.Life.{HappeningsAreOfOneVolume}
 use Rattle.world_model.specs.Machine.{May, Restart, State, after, shown, start}
+use Rattle.world_model.specs.Refusing.{RefusalsHavePleas, StopsHaveCauses}
 use Rattle.chain.specs.Chain.{bytes_of}
 use Rattle.chain.specs.Member.{IsShown, Linked}
 use Rattle.chain.proofs.Cells.{place_of as cell_of, twin_of}
@@ -30,12 +32,14 @@ use Rattle.clients.specs.Laws.{FirstHasNone, IsLawfulFor, OutputsAreLawful}
 use Rattle.clients.proofs.Places.{same_id}
 use Rattle.world.specs.World.{HappensSo, IsJoined, IsOfOneVolume, Seen, Shows}
 use Rattle.life.specs.Begun.{BeginsWith, export_of}
-use Rattle.life.specs.Headline.{IsLawfulEra, IsLawfulSession, IsOneLife, RestartsBetween, Trace, fed_in, handed_in, told_in}
+use Rattle.life.specs.Headline.{AreRefusedSo, IsLawfulEra, IsLawfulSession, IsOneLife, RestartsBetween, Trace, fed_in, handed_in, told_in}
 use Rattle.life.specs.Lived.{Continues, IsFresh, Lives}
+use Rattle.life.specs.Plays.{stops_of}
 use Rattle.life.specs.declared.era.Answers.{Answers}
 use Rattle.life.specs.declared.era.Era.{Era}
 use Rattle.life.proofs.Beside.{all_more}
 use Rattle.life.proofs.Passing.{goes_plays, pass_as, passes_then}
+use Rattle.life.proofs.Pleas.{refused_so}
 use Rattle.life.specs.Played.{fed_by, handed_by}
 use Rattle.life.specs.declared.answer.Answer.{Answer}
 use Rattle.life.specs.declared.era.Deed.{Deed}
@@ -186,15 +190,15 @@ module _ {S : Type 0} (about : S → About) (keeps : S → List ℕ → Type 0) 
 
   -- ---- a life
 
-  pub era_continues : HappeningsAreOfOneVolume → RestartsChain → FirstHasNone → OutputsAreLawful
+  pub era_continues : HappeningsAreOfOneVolume → RefusalsHavePleas → StopsHaveCauses → RestartsChain → FirstHasNone → OutputsAreLawful
       → ((one other : Meaning) (bytes : List ℕ) → Means one bytes → Means other bytes → one ≡ other)
       → (old mid new : Seen S) (told : Trace) (dropped : SessionId → List ℕ) (at : ℕ) (m : Linked S) (c : List ℕ) (meaning : Meaning) → IsJoined old → IsJoined mid → AreSessions mid.sessions
       → IsOfOneVolume about keeps may_leave_now (fed_in told) (λ id. handed_in told id ++ dropped id) old mid
       → slice_get mid.chain.members at ≡ Some m → may_leave_now m.node.store c → Means meaning c
       → export_of meaning.geometry ≡ export_of mid.chain.geometry
       → BeginsWith about keeps may_leave_now meaning.geometry meaning.front meaning.volume new
-      → Continues about keeps may_leave_now told old new
-  era_continues happenings restarts first lawful one_meaning old mid new told dropped at m c meaning joined joined_then are pass here left means sizes begun export s fresh =
+      → Continues about keeps may_leave_now told (stops_of mid) old new
+  era_continues happenings pleas causes restarts first lawful one_meaning old mid new told dropped at m c meaning joined joined_then are pass here left means sizes begun export s fresh =
       let size : export.size ≡ bytes_of old.chain = ap (λ e. e.size) (sym fresh.has) ∙ joined.size in
       let stands = subst (λ n. StandsFor n fresh.view s) size fresh.stands in
       let one = pass fresh.view s fresh.shows stands in
@@ -206,6 +210,7 @@ module _ {S : Type 0} (about : S → About) (keeps : S → List ℕ → Type 0) 
       record {
         events = one.events;
         lawful = subst (λ e. IsLawfulEra e told one.events) exported (era_lawful old mid told dropped fresh.view one first lawful fresh.no_clients are);
+        refused = refused_so about keeps may_leave_now pleas causes (bytes_of old.chain) old mid fresh.view one.w one.events fresh.shows one.shows fresh.runs one.goes;
         moves = plays.0;
         end = plays.1;
         front = rec_.0;
@@ -247,32 +252,37 @@ module _ {S : Type 0} (about : S → About) (keeps : S → List ℕ → Type 0) 
   pass_whole old new told one = pass_as about keeps may_leave_now old new (fed_in told) (fed_in told) (handed_in told) (λ id. handed_in told id ++ no_one id) (λ id. refl) (λ id. sym (append-nil (handed_in told id))) one
 
   pub begins_life : FirstChain → (geometry : Geometry) (w : Seen S) → BeginsWith about keeps may_leave_now geometry 0 (volume_of (4096 * geometry.blocks) []) w
-      → Lives about keeps may_leave_now (4096 * geometry.blocks) (export_of geometry) [] w
+      → Lives about keeps may_leave_now (4096 * geometry.blocks) (export_of geometry) [] [] w
   begins_life first geometry w begun = record {
     events = [];
     lawful = tt;
+    refused = tt;
     end = start;
     runs = refl;
     fresh = record { view = begun.view; shows = begun.shows; stands = first (4096 * geometry.blocks) begun.view begun.begins; no_clients = begun.no_clients; has = begun.export; runs = begun.runs };
   }
 
-  pub lives_on : (export : Export) (eras : List Trace) (told : Trace) (old new : Seen S) → Lives about keeps may_leave_now export.size export eras old → Continues about keeps may_leave_now told old new
-      → Lives about keeps may_leave_now export.size export (eras ++ told ∷ []) new
-  lives_on export eras told old new was continues =
+  pub lives_on : (export : Export) (eras : List Trace) (told : Trace) (stops : List (List Cause)) (causes : List Cause) (old new : Seen S) → Lives about keeps may_leave_now export.size export eras stops old
+      → Continues about keeps may_leave_now told causes old new → Lives about keeps may_leave_now export.size export (eras ++ told ∷ []) (stops ++ causes ∷ []) new
+  lives_on export eras told stops causes old new was continues =
       let did = continues export was.end was.fresh in
       record {
         events = was.events ++ did.events ∷ [];
         lawful = all_more (IsLawfulEra export) eras was.events told did.events was.lawful did.lawful;
+        refused = all_more AreRefusedSo stops was.events causes did.events was.refused did.refused;
         end = after did.end (Restart did.front);
         runs = restarts_more export.size start was.end was.events did.events (after did.end (Restart did.front)) was.runs (did.moves, did.end, did.front, did.on, did.seen, did.may, refl);
         fresh = did.fresh;
       }
 
-  pub one_life : (size : ℕ) (export : Export) (eras : List Trace) (w : Seen S) → Lives about keeps may_leave_now size export eras w
-      → IsOneLife size export eras (λ end. (v : View) × Shows about keeps may_leave_now w v × StandsFor size v end)
-  one_life size export eras w lives = record {
+  pub one_life : (size : ℕ) (export : Export) (eras : List Trace) (WasPlayed : List (List Cause) → Type 0) (stops : List (List Cause)) (w : Seen S) → WasPlayed stops → Lives about keeps may_leave_now size export eras stops w
+      → IsOneLife size export eras WasPlayed (λ end. (v : View) × Shows about keeps may_leave_now w v × StandsFor size v end)
+  one_life size export eras WasPlayed stops w played lives = record {
     events = lives.events;
     lawful = lives.lawful;
+    stops = stops;
+    played = played;
+    refused = lives.refused;
     end = lives.end;
     runs = lives.runs;
     so = (lives.fresh.view, lives.fresh.shows, lives.fresh.stands);

@@ -221,7 +221,7 @@ module _ {S : Type 0} (about : S → About) where
     takes : (at : ℕ) (told : Told) (old new : Seen S) → Takes premise about failures keeps moment left_since at told old new → StayOwn old.chain new.chain
     takes at told old new is = elim is.did [
       | inl did ↦ taken at is.demand is.replies old.chain new.chain did
-      | inr (others, refusal, did, replies) ↦ refused at is.demand others refusal old.chain new.chain did
+      | inr (others, refusal, did, plea, replies) ↦ refused at is.demand others refusal old.chain new.chain did
     ]
 
     take_first : (at : ℕ) (given : Option Told) (old new : Seen S) → TakesFirst premise about keeps is_pending may_leave_now moment left_since failures at given old new → StayOwn old.chain new.chain

@@ -14,7 +14,7 @@ use Rattle.world_model.specs.Runs.{plays_nothing, plays_then}
 use Rattle.chain.specs.Chain.{bytes_of}
 use Rattle.clients.specs.Clients.{Sessions, held_under, no_one, place_of}
 use Rattle.world.specs.World.{AskWhatWasSent, Goes, IsJoined, IsOfOneVolume, Remain, Seen, sent_by, sent_in}
-use Rattle.world.proofs.Accounts.{none_asked}
+use Rattle.world.proofs.Sending.{none_asked}
 use Rattle.world.proofs.Going.{goes_nowhere, goes_on}
 use Rattle.world.proofs.GoingOn.{go_on_as, go_on_still, go_on_then}
 

@@ -20,6 +20,7 @@ use Rattle.volume.specs.declared.geometry.Geometry.{Geometry}
 use Rattle.world.specs.World.{Seen, Shows}
 use Rattle.world_model.specs.Chain.{View}
 use Rattle.life.specs.Begun.{AreOnDisks, IsCutFrom, IsOfMember}
+use Rattle.chain_steps.specs.declared.cause.Cause.{Cause}
 use Rattle.life.specs.Plays.{ErasLead}
 use Rattle.life.specs.Refusal.{BreaksOff, EndsAtReturn, IsOfMemory, IsOfReopening, ReturnsNobody}
 use Rattle.life.specs.declared.era.Answers.{Answers}
@@ -33,15 +34,6 @@ use Rattle.life.proofs.Starting.{IsStore, about_of_store, all_mapped, keeps_volu
 pub if_some : {A : Type 0} (o : Option A) (P : A → Type 0) → ((x : A) → o ≡ Some x → P x) → IfSome o P
 if_some None P each = tt
 if_some (Some x) P each = each x refl
-
--- what is so of a result, and comes to more
-pub ok_more : {T E : Type 0} (r : Result T E) (P Q : T → Type 0) → IfOk r P → ((x : T) → P x → Q x) → IfOk r Q
-ok_more (Ok x) P Q is more = more x is
-ok_more (Err e) P Q is more = tt
-
-pub err_more : {T E : Type 0} (r : Result T E) (P Q : E → Type 0) → IfErr r P → ((e : E) → P e → Q e) → IfErr r Q
-err_more (Ok x) P Q is more = tt
-err_more (Err e) P Q is more = more e is
 
 -- what is so of an error is so of it where it is passed on
 pub passed_on : {T E : Type 0} (result : Result T E) (e : E) (P : E → Type 0) → IsErrAnd result (λ y. y ≡ e) → P e → IfErr result P
@@ -110,17 +102,7 @@ reopened bytes stores.Backwards told none other unfinished openable = absurd tol
 pub ends_as : (refusal : Refusal) (members others at : ℕ) → members ≡ others → EndsAtReturn members at refusal → EndsAtReturn others at refusal
 ends_as refusal members others at same ends = subst (λ n. EndsAtReturn n at refusal) same ends
 
--- a new disk refuses nothing, and nor does one that can't fail any more
-pub of_memory : (refusal : store.Refusal) → IsOfFormatting refusal → IsNotOfDevice refusal → IsOfMemory (Store refusal)
-of_memory stores.Memory told calm = tt
-of_memory (stores.Device error) told calm = calm
-of_memory stores.Full told calm = absurd told
-of_memory stores.Broken told calm = absurd told
-of_memory stores.NotAVolume told calm = absurd told
-of_memory stores.OtherVersion told calm = absurd told
-of_memory stores.Unfinished told calm = absurd told
-of_memory stores.Backwards told calm = absurd told
-
+-- a disk that can't fail any more refuses nothing
 pub reopening_of_memory : (refusal : store.Refusal) → IsOfReopening refusal → IsNotOfDevice refusal → IsOfMemory (Store refusal)
 reopening_of_memory stores.Memory told calm = tt
 reopening_of_memory (stores.Device error) told calm = calm
@@ -133,17 +115,20 @@ reopening_of_memory stores.Backwards told calm = absurd told
 
 module _ {S : Type 0} (premise : Type 0) (about : S → About) (keeps : S → List ℕ → Type 0) (is_pending : S → ℕ → Type 0) (may_leave_now : S → List ℕ → Type 0) (moment : S → ℕ)
     (left_since : S → ℕ → List ℕ → Type 0) (failures : S → ℕ) (disk : S → MemDisk) where
-  returns_nobody : (eras : List Era) (answers : List Answers) (first w : Seen S) (members : ℕ) (era : Era) (rest : List Era)
-      → ErasLead premise about keeps is_pending may_leave_now moment left_since failures disk eras answers first w → length first.chain.members ≡ members → length w.chain.members ≤ era.returned
+  returns_nobody : (eras : List Era) (answers : List Answers) (stops : List (List Cause)) (first w : Seen S) (members : ℕ) (era : Era) (rest : List Era)
+      → ErasLead premise about keeps is_pending may_leave_now moment left_since failures disk eras answers stops first w → length first.chain.members ≡ members → length w.chain.members ≤ era.returned
       → ReturnsNobody members (eras ++ era ∷ rest)
-  returns_nobody [] [] first w members era rest leads many beyond = inl (omega (arith, beyond, many, ap (λ (x : Seen S). length x.chain.members) leads))
-  returns_nobody [] (a ∷ answers) first w members era rest leads many beyond = absurd leads
-  returns_nobody (e ∷ eras) [] first w members era rest leads many beyond = absurd leads
-  returns_nobody (e ∷ eras) (a ∷ answers) first w members era rest (next, (end, lead, goes), later) many beyond = inr (returns_nobody eras answers next w 1 era rest later goes.alone beyond)
+  returns_nobody [] [] [] first w members era rest leads many beyond = inl (omega (arith, beyond, many, ap (λ (x : Seen S). length x.chain.members) leads))
+  returns_nobody [] [] (c ∷ stops) first w members era rest leads many beyond = absurd leads
+  returns_nobody [] (a ∷ answers) stops first w members era rest leads many beyond = absurd leads
+  returns_nobody (e ∷ eras) [] stops first w members era rest leads many beyond = absurd leads
+  returns_nobody (e ∷ eras) (a ∷ answers) [] first w members era rest leads many beyond = absurd leads
+  returns_nobody (e ∷ eras) (a ∷ answers) (c ∷ stops) first w members era rest (next, (end, lead, causes, goes), later) many beyond =
+      inr (returns_nobody eras answers stops next w 1 era rest later goes.alone beyond)
 
   -- an era breaks off the life
-  pub breaks_off : (refusal : Refusal) (eras : List Era) (answers : List Answers) (first w : Seen S) (members : ℕ) (era : Era) (rest : List Era)
-      → ErasLead premise about keeps is_pending may_leave_now moment left_since failures disk eras answers first w → length first.chain.members ≡ members
+  pub breaks_off : (refusal : Refusal) (eras : List Era) (answers : List Answers) (stops : List (List Cause)) (first w : Seen S) (members : ℕ) (era : Era) (rest : List Era)
+      → ErasLead premise about keeps is_pending may_leave_now moment left_since failures disk eras answers stops first w → length first.chain.members ≡ members
       → EndsAtReturn (length w.chain.members) era.returned refusal → BreaksOff members (eras ++ era ∷ rest) refusal
-  breaks_off refusal eras answers first w members era rest leads many (inl memory) = inl memory
-  breaks_off refusal eras answers first w members era rest leads many (inr (none, beyond)) = inr (none, returns_nobody eras answers first w members era rest leads many beyond)
+  breaks_off refusal eras answers stops first w members era rest leads many (inl memory) = inl memory
+  breaks_off refusal eras answers stops first w members era rest leads many (inr (none, beyond)) = inr (none, returns_nobody eras answers stops first w members era rest leads many beyond)

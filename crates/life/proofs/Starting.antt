@@ -8,6 +8,7 @@ use Rattle.std.proofs.lemmas.List.FromFn.{get_or-map-range_with_len, length-map-
 use Rattle.chain.specs.Chain.{Chained}
 use Rattle.chain.specs.Chain as chain
 use Rattle.chain.specs.LoneBoard.{Words}
+use Rattle.chain_steps.specs.declared.cause.Cause.{Cause}
 use Rattle.chain.specs.Opening.{AreEven, beginning_of, recorded_in, words_of}
 use Rattle.clients.specs.Clients.{Sessions}
 use Rattle.configurations.specs.Record.{AreMembers, Record}
@@ -172,7 +173,7 @@ disk_in s = s.disk
 abbrev pub LeadOnDisks : List Deed → List Answer → Seen IsStore → Seen IsStore → Type 0
 LeadOnDisks = DeedsLead (Unit {0}) about_of_store keeps_volume pends_in leaves_now moment_in left_in failures_in disk_in
 
-abbrev pub PlayedOnDisks : Geometry → ℕ → List Era → List Answers → Seen IsStore → Type 0
+abbrev pub PlayedOnDisks : Geometry → ℕ → List Era → List Answers → List (List Cause) → Seen IsStore → Type 0
 PlayedOnDisks = IsPlayed (Unit {0}) about_of_store keeps_volume pends_in leaves_now moment_in left_in failures_in disk_in
 
 pub first_begins : (geometry : Geometry) (n : ℕ) (stores : List IsStore) (w : Seen IsStore) → map about_of_store stores ≡ map (first_about geometry) (range_with_len 0 n) → 0 < n → All (keeps_zeros geometry) stores

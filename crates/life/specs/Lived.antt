@@ -2,13 +2,14 @@
 use Rattle.std.specs.Prelude.{◌≡◌, ℕ, List, []}
 use Rattle.std.specs.List.{AllZip}
 use Rattle.local_store.specs.About.{About}
+use Rattle.chain_steps.specs.declared.cause.Cause.{Cause}
 use Rattle.nbd_session.specs.declared.answer.Export.{Export}
 use Rattle.world_model.specs.Chain.{StandsFor, View}
 use Rattle.world_model.specs.Event.{ClientEvent}
 use Rattle.world_model.specs.Machine.{May, Move, Restart, RunsOn, State, after, shown, start}
 use Rattle.world.specs.World.{Seen, Shows}
 use Rattle.life.specs.Begun.{AllRun}
-use Rattle.life.specs.Headline.{IsLawfulEra, RestartsBetween, Trace}
+use Rattle.life.specs.Headline.{AreRefusedSo, IsLawfulEra, RestartsBetween, Trace}
 
 -- The world stands for this state of the machine, has no clients, and all its members run.
 pub record IsFresh {S : Type 0} (about : S → About) (keeps : S → List ℕ → Type 0) (may_leave_now : S → List ℕ → Type 0) (size : ℕ) (export : Export) (w : Seen S) (s : State) : Type 0 where
@@ -19,10 +20,12 @@ pub record IsFresh {S : Type 0} (about : S → About) (keeps : S → List ℕ �
   pub has : w.sessions.export ≡ export
   pub runs : AllRun w
 
--- an era was lawful, one run of the machine without a restart shows it, and then the machine restarts
-pub record Continued {S : Type 0} (about : S → About) (keeps : S → List ℕ → Type 0) (may_leave_now : S → List ℕ → Type 0) (size : ℕ) (export : Export) (told : Trace) (s : State) (new : Seen S) : Type 0 where
+-- an era was lawful, at whose end members had stopped for these causes; one run of the machine without a restart shows it, and then the machine
+-- restarts
+pub record Continued {S : Type 0} (about : S → About) (keeps : S → List ℕ → Type 0) (may_leave_now : S → List ℕ → Type 0) (size : ℕ) (export : Export) (told : Trace) (stops : List Cause) (s : State) (new : Seen S) : Type 0 where
   pub events : List ClientEvent
   pub lawful : IsLawfulEra export told events
+  pub refused : AreRefusedSo stops events
   pub moves : List Move
   pub end : State
   pub front : ℕ
@@ -32,14 +35,15 @@ pub record Continued {S : Type 0} (about : S → About) (keeps : S → List ℕ 
   pub fresh : IsFresh about keeps may_leave_now size export new (after end (Restart front))
 
 -- whatever the world stood for, it went on so
-abbrev pub Continues : {S : Type 0} → (S → About) → (S → List ℕ → Type 0) → (S → List ℕ → Type 0) → Trace → Seen S → Seen S → Type 0
-Continues about keeps may_leave_now told old new =
-    (export : Export) (s : State) → IsFresh about keeps may_leave_now export.size export old s → Continued about keeps may_leave_now export.size export told s new
+abbrev pub Continues : {S : Type 0} → (S → About) → (S → List ℕ → Type 0) → (S → List ℕ → Type 0) → Trace → List Cause → Seen S → Seen S → Type 0
+Continues about keeps may_leave_now told stops old new =
+    (export : Export) (s : State) → IsFresh about keeps may_leave_now export.size export old s → Continued about keeps may_leave_now export.size export told stops s new
 
 -- these eras were, and the world goes on
-pub record Lives {S : Type 0} (about : S → About) (keeps : S → List ℕ → Type 0) (may_leave_now : S → List ℕ → Type 0) (size : ℕ) (export : Export) (eras : List Trace) (w : Seen S) : Type 0 where
+pub record Lives {S : Type 0} (about : S → About) (keeps : S → List ℕ → Type 0) (may_leave_now : S → List ℕ → Type 0) (size : ℕ) (export : Export) (eras : List Trace) (stops : List (List Cause)) (w : Seen S) : Type 0 where
   pub events : List (List ClientEvent)
   pub lawful : AllZip (IsLawfulEra export) eras events
+  pub refused : AllZip AreRefusedSo stops events
   pub end : State
   pub runs : RestartsBetween size start events end
   pub fresh : IsFresh about keeps may_leave_now size export w end

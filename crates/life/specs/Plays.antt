@@ -1,7 +1,9 @@
 -- How a life is played: each deed does what it names, one after another, and era by era the chain goes on from one disk.
 use Rattle.std.specs.Prelude.{◌≡◌, ℕ, ◌*◌, Some, List, [], ◌∷◌, length, slice_get}
-use Rattle.std.specs.List.{AllZip}
+use Rattle.std.specs.List.{AllZip, flat_map}
+use Rattle.std.specs.Option.{option_to_list}
 use Rattle.chain.specs.Member.{Linked}
+use Rattle.chain_steps.specs.declared.cause.Cause.{Cause}
 use Rattle.chain_steps.specs.declared.cause.Cause.TheVariants.{Device}
 use Rattle.disk_model.specs.Memory.{given_of}
 use Rattle.disk_model.specs.declared.error.DiskError.TheVariants.{Stopped}
@@ -17,6 +19,10 @@ use Rattle.life.specs.declared.answer.Answer.{Answer}
 use Rattle.life.specs.declared.era.Answers.{Answers}
 use Rattle.life.specs.declared.era.Deed.{Deed}
 use Rattle.life.specs.declared.era.Era.{Era}
+
+-- why members of the world have stopped, from the head on
+abbrev pub stops_of : {S : Type 0} → Seen S → List Cause
+stops_of w = flat_map (λ m. option_to_list m.node.state.stopped) w.chain.members
 
 -- a device call met its stop: the member whose disk it was has stopped for that
 pub record HasMetStop {S : Type 0} (w : Seen S) : Type 0 where
@@ -48,20 +54,22 @@ module _ {S : Type 0} (premise : Type 0) (about : S → About) (keeps : S → Li
     pub alone : length new.chain.members ≡ 1
     pub begins : BeginsWith about keeps may_leave_now meaning.geometry meaning.front meaning.volume new
 
-  -- an era was played, and the chain went on
-  abbrev pub EraLeads : Era → List Answer → Seen S → Seen S → Type 0
-  EraLeads era answers old new = (end : Seen S) × DeedsLead era.deeds.items answers old end × GoesOnFrom era.returned end new
+  -- an era was played, then members had stopped for these causes, and the chain went on
+  abbrev pub EraLeads : Era → List Answer → List Cause → Seen S → Seen S → Type 0
+  EraLeads era answers stops old new = (end : Seen S) × DeedsLead era.deeds.items answers old end × (stops ≡ stops_of end) × GoesOnFrom era.returned end new
 
   -- these eras lead from the one world to the other
-  abbrev pub ErasLead : List Era → List Answers → Seen S → Seen S → Type 0
-  ErasLead [] [] old new = new ≡ old
-  ErasLead [] (these ∷ answers) old new = ⊥
-  ErasLead (era ∷ eras) [] old new = ⊥
-  ErasLead (era ∷ eras) (these ∷ answers) old new = (next : Seen S) × EraLeads era these.items.items old next × ErasLead eras answers next new
+  abbrev pub ErasLead : List Era → List Answers → List (List Cause) → Seen S → Seen S → Type 0
+  ErasLead [] [] [] old new = new ≡ old
+  ErasLead [] [] (these ∷ stops) old new = ⊥
+  ErasLead [] (these ∷ answers) stops old new = ⊥
+  ErasLead (era ∷ eras) [] stops old new = ⊥
+  ErasLead (era ∷ eras) (these ∷ answers) [] old new = ⊥
+  ErasLead (era ∷ eras) (these ∷ answers) (causes ∷ stops) old new = (next : Seen S) × EraLeads era these.items.items causes old next × ErasLead eras answers stops next new
 
   -- A life was played: it began with so many members and a volume of zeros.
-  pub record IsPlayed (geometry : Geometry) (members : ℕ) (eras : List Era) (answers : List Answers) (end : Seen S) : Type 0 where
+  pub record IsPlayed (geometry : Geometry) (members : ℕ) (eras : List Era) (answers : List Answers) (stops : List (List Cause)) (end : Seen S) : Type 0 where
     pub first : Seen S
     pub many : length first.chain.members ≡ members
     pub begins : BeginsWith about keeps may_leave_now geometry 0 (volume_of (4096 * geometry.blocks) []) first
-    pub plays : ErasLead eras answers first end
+    pub plays : ErasLead eras answers stops first end

@@ -1,5 +1,6 @@
 //! Whole lives.
 ghost use Rattle.std.specs.Prelude.{◌≡◌, ◌*◌, ◌<◌, ◌≤◌, ◌↔◌, ◌++◌, ℕ, IfErr, IfOk, IfSome, IsTrue, List, Some, length, slice_get, zip};
+ghost use Rattle.chain_steps.specs.declared.cause.Cause.{Cause as Stopping};
 ghost use Rattle.clients.specs.Clients.{no_one};
 ghost use Rattle.disk_model.specs.Disk.{Only};
 ghost use Rattle.disk_model.specs.Memory.{given_of, may_be_left};
@@ -33,7 +34,7 @@ use local_store::{Store, StoreLike, disks_mean_one};
 use std::alloc::{AllocError, Global};
 use volume::Geometry;
 use world::{Told, World};
-use world_model::{chains_begin_again, lives_are_of_one_volume};
+use world_model::{chains_begin_again, lives_are_of_one_volume, refusals_have_pleas};
 
 /// The number of the refusal where memory runs out.
 const MEMORY: u16 = 100;
@@ -50,18 +51,17 @@ pub struct Lived {
 /// deeds are played, one after another, until a device call meets its stop; then everything stops, and the chain goes on from one
 /// member's disk. The deed in which a stop was met has no answer any more, and no deed behind it is played.
 ///
-/// What was armed and wasn't met before a cut counts the calls of the recovery behind it. A recovery in which the device fails or stops
-/// is done again: after another cut, with nothing armed any more.
+/// What was armed and wasn't met before a cut counts the calls of the recovery behind it; and a recovery in which the device fails or
+/// stops is done again, after another cut, with nothing armed any more. No clause tells this: they say from which disk a life goes on.
 ///
 /// 192 `NotInChain` where an era returns a place that is none; and 100 `Memory`.
 pub fn live(alloc: Global, geometry: Geometry, members: u8, eras: &[Era]) -> Result<Lived, Refusal>
     requires some { 0 < members }
     requires few { members ≤ 8 }
     ensures all { IfOk result (λ lived. AllZip (λ era answers. length answers.items.items ≤ length era.deeds.items) eras.now lived.answers.items) }
-    ensures plays { IfOk result (λ lived. IsPlayed ⟦<Store<MemDisk> as StoreLike>⟧.keeps_model ⟦<Store<MemDisk> as StoreLike>⟧.about ⟦<Store<MemDisk> as StoreLike>⟧.keeps ⟦<Store<MemDisk> as StoreLike>⟧.is_pending ⟦<Store<MemDisk> as StoreLike>⟧.may_leave_now
-        ⟦<Store<MemDisk> as StoreLike>⟧.moment ⟦<Store<MemDisk> as StoreLike>⟧.may_have_left_since ⟦<Store<MemDisk> as StoreLike>⟧.failures (λ s. s.disk)
-        geometry members eras.now lived.answers.items lived.world) }
     ensures one_life { IfOk result (λ lived. IsOneLife (4096 * geometry.blocks) (export_of geometry) (told_in eras.now lived.answers.items)
+        (λ stops. IsPlayed ⟦<Store<MemDisk> as StoreLike>⟧.keeps_model ⟦<Store<MemDisk> as StoreLike>⟧.about ⟦<Store<MemDisk> as StoreLike>⟧.keeps ⟦<Store<MemDisk> as StoreLike>⟧.is_pending ⟦<Store<MemDisk> as StoreLike>⟧.may_leave_now ⟦<Store<MemDisk> as StoreLike>⟧.moment ⟦<Store<MemDisk> as StoreLike>⟧.may_have_left_since ⟦<Store<MemDisk> as StoreLike>⟧.failures (λ s. s.disk)
+        geometry members eras.now lived.answers.items stops lived.world)
         (λ end. (v : View) × Shows ⟦<Store<MemDisk> as StoreLike>⟧.about ⟦<Store<MemDisk> as StoreLike>⟧.keeps ⟦<Store<MemDisk> as StoreLike>⟧.may_leave_now lived.world v × StandsFor (4096 * geometry.blocks) v end)) }
     ensures refused { IfErr result (BreaksOff members eras.now) }
 {
@@ -86,16 +86,15 @@ fn live_era(
     requires disks { AreOnDisks ⟦<Store<MemDisk> as StoreLike>⟧.about world }
     ensures disks { IfOk result (λ lived. AreOnDisks ⟦<Store<MemDisk> as StoreLike>⟧.about lived.1) }
     ensures all { IfOk result (λ lived. length lived.0.items ≤ length era.now.deeds.items) }
-    ensures plays { IfOk result (λ lived. EraLeads ⟦<Store<MemDisk> as StoreLike>⟧.keeps_model ⟦<Store<MemDisk> as StoreLike>⟧.about ⟦<Store<MemDisk> as StoreLike>⟧.keeps ⟦<Store<MemDisk> as StoreLike>⟧.is_pending ⟦<Store<MemDisk> as StoreLike>⟧.may_leave_now
-        ⟦<Store<MemDisk> as StoreLike>⟧.moment ⟦<Store<MemDisk> as StoreLike>⟧.may_have_left_since ⟦<Store<MemDisk> as StoreLike>⟧.failures (λ s. s.disk)
-        era.now lived.0.items world lived.1) }
-    ensures continues { IfOk result (λ lived. Continues ⟦<Store<MemDisk> as StoreLike>⟧.about ⟦<Store<MemDisk> as StoreLike>⟧.keeps ⟦<Store<MemDisk> as StoreLike>⟧.may_leave_now
-        (zip era.now.deeds.items lived.0.items) world lived.1) }
+    ensures lived { IfOk result (λ lived. (stops : List Stopping) × EraLeads ⟦<Store<MemDisk> as StoreLike>⟧.keeps_model ⟦<Store<MemDisk> as StoreLike>⟧.about ⟦<Store<MemDisk> as StoreLike>⟧.keeps ⟦<Store<MemDisk> as StoreLike>⟧.is_pending ⟦<Store<MemDisk> as StoreLike>⟧.may_leave_now ⟦<Store<MemDisk> as StoreLike>⟧.moment ⟦<Store<MemDisk> as StoreLike>⟧.may_have_left_since ⟦<Store<MemDisk> as StoreLike>⟧.failures (λ s. s.disk)
+        era.now lived.0.items stops world lived.1
+        × Continues ⟦<Store<MemDisk> as StoreLike>⟧.about ⟦<Store<MemDisk> as StoreLike>⟧.keeps ⟦<Store<MemDisk> as StoreLike>⟧.may_leave_now (zip era.now.deeds.items lived.0.items) stops world lived.1) }
     ensures refused { IfErr result (EndsAtReturn (length world.chain.members) era.now.returned) }
 {
     disks_mean_one();
     chains_begin_again();
     lives_are_of_one_volume();
+    refusals_have_pleas();
     sessions_are_lawful();
     let mut world = world;
     world.sound();
@@ -204,7 +203,8 @@ fn go_on(
     go_on_from(alloc, disks.swap_remove(at), cut)
 }
 
-/// The chain goes on from a member's disk, on which nothing else may be left than what it gives.
+/// The chain goes on from a member's disk, on which nothing else may be left than what it gives. A recovery in which the device fails or
+/// stops is done again, after another cut, with nothing armed any more.
 fn go_on_from(alloc: Global, disk: MemDisk, cut: Cut) -> Result<World<Store<MemDisk>>, Refusal>
     requires member { IsOfMember disk }
     requires only { Only (given_of disk) (may_be_left disk) }
@@ -215,36 +215,19 @@ fn go_on_from(alloc: Global, disk: MemDisk, cut: Cut) -> Result<World<Store<MemD
         meaning.geometry meaning.front meaning.volume world) }
     ensures refused { IfErr result IsOfMemory }
 {
-    match recover(alloc, disk) {
+    let Refused { refusal, disk } = match recover(alloc, disk) {
+        Ok(world) => return Ok(world),
+        Err(refused) => refused,
+    };
+    let Some(mut back) = disk else {
+        return Err(refusal);
+    };
+    back.cut(cut);
+    back.disarm();
+    match recover(alloc, back) {
         Ok(world) => Ok(world),
-        Err(refused) => {
-            let Refused { refusal, disk } = refused;
-            match disk {
-                Some(back) => recover_again(alloc, back, cut),
-                None => Err(refusal),
-            }
-        }
-    }
-}
-
-/// A recovery is done again, after a cut, with nothing armed any more.
-fn recover_again(alloc: Global, disk: MemDisk, cut: Cut) -> Result<World<Store<MemDisk>>, Refusal>
-    requires member { IsOfMember disk }
-    requires only { Only (given_of disk) (may_be_left disk) }
-    ensures alone { IfOk result (λ world. length world.chain.members ≡ 1) }
-    ensures disks { IfOk result (λ world. AreOnDisks ⟦<Store<MemDisk> as StoreLike>⟧.about world) }
-    ensures goes_on { IfOk result (λ world. (meaning : Meaning) × Means meaning (given_of disk)
-        × BeginsWith ⟦<Store<MemDisk> as StoreLike>⟧.about ⟦<Store<MemDisk> as StoreLike>⟧.keeps ⟦<Store<MemDisk> as StoreLike>⟧.may_leave_now
-        meaning.geometry meaning.front meaning.volume world) }
-    ensures refused { IfErr result IsOfMemory }
-{
-    let mut disk = disk;
-    disk.cut(cut);
-    disk.disarm();
-    match recover(alloc, disk) {
-        Ok(world) => Ok(world),
-        Err(refused) => {
-            let Refused { refusal, disk } = refused;
+        Err(again) => {
+            let Refused { refusal, disk } = again;
             drop(disk);
             Err(refusal)
         }

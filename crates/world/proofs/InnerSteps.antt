@@ -16,7 +16,7 @@ use Rattle.clients.specs.Clients.{held_of, no_one}
 use Rattle.clients.specs.declared.output.Output.{Output}
 use Rattle.world.specs.Telling.{AreTold, handed_by}
 use Rattle.world.specs.World.{AreTakenUp, Goes, HappensSo, IsJoined, IsOfOneVolume, Seen, sent_in}
-use Rattle.world.proofs.Accounts.{taken_up_still}
+use Rattle.world.proofs.Sending.{taken_up_still}
 use Rattle.world.proofs.Going.{goes_as}
 use Rattle.world.proofs.GoingOn.{remain_at}
 use Rattle.world.proofs.TellingSteps.{told_go_on, told_places, told_put_out}

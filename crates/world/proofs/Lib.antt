@@ -1,4 +1,3 @@
-pub mod Accounts
 mod AlikeSteps
 mod BeginningSteps
 mod CallSteps
@@ -9,6 +8,7 @@ mod InnerSteps
 mod JoinedSteps
 mod ReceptionSteps
 mod Results
+pub mod Sending
 mod StoppingSteps
 mod TakenSteps
 mod TakingSteps

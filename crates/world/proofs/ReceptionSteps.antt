@@ -25,7 +25,7 @@ use Rattle.clients.specs.Clients.{Client, GoOn, Sessions, held_of, held_under, n
 use Rattle.clients.proofs.Places.{place_before, place_came, same_id}
 use Rattle.world.specs.Reception.{IsFed}
 use Rattle.world.specs.World.{AreTakenUp, AskWhatWasSent, Goes, IsOfOneVolume, Remain, Seen, Shows, sent_in}
-use Rattle.world.proofs.Accounts.{none_asked, none_at, taken_up_begun, taken_up_set, taken_up_still}
+use Rattle.world.proofs.Sending.{none_asked, none_at, taken_up_begun, taken_up_set, taken_up_still}
 use Rattle.world.proofs.Going.{goes_by, goes_nowhere, goes_on, goes_same}
 use Rattle.world.proofs.GoingOn.{go_on_still, remain_at}
 use Rattle.world.proofs.TakingSteps.{WaitsAt, demands_then, shows_demands, waits_at, with_demands}

@@ -13,7 +13,7 @@ use Rattle.nbd_session.specs.declared.demand.Demand.TheVariants as demands
 use Rattle.chain_core.specs.declared.refusal.Refusal.{Refusal}
 use Rattle.world_model.specs.Counting.{all_behind}
 use Rattle.world_model.specs.Event.{ClientEvent}
-use Rattle.chain.specs.Asking.{TakesOfOneVolume}
+use Rattle.chain.specs.Asking.{HasPleaAt, TakesOfOneVolume}
 use Rattle.chain.specs.Chain.{Chained, bytes_of}
 use Rattle.chain.specs.Chain as chain
 use Rattle.chain.proofs.Cells.{place_of}
@@ -62,7 +62,7 @@ module _ {S : Type 0} (premise : Type 0) (about : S → About) (failures : S →
   Took = HasTaken premise about keeps moment left_since at demand replies before after
 
   abbrev Refused : GivenReply → Type 0
-  Refused reply = (refusal : Refusal) × (HasRefused premise about failures keeps moment left_since at demand replies refusal before after × (reply ≡ refusing (owed_by demand) refusal))
+  Refused reply = (refusal : Refusal) × (HasRefused premise about failures keeps moment left_since at demand replies refusal before after × HasPleaAt at after refusal × (reply ≡ refusing (owed_by demand) refusal))
 
   pub alike_either : (refused : Option GivenReply) → IfNone refused Took → IfSome refused Refused → IsAlike before after
   alike_either None took why = alike_took premise about keeps moment left_since at demand replies before after took
@@ -70,19 +70,19 @@ module _ {S : Type 0} (premise : Type 0) (about : S → About) (failures : S →
 
   pub either_did : (refused : Option GivenReply) → IfNone refused Took → IfSome refused Refused
       → HasTaken premise about keeps moment left_since at demand (replies ++ option_to_list refused) before after
-      ⊎ ((others : List GivenReply) × (refusal : Refusal) × HasRefused premise about failures keeps moment left_since at demand others refusal before after × (replies ++ option_to_list refused ≡ others ++ refusing (owed_by demand) refusal ∷ []))
+      ⊎ ((others : List GivenReply) × (refusal : Refusal) × HasRefused premise about failures keeps moment left_since at demand others refusal before after × HasPleaAt at after refusal × (replies ++ option_to_list refused ≡ others ++ refusing (owed_by demand) refusal ∷ []))
   either_did None took why = inl (subst (λ rs. HasTaken premise about keeps moment left_since at demand rs before after) (sym (append-nil replies)) took)
-  either_did (Some reply) took why = inr (replies, why.0, why.1.0, ap (λ r. replies ++ r ∷ []) why.1.1)
+  either_did (Some reply) took why = inr (replies, why.0, why.1.0, why.1.1, ap (λ r. replies ++ r ∷ []) why.1.2)
 
 module _ {S : Type 0} (about : S → About) (keeps : S → List ℕ → Type 0) (may_leave_now : S → List ℕ → Type 0) (old new : Seen S) (at : ℕ) (demand : Demand) (rest : List Demand)
     (here : slice_get old.queues at ≡ Some (demand ∷ rest)) (queues : new.queues ≡ slice_set old.queues at rest) (room lost : Bool) (replies : List GivenReply) (outputs : List Output) (events : List ClientEvent) where
   pub either_so : (Did : Refusal → Type 0) (refused : Option GivenReply) → IfNone refused (TakesOfOneVolume about keeps may_leave_now at (held_of demand) old.chain new.chain replies)
-      → IfSome refused (λ reply. chain.IsOfOneVolume about keeps may_leave_now old.chain new.chain replies) → IfSome refused (λ reply. (refusal : Refusal) × (Did refusal × (reply ≡ refusing (owed_by demand) refusal)))
+      → IfSome refused (λ reply. chain.IsOfOneVolume about keeps may_leave_now old.chain new.chain replies) → IfSome refused (λ reply. (refusal : Refusal) × (Did refusal × HasPleaAt at new.chain refusal × (reply ≡ refusing (owed_by demand) refusal)))
       → AreTold room lost (replies ++ option_to_list refused) old.sessions new.sessions outputs events → IsOfOneVolume about keeps may_leave_now no_one (handed_by outputs) old new
   either_so Did None takes lead why told = taken_so about keeps may_leave_now old new at demand rest here queues room lost replies outputs events takes
       (subst (λ rs. AreTold room lost rs old.sessions new.sessions outputs events) (append-nil replies) told)
-  either_so Did (Some reply) takes lead why told = refused_so about keeps may_leave_now old new at demand rest here queues room lost replies why.0 outputs events lead
-      (subst (λ r. AreTold room lost (replies ++ r ∷ []) old.sessions new.sessions outputs events) why.1.1 told)
+  either_so Did (Some reply) takes lead why told = refused_so about keeps may_leave_now old new at demand rest here queues room lost replies why.0 why.1.1 outputs events lead
+      (subst (λ r. AreTold room lost (replies ++ r ∷ []) old.sessions new.sessions outputs events) why.1.2 told)
 
 -- ---- the world goes together still
 

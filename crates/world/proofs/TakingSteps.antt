@@ -1,5 +1,5 @@
 -- What it is that a member takes the first demand of its sessions, or refuses it.
-use Rattle.std.proofs.Common.{◌≡◌, ℕ, zero, suc, Bool, List, [], ◌∷◌, ◌++◌, refl, ap, sym, subst, ◌∙◌, inl, inr}
+use Rattle.std.proofs.Common.{◌≡◌, ℕ, zero, suc, Bool, true, List, [], ◌∷◌, ◌++◌, refl, ap, sym, subst, ◌∙◌, inl, inr}
 use Rattle.std.specs.Prelude.{IfSome, None, Some, map, slice_get, slice_set}
 use Rattle.std.specs.List.{AllZip}
 use Rattle.std.proofs.lemmas.List.{map-set}
@@ -9,16 +9,18 @@ use Rattle.nbd_session.specs.Demand.{owed_by}
 use Rattle.nbd_session.specs.declared.demand.Demand.{Demand}
 use Rattle.nbd_session.specs.declared.demand.Demand.TheVariants as demands
 use Rattle.chain_core.specs.declared.refusal.Refusal.{Refusal}
+use Rattle.chain_core.specs.declared.refusal.Refusal.TheVariants as refusals
+use Rattle.chain_steps.specs.Node.{NodeState, is_stopped}
 use Rattle.world_model.specs.Chain.{ArePutOut, Member, View, reply_event}
 use Rattle.world_model.specs.ChainLaws.{with_members}
 use Rattle.world_model.specs.Event.{ClientEvent}
-use Rattle.world_model.specs.Life.{Drop, IsTaken, MemberTakes, OneBecomes, Refuse}
+use Rattle.world_model.specs.Life.{Drop, IsTaken, MayRefuse, MemberTakes, OneBecomes, Refuse}
 use Rattle.world_model.specs.Requests.{Held}
-use Rattle.chain.specs.Asking.{TakesOfOneVolume}
+use Rattle.chain.specs.Asking.{HasPleaAt, TakesOfOneVolume}
 use Rattle.chain.specs.Chain.{Chained, bytes_of}
 use Rattle.chain.specs.Chain as chain
 use Rattle.chain.specs.Member.{IsShown}
-use Rattle.chain.proofs.Cells.{place_of}
+use Rattle.chain.proofs.Cells.{place_of, zip_at}
 use Rattle.chain.proofs.Keeping.{goes_keeps}
 use Rattle.clients.specs.Clients.{held_of, no_one}
 use Rattle.clients.specs.declared.output.Output.{Output}
@@ -106,10 +108,25 @@ held_cookie (demands.Write token write) = refl
 held_cookie (demands.Fua token write) = refl
 held_cookie (demands.Flush token) = refl
 
+-- the member at the place, which is shown so, may refuse with that error
+may_refuse : {S : Type 0} (about : S → About) (keeps : S → List ℕ → Type 0) (may_leave_now : S → List ℕ → Type 0) (c : Chained S) (v : View) (at : ℕ) (m : Member) (refusal : Refusal) → chain.Shows about keeps may_leave_now c v
+    → slice_get v.members at ≡ Some m → HasPleaAt at c refusal → MayRefuse (code_of refusal) m.node
+may_refuse about keeps may_leave_now c v at m refusals.Memory shows here plea = tt
+may_refuse about keeps may_leave_now c v at m refusals.Stopped shows here plea =
+    let (own, there, so) = zip_at (IsShown about keeps may_leave_now (bytes_of c)) c.members v.members at plea.member shows.members plea.here in
+    let both : Some own ≡ Some m = sym there ∙ here in
+    let same : own ≡ m = cc both in
+    let node : m.node ≡ plea.member.node.state = ap (λ (x : Member). x.node) (sym same) ∙ ap (λ (x : Member). x.node) so.is in
+    subst (λ (n : NodeState). is_stopped n ≡ true) (sym node) plea.stopped
+may_refuse about keeps may_leave_now c v at m refusals.Full shows here plea = absurd plea
+may_refuse about keeps may_leave_now c v at m refusals.NotMember shows here plea = absurd plea
+may_refuse about keeps may_leave_now c v at m refusals.Early shows here plea = absurd plea
+may_refuse about keeps may_leave_now c v at m refusals.Busy shows here plea = absurd plea
+
 -- the member takes the demand, and its client is told that it was refused, or nothing where no session puts that out
-refuses : (size : ℕ) (v : View) (at : ℕ) (d : Demand) (rest : List Held) (refusal : Refusal) (m : Member) (events : List ClientEvent)
+refuses : (size : ℕ) (v : View) (at : ℕ) (d : Demand) (rest : List Held) (refusal : Refusal) (m : Member) (events : List ClientEvent) → MayRefuse (code_of refusal) m.node
     → slice_get v.members at ≡ Some m → m.demands ≡ held_of d ∷ rest → ArePutOut (refusing (owed_by d) refusal ∷ []) events → Goes size v (with_demands v at m rest) events
-refuses size v at d rest refusal m events here waits out = elim out [
+refuses size v at d rest refusal m events may here waits out = elim out [
   | inl none ↦ goes_by (MemberTakes Drop) v (with_demands v at m rest) events
       (becomes_with v at m rest (IsTaken size Drop events) here (record { demand = held_of d; rest = rest; first = waits; takes = (refl, none) }))
   | inr (more, is, last) ↦ goes_by (MemberTakes (Refuse (code_of refusal))) v (with_demands v at m rest) events
@@ -117,7 +134,7 @@ refuses size v at d rest refusal m events here waits out = elim out [
         demand = held_of d;
         rest = rest;
         first = waits;
-        takes = (refl, is ∙ ap (λ l. reply_event (refusing (owed_by d) refusal) ∷ l) last ∙ rw (held_session d, held_cookie d) refl);
+        takes = (may, refl, is ∙ ap (λ l. reply_event (refusing (owed_by d) refusal) ∷ l) last ∙ rw (held_session d, held_cookie d) refl);
       }))
 ]
 
@@ -137,9 +154,9 @@ module _ {S : Type 0} (about : S → About) (keeps : S → List ℕ → Type 0) 
       tells_so about keeps may_leave_now old new room lost replies outputs events v did.0 told did.1
       (did.2.demands ∙ ap (λ l. slice_set l at (map held_of rest)) shows.demands ∙ queues_then) did.2.kept shows.kept (goes_taking v did.0 events did.2)
 
-  pub refused_so : (room lost : Bool) (others : List GivenReply) (refusal : Refusal) (outputs : List Output) (events : List ClientEvent) → chain.IsOfOneVolume about keeps may_leave_now old.chain new.chain others
+  pub refused_so : (room lost : Bool) (others : List GivenReply) (refusal : Refusal) → HasPleaAt at new.chain refusal → (outputs : List Output) (events : List ClientEvent) → chain.IsOfOneVolume about keeps may_leave_now old.chain new.chain others
       → AreTold room lost (others ++ refusing (owed_by demand) refusal ∷ []) old.sessions new.sessions outputs events → IsOfOneVolume about keeps may_leave_now no_one (handed_by outputs) old new
-  refused_so room lost others refusal outputs events lead told v s shows stands =
+  refused_so room lost others refusal plea outputs events lead told v s shows stands =
       let out = put_out_split others (refusing (owed_by demand) refusal ∷ []) events (told_put_out room lost (others ++ refusing (owed_by demand) refusal ∷ []) old.sessions new.sessions outputs events told) in
       let did = lead v s out.0 shows.chain stands out.2 in
       let stays = goes_keeps v did.0 out.0 did.2 in
@@ -149,4 +166,5 @@ module _ {S : Type 0} (about : S → About) (keeps : S → List ℕ → Type 0) 
       (shows_demands about keeps may_leave_now new.chain did.0 at waits.member (map held_of rest) waits.here did.1)
       (demands_then did.0 at waits.member (map held_of rest) ∙ ap (λ l. slice_set l at (map held_of rest)) (stays.1 ∙ shows.demands) ∙ queues_then)
       stays.0 shows.kept
-      (goes_same v then (out.0 ++ out.1) events (sym out.4) (goes_on v did.0 then out.0 out.1 (goes_as v did.0 out.0 did.2) (refuses (bytes_of old.chain) did.0 at demand (map held_of rest) refusal waits.member out.1 waits.here waits.waits out.3)))
+      (goes_same v then (out.0 ++ out.1) events (sym out.4) (goes_on v did.0 then out.0 out.1 (goes_as v did.0 out.0 did.2) (refuses (bytes_of old.chain) did.0 at demand (map held_of rest) refusal waits.member out.1
+      (may_refuse about keeps may_leave_now new.chain did.0 at waits.member refusal did.1 waits.here plea) waits.here waits.waits out.3)))

@@ -16,7 +16,7 @@ use Rattle.chain_steps.specs.declared.waiting.WriteToken.{WriteToken}
 use Rattle.chain_steps.specs.declared.waiting.WriteToken.TheVariants as tokens
 use Rattle.chain_core.specs.declared.refusal.Refusal.{Refusal}
 use Rattle.chain_core.specs.declared.refusal.Refusal.TheVariants.{Memory, Full, NotMember, Early, Busy, Stopped}
-use Rattle.chain.specs.Asking.{HasFlushed, HasRead, HasSubmitted, IsTurnedAway, IsUnreadAt, ReadsSo}
+use Rattle.chain.specs.Asking.{HasFlushed, HasPleaAt, HasRead, HasSubmitted, IsTurnedAway, IsUnreadAt, ReadsSo}
 use Rattle.chain.specs.Chain.{Chained, Changes}
 use Rattle.world.specs.Telling.{Tells}
 use Rattle.world.specs.World.{Seen}
@@ -73,7 +73,8 @@ HasRefused premise about failures keeps moment left_since at (demands.Fua token 
 HasRefused premise about failures keeps moment left_since at (demands.Flush token) others refusal old new =
     Changes at old new (λ one other. IsTurnedAway ⊥ (flush token one.node.state) others refusal one other)
 
--- The member at the place took the first demand of its sessions; or refused it, and its client is told so behind the other replies.
+-- The member at the place took the first demand of its sessions; or refused it, for memory or since it has stopped, and its client is told so
+-- behind the other replies.
 pub record Takes {S : Type 0} (premise : Type 0) (about : S → About) (failures : S → ℕ) (keeps : S → List ℕ → Type 0) (moment : S → ℕ) (left_since : S → ℕ → List ℕ → Type 0)
     (at : ℕ) (told : Told) (old new : Seen S) : Type 0 where
   pub demand : Demand
@@ -81,6 +82,6 @@ pub record Takes {S : Type 0} (premise : Type 0) (about : S → About) (failures
   pub replies : List GivenReply
   pub here : slice_get old.queues at ≡ Some (demand ∷ rest)
   pub did : HasTaken premise about keeps moment left_since at demand replies old.chain new.chain
-      ⊎ ((others : List GivenReply) × (refusal : Refusal) × HasRefused premise about failures keeps moment left_since at demand others refusal old.chain new.chain × (replies ≡ others ++ refusing (owed_by demand) refusal ∷ []))
+      ⊎ ((others : List GivenReply) × (refusal : Refusal) × HasRefused premise about failures keeps moment left_since at demand others refusal old.chain new.chain × HasPleaAt at new.chain refusal × (replies ≡ others ++ refusing (owed_by demand) refusal ∷ []))
   pub tells : Tells told replies old.sessions new.sessions
   pub are : new ≡ record { chain = new.chain; sessions = new.sessions; queues = slice_set old.queues at rest }

@@ -1,6 +1,6 @@
 //! A member is asked what a demand asks.
 ghost use Rattle.std.specs.Prelude.{◌≡◌, ◌<◌, [], length, IfErr, IfNone, IfOk, IfSome, None};
-ghost use Rattle.chain.specs.Asking.{IsUnnumbered, TakesOfOneVolume, asked_by};
+ghost use Rattle.chain.specs.Asking.{HasPleaAt, IsUnnumbered, TakesOfOneVolume, asked_by};
 ghost use Rattle.chain_steps.specs.Waiting.{board_of};
 ghost use Rattle.volume.specs.Writes.{Fits};
 ghost use Rattle.chain.specs.Chain.{IsOfOneVolume, bytes_of};
@@ -54,7 +54,7 @@ fn ask_write<S: StoreLike + Drop>(
     requires inside { Fits (bytes_of chain.old) write }
     requires some { 0 < length write.bytes }
     ensures taken { IfNone result.refused (HasTakenWrite at token write result.replies.items chain.old chain.new) }
-    ensures refused { IfSome result.refused (λ reply. (refusal : Why) × (HasRefusedWrite at result.replies.items refusal chain.old chain.new × (reply ≡ refusing (owed_of token) refusal))) }
+    ensures refused { IfSome result.refused (λ reply. (refusal : Why) × (HasRefusedWrite at result.replies.items refusal chain.old chain.new × HasPleaAt at chain.new refusal × (reply ≡ refusing (owed_of token) refusal))) }
     ensures takes { S.keeps_model → IfNone result.refused (TakesOfOneVolume S.about S.keeps S.may_leave_now at (asked_by token write) chain.old chain.new result.replies.items) }
     ensures any_moment { S.keeps_model → LeavesAt S.about S.keeps S.may_leave_now S.moment S.may_have_left_since at chain.old chain.new }
     ensures one_volume { S.keeps_model → IfSome result.refused (λ reply. IsOfOneVolume S.about S.keeps S.may_leave_now chain.old chain.new result.replies.items) }
@@ -88,7 +88,7 @@ pub(crate) fn ask<S: StoreLike + Drop>(
     requires of_volume { IsOfVolume chain.old.id (bytes_of chain.old) demand }
     ensures taken { IfNone result.refused (HasTaken S.keeps_model S.about S.keeps S.moment S.may_have_left_since at demand result.replies.items chain.old chain.new) }
     ensures refused { IfSome result.refused (λ reply. (refusal : Why) × (HasRefused S.keeps_model S.about S.failures S.keeps S.moment S.may_have_left_since at demand result.replies.items refusal chain.old chain.new
-        × (reply ≡ refusing (owed_by demand) refusal))) }
+        × HasPleaAt at chain.new refusal × (reply ≡ refusing (owed_by demand) refusal))) }
     ensures takes { S.keeps_model → IfNone result.refused (TakesOfOneVolume S.about S.keeps S.may_leave_now at (held_of demand) chain.old chain.new result.replies.items) }
     ensures any_moment { S.keeps_model → LeavesAt S.about S.keeps S.may_leave_now S.moment S.may_have_left_since at chain.old chain.new }
     ensures one_volume { S.keeps_model → IfSome result.refused (λ reply. IsOfOneVolume S.about S.keeps S.may_leave_now chain.old chain.new result.replies.items) }

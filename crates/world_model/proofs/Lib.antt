@@ -1,4 +1,5 @@
 pub mod LifeSteps
 pub mod PlaceLemmas
+pub mod RefusingSteps
 pub mod RestartSteps
 pub mod StepLemmas

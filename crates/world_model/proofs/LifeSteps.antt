@@ -32,7 +32,7 @@ as_they_are size v above m g h below events others same also changes =
 takes : (size : ℕ) (v : View) (above : List Member) (m g : Member) (below : List Member) (taking : Taking) (d : Held) (rest : List Held) (events : List ClientEvent) → m.demands ≡ d ∷ rest
     → Takes size taking d rest m g events → Changes size v above m g below events
 takes size v above m g below Drop d rest events first (are, shows) = as_they_are size v above m g (record m { demands = rest }) below events [] are shows (drops size v above m below d rest first)
-takes size v above m g below (Refuse error) d rest events first (are, shows) = subst (λ (x : Member). Changes size v above m x below events) (sym are)
+takes size v above m g below (Refuse error) d rest events first (may, are, shows) = subst (λ (x : Member). Changes size v above m x below events) (sym are)
     (subst (Changes size v above m (record m { demands = rest }) below) (sym shows) (refuses size v above m below d rest first error))
 takes size v above m g below (Answer offset len) d rest events first (asked, clean, sized, inside, are, shows) = subst (λ (x : Member). Changes size v above m x below events) (sym are)
     (subst (Changes size v above m (record m { demands = rest }) below) (sym shows) (reads_clean size v above m below d rest first offset len asked clean sized inside))
@@ -56,7 +56,7 @@ does size v above m g below (BeginCommit commit) events (are, shows) = subst (λ
     (subst (λ (es : List ClientEvent). Changes size v above m (record m { node = record m.node { commit = commit; found = None } }) below es) (sym shows) (begins size v above m below commit))
 does size v above m g below (EndCommit p) events (from, upto, are, shows) = subst (λ (x : Member). Changes size v above m x below events) (sym are)
     (subst (λ (es : List ClientEvent). Changes size v above m (record m { node = ended p m.node; volume = fold patched m.volume (writes_upto m.node.table p) }) below es) (sym shows) (commits size v above m below p from upto))
-does size v above m g below (Stop cause) events (out, are) = subst (λ (x : Member). Changes size v above m x below events) (sym are) (stops size v above m below cause events out)
+does size v above m g below (Stop cause) events (other, out, are) = subst (λ (x : Member). Changes size v above m x below events) (sym are) (stops size v above m below cause events out)
 
 -- a chain whose members are those, and its change
 from_members : (size : ℕ) (v w : View) (members others : List Member) (events : List ClientEvent) → v.members ≡ members → w ≡ with_members v others

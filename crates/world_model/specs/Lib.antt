@@ -13,6 +13,7 @@ pub mod Machine
 pub mod MemberSteps
 pub mod Order
 pub mod OrderSteps
+pub mod Refusing
 pub mod Requests
 pub mod Runs
 pub mod Settling

@@ -1,16 +1,18 @@
 -- The life of a chain: whatever its members, its clients and its board do, one thing after another, with cuts in between.
-use Rattle.std.specs.Prelude.{◌≡◌, ◌⊎◌, ℕ, ◌+◌, ◌≤◌, max, Option, None, Some, List, [], ◌∷◌, ◌++◌, length, map, take, drop, set, fold, slice_get, All}
+use Rattle.std.specs.Prelude.{◌≡◌, ◌≢◌, ◌⊎◌, ℕ, ◌+◌, ◌≤◌, max, Option, None, Some, IsSome, List, [], ◌∷◌, ◌++◌, length, map, take, drop, set, fold, slice_get, All}
 use Rattle.std.specs.List.{insert}
 use Rattle.board.specs.Seats.{FoundFront}
 use Rattle.flush_barrier.specs.Owed.{Owed, OwedAt}
 use Rattle.flush_barrier.specs.declared.error_code.ErrorCode.{ErrorCode}
+use Rattle.flush_barrier.specs.declared.error_code.ErrorCode.TheVariants.{Io, NoMemory}
 use Rattle.version_table.specs.Held.{IsClean, applied_of, writes_upto}
 use Rattle.version_table.specs.declared.kept.Kept.{Kept}
 use Rattle.volume.specs.Writes.{Fits, Placed, patched, volume_of}
-use Rattle.chain_steps.specs.Node.{Commit, epoch_of, last_of}
+use Rattle.chain_steps.specs.Node.{Commit, NodeState, epoch_of, last_of}
 use Rattle.chain_steps.specs.Steps.{answer_at, answer_floor, apply, ended, flush, know, read_asked, stop, submit}
 use Rattle.chain_steps.specs.Waiting.{debt_of, waits_for}
 use Rattle.chain_steps.specs.declared.cause.Cause.{Cause}
+use Rattle.chain_steps.specs.declared.cause.Cause.TheVariants.{Disorder}
 use Rattle.chain_steps.specs.declared.found.Found.TheVariants.{Raised, Looked}
 use Rattle.chain_steps.specs.declared.waiting.WriteToken.{WriteToken}
 use Rattle.world_model.specs.Backing.{IsBacked}
@@ -42,10 +44,15 @@ pub data Doing : Type 0 where
   EndCommit : (p : ℕ) → Doing
   Stop : (cause : Cause) → Doing
 
+-- a member may refuse a request: for memory; or with EIO, once it has stopped
+abbrev pub MayRefuse : ErrorCode → NodeState → Type 0
+MayRefuse NoMemory node = Unit {0}
+MayRefuse Io node = IsSome node.stopped
+
 -- the demand may be taken so, and the member is this then
 abbrev pub Takes : ℕ → Taking → Held → List Held → Member → Member → List ClientEvent → Type 0
 Takes size Drop d rest m g events = (g ≡ record m { demands = rest }) × (events ≡ [])
-Takes size (Refuse error) d rest m g events = (g ≡ record m { demands = rest }) × (events ≡ Answered d.session d.cookie (Failed error) ∷ [])
+Takes size (Refuse error) d rest m g events = MayRefuse error m.node × (g ≡ record m { demands = rest }) × (events ≡ Answered d.session d.cookie (Failed error) ∷ [])
 Takes size (Answer offset len) d rest m g events =
     (d.request ≡ Read offset len) × IsClean m.node.table offset len m.node.known × (length m.volume ≡ size) × All (λ k. Fits size k.write) m.node.table.kept × (g ≡ record m { demands = rest })
     × (events ≡ Answered d.session d.cookie (Done (take len (drop offset (fold patched m.volume (writes_upto m.node.table m.node.known))))) ∷ [])
@@ -73,7 +80,7 @@ Does v (KnowRaised front acks) m g events =
 Does v (BeginCommit commit) m g events = (g ≡ record m { node = record m.node { commit = commit; found = None } }) × (events ≡ [])
 Does v (EndCommit p) m g events =
     (m.node.table.forgotten ≤ p) × (p ≤ m.node.known) × (g ≡ record m { node = ended p m.node; volume = fold patched m.volume (writes_upto m.node.table p) }) × (events ≡ [])
-Does v (Stop cause) m g events = ArePutOut (stop cause m.node).out.replies events × (g ≡ record m { node = (stop cause m.node).node })
+Does v (Stop cause) m g events = (cause ≢ Disorder) × ArePutOut (stop cause m.node).out.replies events × (g ≡ record m { node = (stop cause m.node).node })
 
 -- ---- what happens in a chain
 

@@ -1,6 +1,7 @@
 //! That each kind of step of a chain of members is of the one volume. The functions do nothing.
 
 ghost use Rattle.world_model.specs.Life.{HappeningsAreOfOneVolume, LivesAreOfOneVolume};
+ghost use Rattle.world_model.specs.Refusing.{RefusalsHavePleas, StopsHaveCauses};
 ghost use Rattle.world_model.specs.ChainLaws.{AnswersFloor, AnswersFront, AppliesPut, AsksFront, BeginsCommit, Connects, DropsDemand, EndsCommit, FirstChain, Forgets, IsOnEachDisk, KeepsRaised, KnowsRaised, LooksUp, NumbersWrite, RaisesFront, ReadsClean, RefusesDemand, RestartsChain, SendsAll, Stops, SubmitsWrite, TakesAck, TakesFlush, TakesUp, TellsDisks};
 
 /// What a member does with a demand of its sessions.
@@ -56,6 +57,12 @@ pub fn each_disk_has_what_is_owed()
 pub fn lives_are_of_one_volume()
     ensures happenings { HappeningsAreOfOneVolume }
     ensures lives { LivesAreOfOneVolume }
+{}
+
+/// Why members of a chain stop, and which requests it refuses with EIO: none, as long as all its members run.
+pub fn refusals_have_pleas()
+    ensures refusals { RefusalsHavePleas }
+    ensures stops { StopsHaveCauses }
 {}
 
 /// How a chain begins, and begins again after a cut.

@@ -25,7 +25,7 @@ mod tests;
 pub use chain_laws::{
     chains_begin_again, commits_are_of_one_volume, demands_are_of_one_volume,
     each_disk_has_what_is_owed, fronts_are_of_one_volume, lives_are_of_one_volume,
-    sessions_are_of_one_volume, writes_are_of_one_volume,
+    refusals_have_pleas, sessions_are_of_one_volume, writes_are_of_one_volume,
 };
 pub use laws::{
     flushes_owe, nothing_is_lost, owed_stays, reads_are_fresh, runs_go_on, runs_keep_sound,

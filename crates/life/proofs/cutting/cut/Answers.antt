@@ -1,10 +1,11 @@
 use Rattle.std.proofs.Common.{subst}
 use Rattle.std.specs.List.{AllZip}
+use Rattle.std.proofs.lemmas.Result.{IfOk-weaker}
 use Rattle.life.specs.Begun.{IsCutFrom}
-use Rattle.life.proofs.Beside.{ok_then, zip_mapped}
+use Rattle.life.proofs.Beside.{zip_mapped}
 use Rattle.life.proofs.Starting.{leaves_now}
 use Rattle.life.proofs.cutting.cut.Goals as goal
 
 pub returns : goal.returns
-returns c = ok_then c.cut_all.result _ _ c.cut_all.ensures (λ disks all.
-    zip_mapped (IsCutFrom leaves_now) (λ m. m.node.store) c.args.world.chain.members disks.items (subst (λ l. AllZip (IsCutFrom leaves_now) l disks.items) c.in_ok-stores.ensures all))
+returns c = IfOk-weaker c.cut_all.result _ _ (λ disks all.
+    zip_mapped (IsCutFrom leaves_now) (λ m. m.node.store) c.args.world.chain.members disks.items (subst (λ l. AllZip (IsCutFrom leaves_now) l disks.items) c.in_ok-stores.ensures all)) c.cut_all.ensures

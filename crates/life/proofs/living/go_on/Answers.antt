@@ -1,11 +1,11 @@
 use Rattle.std.proofs.Common.{◌≡◌, Some, length, refl, inl, inr, subst, arith}
 use Rattle.std.specs.Prelude.{IfSome, slice_get}
 use Rattle.std.proofs.lemmas.Option.{slice_get_read}
+use Rattle.std.proofs.lemmas.Result.{IfErr-weaker, IfOk-weaker}
 use Rattle.disk_model.specs.Disk.{Only}
 use Rattle.disk_model.specs.Memory.{given_of, may_be_left}
 use Rattle.disk_model.specs.declared.memory.MemDisk.{MemDisk}
 use Rattle.life.specs.Begun.{IsOfMember}
-use Rattle.life.proofs.Returning.{err_more, ok_more}
 use Rattle.life.proofs.living.go_on.Goals as goal
 
 -- what the disk at the place is
@@ -31,7 +31,7 @@ pub returns-clause-goes_on : goal.returns-clause-goes_on
 returns-clause-goes_on c =
     let here : slice_get c.args.disks.items c.args.at ≡ Some c.swap_remove.result =
     slice_get_read c.args.disks.items (length c.args.disks.items) c.args.at c.swap_remove.result refl (omega (arith, c.if-at-len.false, c.args.disks.ok, c.len.ensures)) c.swap_remove.ensures.value in
-    ok_more c.go_on_from.result _ _ c.go_on_from.ensures.goes_on (λ world on. (c.swap_remove.result, here, on.0, on.1, on.2))
+    IfOk-weaker c.go_on_from.result _ _ (λ world on. (c.swap_remove.result, here, on.0, on.1, on.2)) c.go_on_from.ensures.goes_on
 
 pub returns-clause-refused : goal.returns-clause-refused
-returns-clause-refused c = err_more c.go_on_from.result _ _ c.go_on_from.ensures.refused (λ e memory. inl memory)
+returns-clause-refused c = IfErr-weaker c.go_on_from.result _ _ (λ e memory. inl memory) c.go_on_from.ensures.refused

@@ -21,10 +21,14 @@ IsAll era answers = length answers.items.items ≤ length era.deeds.items
 
 pub loop-era-init : goal.loop-era-init
 loop-era-init c = record {
-  plays = subst (λ (l : List Answers). PlayedOnDisks c.args.geometry c.args.members [] l c.in_ok-world.world) (sym c.in_ok-answers.ensures.items)
-      (record { first = c.in_ok-world.world; many = c.in_ok-world.ensures.many; begins = c.in_ok-world.ensures.begins; plays = refl });
   disks = c.in_ok-world.ensures.disks;
-  lives = begins_life about_of_store keeps_volume leaves_now c.chains_begin_again.ensures.first c.args.geometry c.in_ok-world.world c.in_ok-world.ensures.begins;
+  lives = (
+    [],
+    subst (λ (l : List Answers). PlayedOnDisks c.args.geometry c.args.members [] l [] c.in_ok-world.world) (sym c.in_ok-answers.ensures.items)
+        (record { first = c.in_ok-world.world; many = c.in_ok-world.ensures.many; begins = c.in_ok-world.ensures.begins; plays = refl }),
+    subst (λ (l : List Answers). Lives about_of_store keeps_volume leaves_now (4096 * c.args.geometry.blocks) (export_of c.args.geometry) (told_in [] l) [] c.in_ok-world.world) (sym c.in_ok-answers.ensures.items)
+        (begins_life about_of_store keeps_volume leaves_now c.chains_begin_again.ensures.first c.args.geometry c.in_ok-world.world c.in_ok-world.ensures.begins),
+  );
   all = subst (AllZip IsAll []) (sym c.in_ok-answers.ensures.items) tt;
   many = ap length c.in_ok-answers.ensures.items;
   count = c.in_ok-answers.ensures.len;
@@ -37,6 +41,8 @@ push_reserved-requires c = omega (arith, c.loop-era.invariant.count, c.loop-era.
 pub loop-era-preserved : goal.loop-era-preserved
 loop-era-preserved c =
     let inv = c.loop-era.invariant in
+    let (stops, played, lives) = inv.lives in
+    let (causes, leads, continues) = c.in_ok-told.ensures.lived in
     let i = c.loop-era.era-index in
     let eras = c.args.eras.now in
     let era = c.era-item.result in
@@ -49,12 +55,15 @@ loop-era-preserved c =
     let told : told_in (take (i + 1) eras) new ≡ told_in (take i eras) answers ++ zip era.deeds.items c.in_ok-told.told.items ∷ [] =
     ap (λ (l : List Era). told_in l new) here ∙ ap (told_in (take i eras ++ era ∷ [])) items ∙ told_more (take i eras) answers era these long in
     record {
-      plays = subst (λ (l : List Era). PlayedOnDisks c.args.geometry c.args.members l new c.in_ok-told.next) (sym here)
-          (subst (λ (l : List Answers). PlayedOnDisks c.args.geometry c.args.members (take i eras ++ era ∷ []) l c.in_ok-told.next) (sym items)
-          (plays_on (Unit {0}) about_of_store keeps_volume pends_in leaves_now moment_in left_in failures_in disk_in c.args.geometry c.args.members (take i eras) answers c.loop-era.world c.in_ok-told.next era these inv.plays c.in_ok-told.ensures.plays));
       disks = c.in_ok-told.ensures.disks;
-      lives = subst (λ (l : List Trace). Lives about_of_store keeps_volume leaves_now (4096 * c.args.geometry.blocks) (export_of c.args.geometry) l c.in_ok-told.next) (sym told)
-          (lives_on about_of_store keeps_volume leaves_now (export_of c.args.geometry) (told_in (take i eras) answers) (zip era.deeds.items c.in_ok-told.told.items) c.loop-era.world c.in_ok-told.next inv.lives c.in_ok-told.ensures.continues);
+      lives = (
+        stops ++ causes ∷ [],
+        subst (λ (l : List Era). PlayedOnDisks c.args.geometry c.args.members l new (stops ++ causes ∷ []) c.in_ok-told.next) (sym here)
+            (subst (λ (l : List Answers). PlayedOnDisks c.args.geometry c.args.members (take i eras ++ era ∷ []) l (stops ++ causes ∷ []) c.in_ok-told.next) (sym items)
+            (plays_on (Unit {0}) about_of_store keeps_volume pends_in leaves_now moment_in left_in failures_in disk_in c.args.geometry c.args.members (take i eras) answers stops c.loop-era.world c.in_ok-told.next era these causes played leads)),
+        subst (λ (l : List Trace). Lives about_of_store keeps_volume leaves_now (4096 * c.args.geometry.blocks) (export_of c.args.geometry) l (stops ++ causes ∷ []) c.in_ok-told.next) (sym told)
+            (lives_on about_of_store keeps_volume leaves_now (export_of c.args.geometry) (told_in (take i eras) answers) (zip era.deeds.items c.in_ok-told.told.items) stops causes c.loop-era.world c.in_ok-told.next lives continues),
+      );
       all = subst (λ (l : List Era). AllZip IsAll l new) (sym here)
           (subst (AllZip IsAll (take i eras ++ era ∷ [])) (sym items) (all_more IsAll (take i eras) answers era these inv.all c.in_ok-told.ensures.all));
       many = let sum = length-append answers (these ∷ []) in omega (arith, inv.many, ap length items, sum);
@@ -65,21 +74,21 @@ loop-era-preserved c =
 pub returns-clause-all : goal.returns-clause-all
 returns-clause-all c = subst (λ (l : List Era). AllZip IsAll l c.loop-era.answers.items) (take_all c.loop-era.era-index c.args.eras.now c.loop-era-test.false) c.loop-era.invariant.all
 
-pub returns-clause-plays : goal.returns-clause-plays
-returns-clause-plays c = subst (λ (l : List Era). PlayedOnDisks c.args.geometry c.args.members l c.loop-era.answers.items c.loop-era.world) (take_all c.loop-era.era-index c.args.eras.now c.loop-era-test.false) c.loop-era.invariant.plays
-
 pub returns-clause-one_life : goal.returns-clause-one_life
 returns-clause-one_life c =
-    one_life about_of_store keeps_volume leaves_now (4096 * c.args.geometry.blocks) (export_of c.args.geometry) (told_in c.args.eras.now c.loop-era.answers.items) c.loop-era.world
-    (subst (λ (l : List Era). Lives about_of_store keeps_volume leaves_now (4096 * c.args.geometry.blocks) (export_of c.args.geometry) (told_in l c.loop-era.answers.items) c.loop-era.world)
-    (take_all c.loop-era.era-index c.args.eras.now c.loop-era-test.false) c.loop-era.invariant.lives)
+    let (stops, played, lives) = c.loop-era.invariant.lives in
+    let whole = take_all c.loop-era.era-index c.args.eras.now c.loop-era-test.false in
+    one_life about_of_store keeps_volume leaves_now (4096 * c.args.geometry.blocks) (export_of c.args.geometry) (told_in c.args.eras.now c.loop-era.answers.items)
+    (λ l. PlayedOnDisks c.args.geometry c.args.members c.args.eras.now c.loop-era.answers.items l c.loop-era.world) stops c.loop-era.world
+    (subst (λ (l : List Era). PlayedOnDisks c.args.geometry c.args.members l c.loop-era.answers.items stops c.loop-era.world) whole played)
+    (subst (λ (l : List Era). Lives about_of_store keeps_volume leaves_now (4096 * c.args.geometry.blocks) (export_of c.args.geometry) (told_in l c.loop-era.answers.items) stops c.loop-era.world) whole lives)
 
 pub live_era-requires-clause-fresh : goal.live_era-requires-clause-fresh
-live_era-requires-clause-fresh c = (export_of c.args.geometry, c.loop-era.invariant.lives.end, c.loop-era.invariant.lives.fresh)
+live_era-requires-clause-fresh c = let (stops, played, lives) = c.loop-era.invariant.lives in (export_of c.args.geometry, lives.end, lives.fresh)
 
 pub returns-in_err-told-clause-refused : goal.returns-in_err-told-clause-refused
 returns-in_err-told-clause-refused c =
-    let inv = c.loop-era.invariant in
+    let (stops, played, lives) = c.loop-era.invariant.lives in
     let i = c.loop-era.era-index in
     let eras = c.args.eras.now in
     let era = c.era-item.result in
@@ -87,8 +96,8 @@ returns-in_err-told-clause-refused c =
     let whole : take i eras ++ era ∷ drop (i + 1) eras ≡ eras = sym (append_assoc (take i eras) (era ∷ []) (drop (i + 1) eras)) ∙ ap (λ (l : List Era). l ++ drop (i + 1) eras) (sym here) ∙ take-append-drop (i + 1) eras in
     passed_on c.from_residual-in_err-told.result c.in_err-told.field-0.0 (BreaksOff c.args.members c.args.eras.now) c.from_residual-in_err-told.ensures.1
     (subst (λ (l : List Era). BreaksOff c.args.members l c.in_err-told.field-0.0) whole
-    (breaks_off (Unit {0}) about_of_store keeps_volume pends_in leaves_now moment_in left_in failures_in disk_in c.in_err-told.field-0.0 (take i eras) c.loop-era.answers.items inv.plays.first c.loop-era.world c.args.members era (drop (i + 1) eras)
-    inv.plays.plays inv.plays.many c.in_err-told.ensures.refused))
+    (breaks_off (Unit {0}) about_of_store keeps_volume pends_in leaves_now moment_in left_in failures_in disk_in c.in_err-told.field-0.0 (take i eras) c.loop-era.answers.items stops played.first c.loop-era.world c.args.members era (drop (i + 1) eras)
+    played.plays played.many c.in_err-told.ensures.refused))
 
 pub returns-in_err-world-clause-refused : goal.returns-in_err-world-clause-refused
 returns-in_err-world-clause-refused c =

@@ -1,4 +1,4 @@
-use Rattle.std.proofs.Common.{List, ap, subst, sym, length, ◌≡◌, ◌∙◌}
+use Rattle.std.proofs.Common.{List, ap, refl, subst, sym, length, ◌≡◌, ◌∙◌}
 use Rattle.std.specs.Prelude.{zip}
 use Rattle.std.proofs.lemmas.Slice.Zip.{AllZip-long}
 use Rattle.disk_model.specs.Disk.{Only}
@@ -7,6 +7,7 @@ use Rattle.chain.specs.Chain.{bytes_of}
 use Rattle.world_model.specs.Chain.{StandsFor}
 use Rattle.life.specs.Begun.{IsCutFrom, IsOfMember, export_of}
 use Rattle.life.specs.Lived.{Continues}
+use Rattle.life.specs.Plays.{stops_of}
 use Rattle.life.specs.Refusal.{EndsAtReturn}
 use Rattle.life.specs.declared.era.Deed.{Deed}
 use Rattle.life.proofs.Beside.{zip_there}
@@ -31,8 +32,8 @@ go_on-requires c =
     let (m, here, cut) = zip_there (λ m disk. IsCutFrom leaves_now m.node.store disk) c.play_all.new.world.chain.members c.in_ok-disks.disks.items c.args.era.now.returned disk c.in_ok-disks.ensures there in
     ((cut_of_member c.play_all.new.world one.w c.args.era.now.returned m disk one.shows here cut on).0, cut.only))
 
-pub returns-clause-plays : goal.returns-clause-plays
-returns-clause-plays c =
+pub returns-clause-lived : goal.returns-clause-lived
+returns-clause-lived c =
     let (export, s, fresh) = c.requires.fresh in
     let size : export.size ≡ bytes_of c.args.world.chain = ap (λ e. e.size) (sym fresh.has) ∙ c.sound.ensures.joined.size in
     let one = c.in-Ok.ensures.pass.1 fresh.view s fresh.shows (subst (λ n. StandsFor n fresh.view s) size fresh.stands) in
@@ -41,36 +42,30 @@ returns-clause-plays c =
     let (disk, there, meaning, means, begins) = c.in_ok-next.ensures.goes_on in
     let (m, here, cut) = zip_there (λ m disk. IsCutFrom leaves_now m.node.store disk) c.play_all.new.world.chain.members c.in_ok-disks.disks.items c.args.era.now.returned disk c.in_ok-disks.ensures there in
     let (own, sizes) = cut_of_member c.play_all.new.world one.w c.args.era.now.returned m disk one.shows here cut on in (
-      c.play_all.new.world,
-      rw (← c.deref.ensures.value) c.in-Ok.ensures.plays,
-      record {
-        disks = c.in_ok-disks.disks.items;
-        returns = disk;
-        meaning = meaning;
-        cut = c.in_ok-disks.ensures;
-        there = there;
-        means = means;
-        sizes = ap (λ x. x.geometry) (c.disks_mean_one.ensures meaning own.meaning (given_of disk) means own.means) ∙ sizes;
-        alone = c.in_ok-next.ensures.alone;
-        begins = begins;
-      },
+      stops_of c.play_all.new.world,
+      (
+        c.play_all.new.world,
+        rw (← c.deref.ensures.value) c.in-Ok.ensures.plays,
+        refl,
+        record {
+          disks = c.in_ok-disks.disks.items;
+          returns = disk;
+          meaning = meaning;
+          cut = c.in_ok-disks.ensures;
+          there = there;
+          means = means;
+          sizes = ap (λ x. x.geometry) (c.disks_mean_one.ensures meaning own.meaning (given_of disk) means own.means) ∙ sizes;
+          alone = c.in_ok-next.ensures.alone;
+          begins = begins;
+        },
+      ),
+      subst (λ (l : List Deed). Continues about_of_store keeps_volume leaves_now (zip l c.in-Ok.told.items) (stops_of c.play_all.new.world) c.args.world c.in_ok-next.next) c.deref.ensures.value
+          (era_continues about_of_store keeps_volume leaves_now c.lives_are_of_one_volume.ensures.happenings c.refusals_have_pleas.ensures.refusals c.refusals_have_pleas.ensures.stops c.chains_begin_again.ensures.restarts
+          c.sessions_are_lawful.ensures.first c.sessions_are_lawful.ensures.lawful c.disks_mean_one.ensures
+          c.args.world c.play_all.new.world c.in_ok-next.next (zip c.deref.result.now c.in-Ok.told.items) c.in-Ok.ensures.pass.0 c.args.era.now.returned m (given_of disk) meaning
+          c.sound.ensures.joined c.sound-2.ensures.joined c.sound-2.ensures.sessions c.in-Ok.ensures.pass.1 here cut.left means
+          (ap (λ x. export_of x.geometry) (c.disks_mean_one.ensures meaning own.meaning (given_of disk) means own.means) ∙ ap export_of sizes) begins),
     )
-
-pub returns-clause-continues : goal.returns-clause-continues
-returns-clause-continues c =
-    let (export, s, fresh) = c.requires.fresh in
-    let size : export.size ≡ bytes_of c.args.world.chain = ap (λ e. e.size) (sym fresh.has) ∙ c.sound.ensures.joined.size in
-    let one = c.in-Ok.ensures.pass.1 fresh.view s fresh.shows (subst (λ n. StandsFor n fresh.view s) size fresh.stands) in
-    let stays = deeds_stay about_of_store (Unit {0}) keeps_volume pends_in leaves_now moment_in left_in failures_in disk_in c.deref.result.now c.in-Ok.told.items c.args.world c.play_all.new.world c.in-Ok.ensures.plays in
-    let on = disks_stay about_of_store c.args.world c.play_all.new.world stays c.requires.disks in
-    let (disk, there, meaning, means, begins) = c.in_ok-next.ensures.goes_on in
-    let (m, here, cut) = zip_there (λ m disk. IsCutFrom leaves_now m.node.store disk) c.play_all.new.world.chain.members c.in_ok-disks.disks.items c.args.era.now.returned disk c.in_ok-disks.ensures there in
-    let (own, sizes) = cut_of_member c.play_all.new.world one.w c.args.era.now.returned m disk one.shows here cut on in
-    subst (λ (l : List Deed). Continues about_of_store keeps_volume leaves_now (zip l c.in-Ok.told.items) c.args.world c.in_ok-next.next) c.deref.ensures.value
-    (era_continues about_of_store keeps_volume leaves_now c.lives_are_of_one_volume.ensures.happenings c.chains_begin_again.ensures.restarts c.sessions_are_lawful.ensures.first c.sessions_are_lawful.ensures.lawful c.disks_mean_one.ensures
-    c.args.world c.play_all.new.world c.in_ok-next.next (zip c.deref.result.now c.in-Ok.told.items) c.in-Ok.ensures.pass.0 c.args.era.now.returned m (given_of disk) meaning
-    c.sound.ensures.joined c.sound-2.ensures.joined c.sound-2.ensures.sessions c.in-Ok.ensures.pass.1 here cut.left means
-    (ap (λ x. export_of x.geometry) (c.disks_mean_one.ensures meaning own.meaning (given_of disk) means own.means) ∙ ap export_of sizes) begins)
 
 pub returns-in_err-next-clause-refused : goal.returns-in_err-next-clause-refused
 returns-in_err-next-clause-refused c =

@@ -85,4 +85,4 @@ returns-clause-one_volume g c =
     rw (← c.self.view_is) (λ premise v s events shows stands put_out.
     ack_came_goes (λ replies. replies.items) c.args.at g.S.StoreLike.about g.S.StoreLike.keeps g.S.StoreLike.may_leave_now old _ c.take_ack-taken.result came m n
     (m_here g.S.StoreLike.about old c.args.at n c.exchange_acks.new.self m within c.index_mut.ensures.value c.index_mut-2.ensures.value) (n_here g.S.StoreLike.about old c.args.at n c.exchange_acks.new.self m within c.index_mut.ensures.value c.index_mut-2.ensures.value)
-    (subst (λ (acks : List Envelope). All (IsAckOf (epoch_of m.node.state)) acks) c.exchange_acks.ensures.link linked) v events shows put_out)
+    (subst (λ (acks : List Envelope). All (IsAckOf (epoch_of m.node.state)) acks) c.exchange_acks.ensures.link linked) v s events shows stands put_out)

@@ -1,6 +1,6 @@
 use Rattle.std.proofs.Common.{refl, sym, ap, ◌∙◌}
 use Rattle.chain_steps.specs.Steps.{flush}
-use Rattle.chain.proofs.AskingSteps.{away_formed, away_goes, ends_so, flushed_formed, flushed_goes, no_stop}
+use Rattle.chain.proofs.AskingSteps.{away_formed, away_goes, away_pleads, ends_so, flushed_formed, flushed_goes, no_stop}
 use Rattle.chain.proofs.Results.{either, if_err, on_ok}
 use Rattle.chain.proofs.Stepping.{in_at, read_at}
 use Rattle.chain.proofs.chain.Chain.flush.Goals as goal
@@ -49,3 +49,9 @@ returns-clause-one_volume g c = λ premise. rw (← c.self.view_is) (if_err c.fl
     let step = flush c.args.token c.index_mut.result.now.node.state in
     let none = no_stop step c.index_mut.result.now.node.state in
     away_goes ⊥ step _ _ _ none g.S.StoreLike.about _ c.args.at here g.S.StoreLike.keeps g.S.StoreLike.may_leave_now (ends_so ⊥ step _ _ _ none _ away) v events shows put_out))
+
+pub returns-clause-pleads : goal.returns-clause-pleads
+returns-clause-pleads g c = if_err c.flush.result c.flush.ensures.refused (λ e away.
+    let here = read_at _ _ c.args.at _ c.self.view_is c.requires.at c.index_mut.ensures.value in
+    let step = flush c.args.token c.index_mut.result.now.node.state in
+    away_pleads _ _ c.args.at _ _ here c.self.invariant ⊥ step _ (no_stop step c.index_mut.result.now.node.state) _ away)

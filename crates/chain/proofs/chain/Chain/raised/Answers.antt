@@ -1,7 +1,8 @@
 use Rattle.std.proofs.Common.{refl}
 use Rattle.std.specs.Prelude.{IfSome, Option, Some, None}
-use Rattle.chain.proofs.RaisedSteps.{formed_known, known_goes}
-use Rattle.chain.proofs.FloorSteps.{either, none_then, some_then}
+use Rattle.chain.specs.Chain.{Chained}
+use Rattle.chain.proofs.RaisedSteps.{formed_known, known_goes, within_here}
+use Rattle.chain.proofs.FloorSteps.{either, none_then, some_then, stands_now}
 use Rattle.chain.proofs.Stepping.{read_at, same_then, formed_still}
 use Rattle.chain.proofs.chain.Chain.raised.Goals as goal
 
@@ -32,5 +33,8 @@ pair_some (Some x) P Q p q = (p, q)
 
 pub returns-clause-one_volume : goal.returns-clause-one_volume
 returns-clause-one_volume g c = λ premise. some_then c.raised.result _ _ (pair_some c.raised.result _ _ c.raised.ensures.known c.raised.ensures.above) (λ replies (did, above) v s events shows stands put_out. rw (← c.self.view_is)
-    (let here = read_at _ _ c.args.at _ c.self.view_is c.requires c.index_mut.ensures.value in
-    known_goes _ _ c.args.at _ _ here replies.items did above g.S.StoreLike.keeps g.S.StoreLike.may_leave_now v events (rw c.self.view_is shows) put_out))
+    (let i = c.self.inside in
+    let old : Chained g.row.S.Denot = record { id = i.board.id; seat = i.board.seat; words = i.board.words; chain = i.«record»; geometry = i.geometry; members = i.members.items } in
+    let here = read_at _ _ c.args.at _ c.self.view_is c.requires c.index_mut.ensures.value in
+    known_goes _ _ c.args.at _ _ here replies.items did above (within_here g.S.StoreLike.about g.S.StoreLike.keeps g.S.StoreLike.may_leave_now old c.args.at _ here v s (rw c.self.view_is shows) (stands_now _ _ v s c.self.view_is stands))
+    g.S.StoreLike.keeps g.S.StoreLike.may_leave_now v events (rw c.self.view_is shows) put_out))

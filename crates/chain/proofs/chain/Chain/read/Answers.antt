@@ -1,6 +1,7 @@
 use Rattle.std.proofs.Common.{◌≤◌, ◌+◌, ◌*◌, refl, sym, ap, subst, ◌∙◌}
 use Rattle.volume.specs.declared.geometry.Geometry.{Geometry}
 use Rattle.chain.specs.Chain.{bytes_of}
+use Rattle.chain.proofs.AskingSteps.{unread_pleads}
 use Rattle.chain.proofs.CommitSteps.{by_either, err_then, ok_then}
 use Rattle.chain.proofs.ReadingSteps.{read_formed, read_goes, read_leaves, unread_formed, unread_goes, unread_leaves}
 use Rattle.chain.proofs.Stepping.{in_at, read_at}
@@ -61,3 +62,8 @@ returns-clause-one_volume g c = λ premise. rw (← c.self.view_is) (err_then c.
     let here = read_at _ _ c.args.at _ c.self.view_is c.requires.at c.index_mut.ensures.value in
     unread_goes g.S.StoreLike.keeps_model g.S.StoreLike.about g.S.StoreLike.failures g.S.StoreLike.keeps g.S.StoreLike.moment g.S.StoreLike.may_have_left_since c.args.offset c.args.len g.S.StoreLike.may_leave_now _ c.args.at _ _ here _ _ no premise
     (g.met.S.StoreLike.counts_now premise) (c.read.ensures.any_moment premise) v events shows put_out))
+
+pub returns-clause-pleads : goal.returns-clause-pleads
+returns-clause-pleads g c = err_then c.read.result _ _ c.read.ensures.refused (λ e no.
+    let here = read_at _ _ c.args.at _ c.self.view_is c.requires.at c.index_mut.ensures.value in
+    unread_pleads _ _ c.args.at _ _ here c.self.invariant g.S.StoreLike.keeps_model g.S.StoreLike.failures g.S.StoreLike.keeps g.S.StoreLike.moment g.S.StoreLike.may_have_left_since c.args.offset c.args.len _ _ no)

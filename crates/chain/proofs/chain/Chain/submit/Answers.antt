@@ -5,7 +5,7 @@ use Rattle.volume.specs.declared.geometry.Geometry.{Geometry}
 use Rattle.chain_steps.specs.declared.cause.Cause.TheVariants.{LastTicket}
 use Rattle.chain.specs.Chain.{bytes_of}
 use Rattle.chain_steps.specs.Steps.{stop}
-use Rattle.chain.proofs.AskingSteps.{away_formed, away_goes, ends_so, submitted_formed, submitted_goes, last_ticket}
+use Rattle.chain.proofs.AskingSteps.{away_formed, away_goes, away_pleads, ends_so, submitted_formed, submitted_goes, last_ticket}
 use Rattle.chain.proofs.Results.{either, if_err, on_ok}
 use Rattle.chain.proofs.Stepping.{in_at, read_at}
 use Rattle.chain.proofs.chain.Chain.submit.Goals as goal
@@ -57,3 +57,9 @@ returns-clause-one_volume g c = λ premise. rw (← c.self.view_is) (if_err c.su
     let here = read_at _ _ c.args.at _ c.self.view_is c.requires.at c.index_mut.ensures.value in
     let state = c.index_mut.result.now.node.state in
     away_goes (MAX_NUMBER < state.ticket) (stop LastTicket state) _ _ _ (last_ticket state) g.S.StoreLike.about _ c.args.at here g.S.StoreLike.keeps g.S.StoreLike.may_leave_now (ends_so (MAX_NUMBER < state.ticket) (stop LastTicket state) _ _ _ (last_ticket state) _ away) v events shows put_out))
+
+pub returns-clause-pleads : goal.returns-clause-pleads
+returns-clause-pleads g c = if_err c.submit.result c.submit.ensures.refused (λ e away.
+    let here = read_at _ _ c.args.at _ c.self.view_is c.requires.at c.index_mut.ensures.value in
+    let state = c.index_mut.result.now.node.state in
+    away_pleads _ _ c.args.at _ _ here c.self.invariant (MAX_NUMBER < state.ticket) (stop LastTicket state) _ (last_ticket state) _ away)
