@@ -26,6 +26,12 @@ const MAX_WRITES: u64 = 1_024;
 /// The known writes that aren't journaled, at which they are, though nothing asks for it.
 pub(crate) const MANY_KNOWN: u64 = 512;
 
+/// The bytes of a block, and so of a pending block's image in the area.
+const BLOCK: u32 = 4_096;
+
+/// The pending blocks that go home behind a commit, for each write that it journaled, once the area may be half full.
+const HOMES_A_WRITE: u64 = 2;
+
 /// The slots of a board.
 const SLOTS: u32 = 8;
 
@@ -133,6 +139,7 @@ impl<S: StoreLike + Drop> Service<S> {
         match told {
             Ok(told) => {
                 self.is_full = false;
+                self.journaled = 0;
                 self.keep(told);
                 true
             }
@@ -491,6 +498,50 @@ impl<S: StoreLike + Drop> Service<S> {
         self.asks_floor || self.is_pressed || self.is_full || self.unjournaled() >= MANY_KNOWN
     }
 
+    /// Notes that so many writes were journaled.
+    fn note_journaled(&mut self, writes: u64)
+        ensures { self.new ≡ self.old }
+    {
+        self.journaled = self.journaled.saturating_add(writes);
+    }
+
+    /// Whether the area may be half full, since so many writes of a block each fill half of it.
+    fn may_be_half_full(&self) -> bool {
+        self.journaled >= u64::from(self.world.geometry().area / (2 * BLOCK))
+    }
+
+    /// The member writes pending blocks home, so many at most.
+    #[tactic(auto, using(crate::proofs::Runs::serves_then))]
+    fn tick_some(&mut self, many: u64)
+        ensures serves { S.keeps_model → Serves S.about S.keeps S.may_leave_now no_one no_one self.old self.new }
+    {
+        for _block in 0..many {
+            if !self.tick() {
+                break;
+            }
+        }
+    }
+
+    /// Behind a commit of so many writes the member brings blocks home, so that little is left to bring home once the area is full.
+    #[tactic(auto, using(crate::proofs::Runs::serves_then))]
+    fn pace(&mut self, writes: u64)
+        ensures serves { S.keeps_model → Serves S.about S.keeps S.may_leave_now no_one no_one self.old self.new }
+    {
+        self.note_journaled(writes);
+        if self.may_be_half_full() {
+            self.tick_some(writes.saturating_mul(HOMES_A_WRITE));
+        }
+    }
+
+    /// The member ends the commit of some of so many writes, and posts its receipt; then it brings blocks home.
+    #[tactic(auto, using(crate::proofs::Runs::serves_then))]
+    fn end_paced(&mut self, known: u64)
+        ensures serves { S.keeps_model → Serves S.about S.keeps S.may_leave_now no_one no_one self.old self.new }
+    {
+        self.end();
+        self.pace(known.saturating_sub(self.unjournaled()));
+    }
+
     #[tactic(auto, using(crate::proofs::Journaling::journals_more))]
     /// The member journals what it knows, where that isn't to wait until the server is idle. `false` where it did nothing.
     pub(crate) fn journal_if_asked(&mut self) -> bool
@@ -516,7 +567,8 @@ impl<S: StoreLike + Drop> Service<S> {
         ensures serves { S.keeps_model → Serves S.about S.keeps S.may_leave_now no_one no_one self.old self.new }
         ensures idle { result ≡ false → HasNoRoom self.old ⊎ JournalsNone S.about 1 self.old.world }
     {
-        if self.unjournaled() == 0 {
+        let writes = self.unjournaled();
+        if writes == 0 {
             self.is_pressed = false;
             return false;
         }
@@ -527,7 +579,7 @@ impl<S: StoreLike + Drop> Service<S> {
             return false;
         }
         if !self.is_full {
-            self.end();
+            self.end_paced(writes);
         }
         true
     }

@@ -21,6 +21,8 @@ pub struct Service<S: StoreLike> {
     pub(crate) is_pressed: bool,
     /// The journal area was full, and is emptied.
     pub(crate) is_full: bool,
+    /// The writes that were journaled since the area was emptied.
+    pub(crate) journaled: u64,
 }
 
 impl<S: StoreLike> Model for Service<S> {
@@ -48,6 +50,7 @@ impl<S: StoreLike + Drop> Service<S> {
             all_numbered: true,
             is_pressed: false,
             is_full: false,
+            journaled: 0,
         }
     }
 
@@ -72,6 +75,7 @@ impl<S: StoreLike + Drop> Service<S> {
             all_numbered: _,
             is_pressed: _,
             is_full: _,
+            journaled: _,
         } = self;
         world.abandon()
     }
