@@ -34,7 +34,7 @@ use Rattle.world.specs.World.{HappensSo, IsJoined, IsOfOneVolume, Seen, Shows}
 use Rattle.life.specs.Begun.{BeginsWith, export_of}
 use Rattle.life.specs.Headline.{AreRefusedSo, IsLawfulEra, IsLawfulSession, IsOneLife, RestartsBetween, Trace, fed_in, handed_in, told_in}
 use Rattle.life.specs.Lived.{Continues, IsFresh, Lives}
-use Rattle.life.specs.Plays.{stops_of}
+use Rattle.life.specs.Plays.{causes_of}
 use Rattle.life.specs.declared.era.Answers.{Answers}
 use Rattle.life.specs.declared.era.Era.{Era}
 use Rattle.life.proofs.Beside.{all_more}
@@ -197,7 +197,7 @@ module _ {S : Type 0} (about : S → About) (keeps : S → List ℕ → Type 0) 
       → slice_get mid.chain.members at ≡ Some m → may_leave_now m.node.store c → Means meaning c
       → export_of meaning.geometry ≡ export_of mid.chain.geometry
       → BeginsWith about keeps may_leave_now meaning.geometry meaning.front meaning.volume new
-      → Continues about keeps may_leave_now told (stops_of mid) old new
+      → Continues about keeps may_leave_now told (causes_of mid) old new
   era_continues happenings pleas causes restarts first lawful one_meaning old mid new told dropped at m c meaning joined joined_then are pass here left means sizes begun export s fresh =
       let size : export.size ≡ bytes_of old.chain = ap (λ e. e.size) (sym fresh.has) ∙ joined.size in
       let stands = subst (λ n. StandsFor n fresh.view s) size fresh.stands in

@@ -15,7 +15,7 @@ use Rattle.world_model.specs.Refusing.{HasPlea, RefusalsHavePleas, StopsHaveCaus
 use Rattle.world.specs.World.{Goes, Seen, Shows}
 use Rattle.life.specs.Begun.{AllRun}
 use Rattle.life.specs.Headline.{AreRefusedSo}
-use Rattle.life.specs.Plays.{stops_of}
+use Rattle.life.specs.Plays as plays
 
 module _ {S : Type 0} (about : S → About) (keeps : S → List ℕ → Type 0) (may_leave_now : S → List ℕ → Type 0) where
   shown_causes : (size : ℕ) (ms : List (Linked S)) (gs : List Member) → AllZip (IsShown about keeps may_leave_now size) ms gs
@@ -28,7 +28,7 @@ module _ {S : Type 0} (about : S → About) (keeps : S → List ℕ → Type 0) 
       ∙ ap (λ l. option_to_list m.node.state.stopped ++ l) (shown_causes size ms gs rest)
 
   -- a world is shown with its causes
-  causes_shown : (w : Seen S) (v : View) → Shows about keeps may_leave_now w v → causes_of v ≡ stops_of w
+  causes_shown : (w : Seen S) (v : View) → Shows about keeps may_leave_now w v → causes_of v ≡ plays.causes_of w
   causes_shown w v shows = shown_causes (bytes_of w.chain) w.chain.members v.members shows.chain.members
 
   no_causes : (ms : List (Linked S)) → All (λ m. m.node.state.stopped ≡ None) ms → flat_map (λ (m : Linked S). option_to_list m.node.state.stopped) ms ≡ []
@@ -37,7 +37,7 @@ module _ {S : Type 0} (about : S → About) (keeps : S → List ℕ → Type 0) 
 
   -- an era that began with running members
   pub refused_so : RefusalsHavePleas → StopsHaveCauses → (size : ℕ) (old new : Seen S) (v w : View) (events : List ClientEvent) → Shows about keeps may_leave_now old v → Shows about keeps may_leave_now new w → AllRun old → Goes size v w events
-      → AreRefusedSo (stops_of new) events
+      → AreRefusedSo (plays.causes_of new) events
   refused_so pleas causes size old new v w events shows shows_then run goes =
       let there = causes_shown new w shows_then in
       let none : causes_of v ≡ [] = causes_shown old v shows ∙ no_causes old.chain.members run in

@@ -57,8 +57,8 @@ pub record IsLawfulEra (export : Export) (told : Trace) (events : List ClientEve
 -- ---- refusals
 
 -- An era whose clients saw these events, and at whose end members had stopped for these causes: each request that was refused was so for
--- memory, or with EIO once a member had stopped. And each that stopped was told to, or ran out of memory, or its disk refused a call, or it
--- had given out the greatest ticket.
+-- memory, or with EIO, which needs a member that had stopped by the end. And each that stopped was told to, or ran out of memory, or its
+-- disk refused a call, or it had given out the greatest ticket.
 pub record AreRefusedSo (stops : List Cause) (events : List ClientEvent) : Type 0 where
   pub pleas : All (HasPlea stops) events
   pub causes : All (λ cause. cause ≢ Disorder) stops

@@ -21,8 +21,8 @@ use Rattle.life.specs.declared.era.Deed.{Deed}
 use Rattle.life.specs.declared.era.Era.{Era}
 
 -- why members of the world have stopped, from the head on
-abbrev pub stops_of : {S : Type 0} → Seen S → List Cause
-stops_of w = flat_map (λ m. option_to_list m.node.state.stopped) w.chain.members
+abbrev pub causes_of : {S : Type 0} → Seen S → List Cause
+causes_of w = flat_map (λ m. option_to_list m.node.state.stopped) w.chain.members
 
 -- a device call met its stop: the member whose disk it was has stopped for that
 pub record HasMetStop {S : Type 0} (w : Seen S) : Type 0 where
@@ -56,7 +56,7 @@ module _ {S : Type 0} (premise : Type 0) (about : S → About) (keeps : S → Li
 
   -- an era was played, then members had stopped for these causes, and the chain went on
   abbrev pub EraLeads : Era → List Answer → List Cause → Seen S → Seen S → Type 0
-  EraLeads era answers stops old new = (end : Seen S) × DeedsLead era.deeds.items answers old end × (stops ≡ stops_of end) × GoesOnFrom era.returned end new
+  EraLeads era answers stops old new = (end : Seen S) × DeedsLead era.deeds.items answers old end × (stops ≡ causes_of end) × GoesOnFrom era.returned end new
 
   -- these eras lead from the one world to the other
   abbrev pub ErasLead : List Era → List Answers → List (List Cause) → Seen S → Seen S → Type 0

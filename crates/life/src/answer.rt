@@ -1,6 +1,9 @@
 use clients::Output;
 use world::Told;
 
+/// The number of the refusal where memory runs out.
+pub const MEMORY: u16 = 100;
+
 /// What became of a step.
 #[must_use]
 #[derive(Debug, Drop)]

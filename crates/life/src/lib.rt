@@ -16,7 +16,7 @@ mod recovering;
 mod refusal;
 mod step;
 
-pub use answer::Answer;
+pub use answer::{Answer, MEMORY};
 pub use beginning::begin;
 pub use cutting::cut;
 pub use era::{Answers, Deed, Era};

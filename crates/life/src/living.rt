@@ -20,7 +20,7 @@ ghost use Rattle.life.specs.Played.{fed_by, handed_by};
 ghost use Rattle.life.specs.Plays.{DeedsLead, EraLeads, HasMetStop, IsPlayed};
 ghost use Rattle.world.specs.World.{IsOfOneVolume, Shows};
 
-use crate::answer::Answer;
+use crate::answer::{Answer, MEMORY};
 use crate::beginning::begin;
 use crate::cutting::cut;
 use crate::era::{Answers, Deed, Era};
@@ -35,9 +35,6 @@ use std::alloc::{AllocError, Global};
 use volume::Geometry;
 use world::{Told, World};
 use world_model::{chains_begin_again, lives_are_of_one_volume, refusals_have_pleas};
-
-/// The number of the refusal where memory runs out.
-const MEMORY: u16 = 100;
 
 /// What became of a life.
 pub struct Lived {

@@ -5,16 +5,13 @@ ghost use Rattle.life.specs.Does.{Acts, BeginsSome, Does, IsConnected, IsEnded, 
 ghost use Rattle.life.specs.Played.{fed_by_step, fed_to, handed_by_step, handed_from, handed_of, told_in, tried_in, went_in};
 ghost use Rattle.world.specs.World.{IsOfOneVolume};
 
-use crate::answer::Answer;
+use crate::answer::{Answer, MEMORY};
 use crate::step::{Act, Step};
 use chain_core::Refusal;
 use flush_barrier::SessionId;
 use local_store::StoreLike;
 use std::alloc::Global;
 use world::{Told, World};
-
-/// The number of the refusal where memory runs out.
-const MEMORY: u16 = 100;
 
 /// Plays one step: the call of the world that it names. Where there is no member at its place, no such session, or no such step now,
 /// it is skipped, and nothing changed.

@@ -12,6 +12,7 @@ ghost use Rattle.service.specs.Service.{Serves, waits_for};
 use crate::service::Service;
 use chain_core::Refusal;
 use local_store::StoreLike;
+use std::mem;
 use world::Told;
 
 /// The place of the one member, which is the head and the tail.
@@ -26,11 +27,14 @@ const MAX_WRITES: u64 = 1_024;
 /// The known writes that aren't journaled, at which they are, though nothing asks for it.
 pub(crate) const MANY_KNOWN: u64 = 512;
 
-/// The bytes of a block, and so of a pending block's image in the area.
-const BLOCK: u32 = 4_096;
+/// The bytes that an image takes in a journal area.
+const IMAGE_RECORD: u64 = 4_100;
 
-/// The pending blocks that go home behind a commit, for each write that it journaled, once the area may be half full.
-const HOMES_A_WRITE: u64 = 2;
+/// The pending blocks that go home for each image of a commit, once half of the area is full.
+const HOMES_AN_IMAGE: u64 = 2;
+
+/// The pending blocks that go home at once, at least: each sync writes them too, so one sync is to write many.
+const MANY_HOMES: u64 = 64;
 
 /// The slots of a board.
 const SLOTS: u32 = 8;
@@ -139,7 +143,7 @@ impl<S: StoreLike + Drop> Service<S> {
         match told {
             Ok(told) => {
                 self.is_full = false;
-                self.journaled = 0;
+                self.homes_owed = 0;
                 self.keep(told);
                 true
             }
@@ -498,16 +502,35 @@ impl<S: StoreLike + Drop> Service<S> {
         self.asks_floor || self.is_pressed || self.is_full || self.unjournaled() >= MANY_KNOWN
     }
 
-    /// Notes that so many writes were journaled.
-    fn note_journaled(&mut self, writes: u64)
-        ensures { self.new ≡ self.old }
-    {
-        self.journaled = self.journaled.saturating_add(writes);
+    /// How many images the next batch of the member's store can have.
+    fn room(&self) -> u64 {
+        if !self.has_member() {
+            return 0;
+        }
+        self.world.store(ONLY).room()
     }
 
-    /// Whether the area may be half full, since so many writes of a block each fill half of it.
-    fn may_be_half_full(&self) -> bool {
-        self.journaled >= u64::from(self.world.geometry().area / (2 * BLOCK))
+    /// Notes that a commit took its images from so much room: once half of the area is full, pending blocks are to go home.
+    fn note_journaled(&mut self, before: u64)
+        ensures { self.new ≡ self.old }
+    {
+        let room = self.room();
+        let half = u64::from(self.world.geometry().area) / (2 * IMAGE_RECORD);
+        if room < half {
+            let images = before.saturating_sub(room);
+            let more = images.saturating_mul(HOMES_AN_IMAGE);
+            self.homes_owed = self.homes_owed.saturating_add(more);
+        }
+    }
+
+    /// How many pending blocks are to go home at once: none, until they are many.
+    fn take_homes_owed(&mut self) -> u64
+        ensures { self.new ≡ self.old }
+    {
+        if self.homes_owed < MANY_HOMES {
+            return 0;
+        }
+        mem::replace(&mut self.homes_owed, 0)
     }
 
     /// The member writes pending blocks home, so many at most.
@@ -522,24 +545,19 @@ impl<S: StoreLike + Drop> Service<S> {
         }
     }
 
-    /// Behind a commit of so many writes the member brings blocks home, so that little is left to bring home once the area is full.
+    /// The member writes the blocks home that are to go, so that few are pending once the area is full: by now the replies of the last
+    /// commit have gone out. `false` where none was to go.
     #[tactic(auto, using(crate::proofs::Runs::serves_then))]
-    fn pace(&mut self, writes: u64)
+    pub(crate) fn pace(&mut self) -> bool
         ensures serves { S.keeps_model → Serves S.about S.keeps S.may_leave_now no_one no_one self.old self.new }
+        ensures idle { result ≡ false → self.new ≡ self.old }
     {
-        self.note_journaled(writes);
-        if self.may_be_half_full() {
-            self.tick_some(writes.saturating_mul(HOMES_A_WRITE));
+        let many = self.take_homes_owed();
+        if many == 0 {
+            return false;
         }
-    }
-
-    /// The member ends the commit of some of so many writes, and posts its receipt; then it brings blocks home.
-    #[tactic(auto, using(crate::proofs::Runs::serves_then))]
-    fn end_paced(&mut self, known: u64)
-        ensures serves { S.keeps_model → Serves S.about S.keeps S.may_leave_now no_one no_one self.old self.new }
-    {
-        self.end();
-        self.pace(known.saturating_sub(self.unjournaled()));
+        self.tick_some(many);
+        true
     }
 
     #[tactic(auto, using(crate::proofs::Journaling::journals_more))]
@@ -575,11 +593,13 @@ impl<S: StoreLike + Drop> Service<S> {
         if self.is_full {
             return self.empty_area();
         }
+        let before = self.room();
         if !self.begin() {
             return false;
         }
         if !self.is_full {
-            self.end_paced(writes);
+            self.end();
+            self.note_journaled(before);
         }
         true
     }

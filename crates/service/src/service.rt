@@ -21,8 +21,8 @@ pub struct Service<S: StoreLike> {
     pub(crate) is_pressed: bool,
     /// The journal area was full, and is emptied.
     pub(crate) is_full: bool,
-    /// The writes that were journaled since the area was emptied.
-    pub(crate) journaled: u64,
+    /// The pending blocks that are to go home before more is journaled.
+    pub(crate) homes_owed: u64,
 }
 
 impl<S: StoreLike> Model for Service<S> {
@@ -50,7 +50,7 @@ impl<S: StoreLike + Drop> Service<S> {
             all_numbered: true,
             is_pressed: false,
             is_full: false,
-            journaled: 0,
+            homes_owed: 0,
         }
     }
 
@@ -75,7 +75,7 @@ impl<S: StoreLike + Drop> Service<S> {
             all_numbered: _,
             is_pressed: _,
             is_full: _,
-            journaled: _,
+            homes_owed: _,
         } = self;
         world.abandon()
     }

@@ -92,7 +92,7 @@ impl<S: StoreLike + HasError + Drop> Sessions for Service<S> {
         ensures serves { S.keeps_model → Serves S.about S.keeps S.may_leave_now no_one no_one self.old self.new }
         ensures idle { result ≡ false → HasNoRoom self.old ⊎ JournalsNone S.about MANY_KNOWN self.old.world }
     {
-        let committed = self.journal_if_asked();
+        let committed = self.pace_and_journal();
         let answered = self.settle_if_asked();
         committed || answered
     }
@@ -202,6 +202,18 @@ impl<S: StoreLike + Drop> Service<S> {
         }
         self.asks_front = false;
         true
+    }
+
+    /// The member writes the blocks home that are to go, and journals what it knows, where that isn't to wait. `false` where it did
+    /// neither.
+    #[tactic(auto, using(crate::proofs::Runs::serves_then))]
+    fn pace_and_journal(&mut self) -> bool
+        ensures serves { S.keeps_model → Serves S.about S.keeps S.may_leave_now no_one no_one self.old self.new }
+        ensures idle { result ≡ false → HasNoRoom self.old ⊎ JournalsNone S.about MANY_KNOWN self.old.world }
+    {
+        let paced = self.pace();
+        let journaled = self.journal_if_asked();
+        paced || journaled
     }
 
     /// The member looks the floor up, if something may wait for it. `false` where nothing was answered.

@@ -4,7 +4,7 @@ ghost use Rattle.std.specs.Prelude.{◌≤◌, ◌<◌, vec_len};
 use crate::refusal::Refusal;
 use crate::sim::{Left, Sim};
 use disk_model::{Cut, Event, MemDisk};
-use life::{Refusal as LifeRefusal, Refused};
+use life::{MEMORY, Refusal as LifeRefusal, Refused};
 use local_store::Store;
 use std::io::Write;
 use std::mem;
@@ -13,9 +13,6 @@ use world::World;
 
 /// The number of the refusal of a recovery for which no disk is returned.
 const NONE_RETURNED: u16 = 191;
-
-/// The number of the refusal where memory runs out.
-const MEMORY: u16 = 100;
 
 impl Sim {
     /// Makes the world of a chain, or prints why its numbers are refused.

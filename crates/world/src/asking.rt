@@ -40,6 +40,16 @@ pub(crate) struct Taken {
     pub(crate) refused: Option<Reply>,
 }
 
+/// It took the demand, and gave these replies.
+fn took(replies: Vec<Served>) -> Taken
+    ensures { result ≡ record { replies = replies; refused = None } }
+{
+    Taken {
+        replies,
+        refused: None,
+    }
+}
+
 /// The member at a place takes a write, or refuses it.
 fn ask_write<S: StoreLike + Drop>(
     alloc: Global,
@@ -99,10 +109,7 @@ pub(crate) fn ask<S: StoreLike + Drop>(
             offset,
             length,
         } => match chain.read(at, token, offset, length) {
-            Ok(replies) => Taken {
-                replies,
-                refused: None,
-            },
+            Ok(replies) => took(replies),
             Err(
                 Refused {
                     token,

@@ -7,7 +7,7 @@ use Rattle.chain.specs.Chain.{bytes_of}
 use Rattle.world_model.specs.Chain.{StandsFor}
 use Rattle.life.specs.Begun.{IsCutFrom, IsOfMember, export_of}
 use Rattle.life.specs.Lived.{Continues}
-use Rattle.life.specs.Plays.{stops_of}
+use Rattle.life.specs.Plays.{causes_of}
 use Rattle.life.specs.Refusal.{EndsAtReturn}
 use Rattle.life.specs.declared.era.Deed.{Deed}
 use Rattle.life.proofs.Beside.{zip_there}
@@ -42,7 +42,7 @@ returns-clause-lived c =
     let (disk, there, meaning, means, begins) = c.in_ok-next.ensures.goes_on in
     let (m, here, cut) = zip_there (λ m disk. IsCutFrom leaves_now m.node.store disk) c.play_all.new.world.chain.members c.in_ok-disks.disks.items c.args.era.now.returned disk c.in_ok-disks.ensures there in
     let (own, sizes) = cut_of_member c.play_all.new.world one.w c.args.era.now.returned m disk one.shows here cut on in (
-      stops_of c.play_all.new.world,
+      causes_of c.play_all.new.world,
       (
         c.play_all.new.world,
         rw (← c.deref.ensures.value) c.in-Ok.ensures.plays,
@@ -59,7 +59,7 @@ returns-clause-lived c =
           begins = begins;
         },
       ),
-      subst (λ (l : List Deed). Continues about_of_store keeps_volume leaves_now (zip l c.in-Ok.told.items) (stops_of c.play_all.new.world) c.args.world c.in_ok-next.next) c.deref.ensures.value
+      subst (λ (l : List Deed). Continues about_of_store keeps_volume leaves_now (zip l c.in-Ok.told.items) (causes_of c.play_all.new.world) c.args.world c.in_ok-next.next) c.deref.ensures.value
           (era_continues about_of_store keeps_volume leaves_now c.lives_are_of_one_volume.ensures.happenings c.refusals_have_pleas.ensures.refusals c.refusals_have_pleas.ensures.stops c.chains_begin_again.ensures.restarts
           c.sessions_are_lawful.ensures.first c.sessions_are_lawful.ensures.lawful c.disks_mean_one.ensures
           c.args.world c.play_all.new.world c.in_ok-next.next (zip c.deref.result.now c.in-Ok.told.items) c.in-Ok.ensures.pass.0 c.args.era.now.returned m (given_of disk) meaning

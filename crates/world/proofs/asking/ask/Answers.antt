@@ -3,7 +3,7 @@ use Rattle.world.proofs.StoppingSteps.{away_same, flushed_same, store_stays}
 use Rattle.world.proofs.asking.ask.Goals as goal
 
 pub returns-in-Ok-clause-takes : goal.returns-in-Ok-clause-takes
-returns-in-Ok-clause-takes g c = λ premise. demand_takes _ _ _ _ _ _ c.in-Read.is (c.in-Ok.ensures.takes premise)
+returns-in-Ok-clause-takes g c = λ premise. rw c.took.ensures (demand_takes _ _ _ _ _ _ c.in-Read.is (c.in-Ok.ensures.takes premise))
 
 pub returns-in-Ok-flush-clause-takes : goal.returns-in-Ok-flush-clause-takes
 returns-in-Ok-flush-clause-takes g c = λ premise. demand_takes _ _ _ _ _ _ c.in-Flush.is (silent_takes _ _ _ _ _ c.new.ensures.items (c.in-Ok-flush.ensures.takes premise))
