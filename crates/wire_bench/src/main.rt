@@ -16,7 +16,7 @@ use nbd_codec::constants::{REQUEST_MAGIC, REQUEST_READ, REQUEST_WRITE};
 use nbd_session::{Demand, Session};
 use std::alloc::Global;
 use std::env;
-use std::time::{Clock, Instant};
+use std::time::{Clock, Duration, Instant};
 
 /// The bytes of the volume.
 const SIZE: u64 = 268_435_456;
@@ -121,21 +121,38 @@ fn report<R: Clock + Print>(
 ) -> anyhow::Result<()> {
     let mut session = Session::new(alloc, board, SESSION, SIZE, MIB as u32)?;
     let answer = Bytes::from_vec(vec![in alloc; 7; load.length]?)?;
-    let mut out = round(&mut session, alloc, HELLO, HELLO.len(), &answer)?;
+    let greeted = round(&mut session, alloc, HELLO, HELLO.len(), &answer)?;
     let text = text_of(alloc, load)?;
-    let name = load.name;
-    if !timed {
-        out = out.saturating_add(round(&mut session, alloc, &text, load.piece, &answer)?);
-        println!(rt; "{name}: {out} bytes out")?;
-        return Ok(());
+    if timed {
+        return time_rounds(rt, &mut session, alloc, load, &text, &answer);
     }
+    let out = round(&mut session, alloc, &text, load.piece, &answer)?;
+    let (name, all) = (load.name, greeted.saturating_add(out));
+    println!(rt; "{name}: {all} bytes out")?;
+    Ok(())
+}
+
+/// Plays a load many times, and prints how long it took.
+fn time_rounds<R: Clock + Print>(
+    rt: &R,
+    session: &mut Session,
+    alloc: Global,
+    load: Load,
+    text: &[u8],
+    answer: &Bytes,
+) -> anyhow::Result<()> {
     let requests = MOVED / load.length.max(1);
     let rounds = requests / load.at_once.max(1);
     let start = Instant::now(rt)?;
     for _ in 0..rounds {
-        out = out.saturating_add(round(&mut session, alloc, &text, load.piece, &answer)?);
+        let _out = round(session, alloc, text, load.piece, answer)?;
     }
     let took = start.elapsed(rt)?;
+    print_time(rt, load.name, requests, took)
+}
+
+/// Prints the seconds of a GiB and the nanoseconds of a request.
+fn print_time<R: Print>(rt: &R, name: &str, requests: usize, took: Duration) -> anyhow::Result<()> {
     let millis = took.as_millis();
     let each = took.as_nanos() / (requests as u128).max(1);
     let (seconds, rest) = (millis / 1_000, millis % 1_000);
