@@ -54,21 +54,49 @@ fn play<R: Clock + Print>(
     timed: bool,
 ) -> anyhow::Result<()> {
     join(world)?;
+    play_writes(rt, alloc, world, "writes with FUA", true, timed)?;
+    play_flushes(rt, alloc, world, timed)?;
+    play_writes(rt, alloc, world, "writes", false, timed)?;
+    play_reads(rt, alloc, world, timed)
+}
+
+/// Plays flights of writes.
+fn play_writes<R: Clock + Print>(
+    rt: &R,
+    alloc: Global,
+    world: &mut World<PlainStore>,
+    name: &str,
+    fua: bool,
+    timed: bool,
+) -> anyhow::Result<()> {
+    let flights = if timed { FLIGHTS } else { 1 };
+    let start = Instant::now(rt)?;
+    let answered = write_all(world, &flight(alloc, FIRST, fua)?, flights)?;
+    report(rt, name, answered, start.elapsed(rt)?, timed)
+}
+
+/// Plays FLUSHes.
+fn play_flushes<R: Clock + Print>(
+    rt: &R,
+    alloc: Global,
+    world: &mut World<PlainStore>,
+    timed: bool,
+) -> anyhow::Result<()> {
+    let flushes = if timed { FLUSHES } else { 1 };
+    let start = Instant::now(rt)?;
+    let answered = flush_all(world, &flush(alloc)?, flushes)?;
+    report(rt, "flushes", answered, start.elapsed(rt)?, timed)
+}
+
+/// Plays READs of a clean block, and then of a dirty one.
+fn play_reads<R: Clock + Print>(
+    rt: &R,
+    alloc: Global,
+    world: &mut World<PlainStore>,
+    timed: bool,
+) -> anyhow::Result<()> {
     let first = vec![in alloc; FIRST; BLOCK]?;
-    let (flights, flushes, reads) = if timed {
-        (FLIGHTS, FLUSHES, READS)
-    } else {
-        (1, 1, 1)
-    };
-    let start = Instant::now(rt)?;
-    let durable = write_all(world, &flight(alloc, FIRST, true)?, flights)?;
-    report(rt, "writes with FUA", durable, start.elapsed(rt)?, timed)?;
-    let start = Instant::now(rt)?;
-    let flushed = flush_all(world, &flush(alloc)?, flushes)?;
-    report(rt, "flushes", flushed, start.elapsed(rt)?, timed)?;
-    let start = Instant::now(rt)?;
-    let plain = write_all(world, &flight(alloc, FIRST, false)?, flights)?;
-    report(rt, "writes", plain, start.elapsed(rt)?, timed)?;
+    let reads = if timed { READS } else { 1 };
     let start = Instant::now(rt)?;
     let clean = read_clean(world, &read(alloc, DIRTY)?, &first, reads)?;
     report(rt, "clean READs", clean, start.elapsed(rt)?, timed)?;
