@@ -8,6 +8,3 @@
 mod cache;
 
 pub use cache::{CAPACITY, Cache};
-
-#[cfg(test)]
-mod tests;

@@ -31,8 +31,6 @@ mod opening;
 mod refusal;
 mod rule;
 mod seat;
-#[cfg(test)]
-mod tests;
 mod view;
 
 pub use board::Board;

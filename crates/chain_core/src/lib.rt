@@ -24,6 +24,3 @@ mod refusal;
 pub use node::Node;
 pub use out::{Out, Served};
 pub use refusal::{Refusal, Refused};
-
-#[cfg(test)]
-mod tests;

@@ -21,8 +21,3 @@ pub use member::{Incarnation, Member};
 pub use record::{MAX_MEMBERS, Record};
 pub use refusal::Refusal;
 pub use store::ConfigStore;
-
-#[cfg(test)]
-mod store_tests;
-#[cfg(test)]
-mod tests;

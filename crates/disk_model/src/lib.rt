@@ -21,5 +21,3 @@ pub use script::{Event, Script};
 
 #[cfg(test)]
 mod file_tests;
-#[cfg(test)]
-mod tests;

@@ -29,8 +29,6 @@ mod owed_read;
 mod owed_write;
 mod reply;
 mod session_id;
-#[cfg(test)]
-mod tests;
 
 pub use board_name::BoardName;
 pub use error_code::ErrorCode;

@@ -8,6 +8,3 @@
 mod plan;
 
 pub use plan::Plan;
-
-#[cfg(test)]
-mod tests;

@@ -25,6 +25,3 @@ pub use layout::Layout;
 pub use names::FileName;
 pub use refusal::Refusal;
 pub use restarting::{Opened, Refused, restart};
-
-#[cfg(test)]
-mod tests;

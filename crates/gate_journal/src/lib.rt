@@ -31,8 +31,3 @@ pub use pair_slot::MAX_PAYLOAD;
 pub use refusal::Refusal;
 pub use slot::Slot;
 pub use synced::Synced;
-
-#[cfg(test)]
-mod pair_tests;
-#[cfg(test)]
-mod tests;

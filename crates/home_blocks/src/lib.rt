@@ -23,6 +23,3 @@ pub use places::{area_part, disk_size, home_part, superblock_part};
 pub use progress::Progress;
 pub use refusal::Refusal;
 pub use superblock::Superblock;
-
-#[cfg(test)]
-mod tests;

@@ -21,6 +21,3 @@ pub use plain::PlainStore;
 pub use refusal::Refusal;
 pub use store::Store;
 pub use store_like::StoreLike;
-
-#[cfg(test)]
-mod tests;

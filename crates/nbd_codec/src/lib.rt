@@ -34,6 +34,3 @@ pub use option_replies::{OptionReply, write_export, write_option_reply};
 pub use options::{ClientOption, Information, read_option};
 pub use replies::{NbdError, SimpleReply, write_reply};
 pub use requests::{Request, read_request};
-
-#[cfg(test)]
-mod tests;

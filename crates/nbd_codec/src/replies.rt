@@ -1,12 +1,12 @@
 //! Simple replies: doc/proto.md, "Simple reply message".
 
-ghost use Rattle.std.specs.Prelude.{◌≡◌, ◌+◌, ◌<◌, ◌++◌, length, OnErr, OnOk};
+ghost use Rattle.std.specs.Prelude.{◌≡◌, ◌+◌, ◌<◌, ◌++◌, length, IfOk, OnErr, OnOk};
 ghost use Rattle.nbd_codec.specs.Reply.{error_number, reply_encoding, reply_view, encoding};
 
 use crate::constants::*;
 use crate::numbers::{put_u32, put_u64};
 use bytes::BytesMut;
-use std::alloc::AllocError;
+use std::alloc::{AllocError, Global};
 
 /// The error that a reply carries.
 #[derive(Clone, Copy, Debug, PartialEq, Eq)]
@@ -45,6 +45,18 @@ pub struct SimpleReply<'a> {
     pub outcome: Result<&'a [u8], NbdError>,
 }
 
+/// A reply with this error's number, and the payload behind it.
+fn encoded(alloc: Global, cookie: u64, number: u32, payload: &[u8]) -> Result<Vec<u8>, AllocError>
+    ensures { IfOk result (λ reply. reply.items ≡ reply_encoding number cookie payload.now) }
+{
+    let mut reply = Vec::with_capacity(alloc, REPLY_HEADER + payload.len())?;
+    reply.extend_from_slice(&SIMPLE_REPLY_MAGIC.to_be_bytes())?;
+    reply.extend_from_slice(&number.to_be_bytes())?;
+    reply.extend_from_slice(&cookie.to_be_bytes())?;
+    reply.extend_from_slice(payload)?;
+    Ok(reply)
+}
+
 /// Puts a reply with this error's number at the end, and the payload behind it.
 fn put_reply(out: &mut BytesMut, cookie: u64, number: u32, payload: &[u8]) -> Result<(), AllocError>
     ensures ok { OnOk result (out.new.items ≡ out.old.items
@@ -52,7 +64,13 @@ fn put_reply(out: &mut BytesMut, cookie: u64, number: u32, payload: &[u8]) -> Re
     ensures err { OnErr result (out.new.items ≡ out.old.items) }
     ensures short { OnErr result (out.old.spare < REPLY_HEADER + length payload.now) }
 {
-    out.reserve(REPLY_HEADER + payload.len())?;
+    let room = REPLY_HEADER + payload.len();
+    // A first reply is made outside: `reserve` would set the room for it to zero.
+    if out.is_empty() && out.capacity() < room {
+        *out = BytesMut::from_vec(encoded(*out.allocator(), cookie, number, payload)?);
+        return Ok(());
+    }
+    out.reserve(room)?;
     put_u32(out, SIMPLE_REPLY_MAGIC);
     put_u32(out, number);
     put_u64(out, cookie);

@@ -15,8 +15,6 @@ mod laws;
 mod phase;
 mod refusal;
 mod session;
-#[cfg(test)]
-mod tests;
 mod wanted;
 
 pub use demand::Demand;

@@ -13,6 +13,3 @@ mod search;
 pub use choice::choose;
 pub use refusal::Refusal;
 pub use returned::{Returned, Source};
-
-#[cfg(test)]
-mod tests;

@@ -1,6 +1,7 @@
 //! A client, as the owner has it: its two threads, and how far they are.
-ghost use Rattle.std.specs.Prelude.{◌≡◌, ◌⊎◌, IfOk, IfSome, IsNone, IsSome, true, false};
+ghost use Rattle.std.specs.Prelude.{◌≡◌, ◌≤◌, ◌⊎◌, ◌↔◌, IfOk, IfSome, IsNone, IsSome, IsTrue, Some, length, true, false};
 ghost use Rattle.server.specs.Flow.{Fed, Given, HasRoom, Leave, MayWrite, Written, after};
+ghost use Rattle.server.specs.Owner.{IsSendingMore};
 
 use crate::event::{Event, PIECE, Piece};
 use crate::flow::Flow;
@@ -23,6 +24,8 @@ pub(crate) struct Client {
     buffers: Option<Sender<Vec<u8>>>,
     // the buffer, while the reader doesn't have it
     spare: Option<Vec<u8>>,
+    // behind how many commits its last piece came, if that filled its buffer: more is likely to come at once
+    full_at: Option<u64>,
     outputs: Sender<BytesMut>,
     reader: JoinHandle<()>,
     writer: JoinHandle<()>,
@@ -68,6 +71,7 @@ impl Client {
             stream,
             buffers: Some(buffers),
             spare: Some(spare),
+            full_at: None,
             outputs,
             reader,
             writer,
@@ -90,13 +94,22 @@ impl Client {
         }
     }
 
-    /// The reader's piece was fed.
-    pub(crate) fn take_back(&mut self, piece: Piece)
+    /// The reader's piece was fed, behind so many commits.
+    pub(crate) fn take_back(&mut self, piece: Piece, commits: u64)
         ensures flow { self.new.flow ≡ after self.old.flow Fed }
         ensures session { self.new.session ≡ self.old.session }
+        ensures full { self.new.full_at ≡ Some commits ↔ length piece.buffer.items ≤ piece.len }
     {
         self.flow.feed();
+        self.full_at = (piece.buffer.len() <= piece.len).then_some(commits);
         self.spare = Some(piece.buffer);
+    }
+
+    /// Whether its last piece came behind so many commits and filled its buffer, and the reader reads on.
+    pub(crate) fn sends_more(&self, commits: u64) -> bool
+        ensures { IsTrue result ↔ IsSendingMore commits self.now }
+    {
+        self.full_at == Some(commits) && self.flow.reading
     }
 
     /// The writer is to write.
@@ -140,6 +153,7 @@ impl Client {
             stream: _,
             buffers,
             spare: _,
+            full_at: _,
             outputs,
             reader,
             writer,

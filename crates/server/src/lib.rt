@@ -21,6 +21,3 @@ pub use listening::listen;
 pub use owner::serve;
 pub use refusal::Refusal;
 pub use sessions::{Output, Sessions, Stop};
-
-#[cfg(test)]
-mod tests;

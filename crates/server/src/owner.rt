@@ -1,7 +1,7 @@
 //! The owner of all sessions, and the loop in which it plays.
-ghost use Rattle.std.specs.Prelude.{◌≡◌, ◌≢◌, ◌⊎◌, ◌↔◌, ◌<◌, ◌≤◌, Some, true, false, All, length, slice_get, IfErr, IfNone, IfSome, IsTrue};
+ghost use Rattle.std.specs.Prelude.{◌≡◌, ◌≢◌, ◌⊎◌, ◌↔◌, ◌+◌, ◌^◌, ◌<◌, ◌≤◌, Some, true, false, All, Any, length, slice_get, IfErr, IfNone, IfSome, IsTrue};
 ghost use Rattle.server.specs.Flow.{IsDone, MayWrite};
-ghost use Rattle.server.specs.Owner.{IsOver, WantsMore};
+ghost use Rattle.server.specs.Owner.{IsAtWork, IsOver, IsSendingMore, WantsMore};
 
 use crate::client::Client;
 use crate::event::{Event, Piece};
@@ -25,11 +25,19 @@ const MAX_EVENTS: usize = 256;
 /// The milliseconds in which nothing is told before the world takes its steps for idle time.
 const PAUSE: u64 = 5;
 
+/// How often in turn a commit waits for another piece, at most: 64 writes of 4 KiB come in five.
+const MAX_GATHERED: u32 = 8;
+
+/// The microseconds that it waits for one.
+const GATHERING: u64 = 200;
+
 /// How the owner goes on.
 #[derive(Clone, Copy, Debug, PartialEq, Eq)]
 enum Mode {
     /// Something was done: more may be to do.
     Busy,
+    /// A client sends more than a piece: a commit waits for the next one, so that it carries both.
+    Gathers,
     /// Nothing is to do, which may change at once.
     Pauses,
     /// Nothing was told for a while: the world takes its steps for idle time.
@@ -68,6 +76,8 @@ pub fn serve<R: Threads + Wait + Clock + Log + Copy + Send + 'static, S: Session
         begun: 0,
         wanted: sessions,
         accepting: false,
+        gathered: 0,
+        commits: 0,
         refusal: None,
         stop_is_told: false,
     };
@@ -93,6 +103,10 @@ struct Owner {
     wanted: u64,
     // the acceptor has leave
     accepting: bool,
+    // how often in turn a commit has waited for another piece
+    gathered: u32,
+    // the commits so far
+    commits: u64,
     refusal: Option<io::Error>,
     stop_is_told: bool,
 }
@@ -113,6 +127,10 @@ impl Owner {
             self.tell_stop(rt, world);
             let served = self.hand_out(rt, world);
             self.forget(rt);
+            if self.gathers(told) {
+                mode = Mode::Gathers;
+                continue;
+            }
             let committed = world.commit();
             let goes_on = played || served || committed;
             if !goes_on && self.is_done() {
@@ -132,6 +150,8 @@ impl Owner {
             begun: _,
             wanted: _,
             accepting: _,
+            gathered: _,
+            commits: _,
             refusal,
             stop_is_told: _,
         } = self;
@@ -150,6 +170,28 @@ impl Owner {
         ensures { IsTrue result ↔ IsOver self.now }
     {
         !self.wants_more() && self.clients.is_empty() && !self.accepting
+    }
+
+    /// Whether a commit waits for another piece: something was told, a client's last piece since the last commit filled its
+    /// buffer, and its reader reads on. So often in turn at most.
+    fn gathers(&mut self, told: bool) -> bool
+        ensures told { result ≡ true → told ≡ true }
+        ensures more { result ≡ true → Any (IsSendingMore self.old.commits) self.old.clients.items }
+        ensures bounded { result ≡ true → (self.old.gathered < MAX_GATHERED) × (self.new ≡ record self.old { gathered = self.old.gathered + 1 }) }
+        ensures commits { result ≡ false → self.new ≡ record self.old { gathered = 0; commits = self.new.commits } }
+        ensures next { result ≡ false → self.old.commits + 1 < 2 ^ 64 → self.new.commits ≡ self.old.commits + 1 }
+    {
+        let commits = self.commits;
+        let gathers = told
+            && self.gathered < MAX_GATHERED
+            && self.clients.iter().any(|client| client.sends_more(commits));
+        if gathers {
+            self.gathered += 1;
+        } else {
+            self.gathered = 0;
+            self.commits = commits.saturating_add(1);
+        }
+        gathers
     }
 
     /// Lets the acceptor accept a client, while there is room for one.
@@ -255,7 +297,7 @@ impl Owner {
         };
         let client = &mut self.clients[place];
         let taken = client.flow.closed || world.bytes(session, &piece.buffer[..piece.len]);
-        client.take_back(piece);
+        client.take_back(piece, self.commits);
         if !taken {
             client.end(world);
         }
@@ -332,6 +374,9 @@ impl Owner {
 fn first_told<R: Wait + Clock>(rt: &R, events: &Receiver<Event>, mode: Mode) -> Option<Event> {
     match mode {
         Mode::Busy | Mode::Rests => events.try_recv(rt).ok(),
+        Mode::Gathers => events
+            .recv_timeout(rt, Duration::from_micros(GATHERING))
+            .ok(),
         Mode::Pauses => events.recv_timeout(rt, Duration::from_millis(PAUSE)).ok(),
         Mode::Sleeps => events.recv(rt).ok(),
     }
@@ -341,13 +386,13 @@ fn first_told<R: Wait + Clock>(rt: &R, events: &Receiver<Event>, mode: Mode) -> 
 /// idle time, and goes on so until something is told.
 fn next_mode<S: Sessions>(mode: Mode, told: bool, goes_on: bool, world: &mut S) -> Mode
     ensures busy { goes_on ≡ true → (result ≡ Mode.Busy) × (world.new ≡ world.old) }
-    ensures pauses { goes_on ≡ false → (told ≡ true) ⊎ (mode ≡ Mode.Busy) → (result ≡ Mode.Pauses) × (world.new ≡ world.old) }
-    ensures idle { goes_on ≡ false → told ≡ false → mode ≢ Mode.Busy → (result ≡ Mode.Rests) ⊎ (result ≡ Mode.Sleeps) }
+    ensures pauses { goes_on ≡ false → (told ≡ true) ⊎ IsAtWork mode → (result ≡ Mode.Pauses) × (world.new ≡ world.old) }
+    ensures idle { goes_on ≡ false → told ≡ false → ¬ IsAtWork mode → (result ≡ Mode.Rests) ⊎ (result ≡ Mode.Sleeps) }
 {
     if goes_on {
         return Mode::Busy;
     }
-    if told || mode == Mode::Busy {
+    if told || mode == Mode::Busy || mode == Mode::Gathers {
         return Mode::Pauses;
     }
     if world.rest() {

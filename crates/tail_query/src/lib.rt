@@ -33,6 +33,3 @@ pub fn front_of(asked: u64, k: u64) -> u64
 {
     asked.max(k)
 }
-
-#[cfg(test)]
-mod tests;

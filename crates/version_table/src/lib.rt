@@ -15,6 +15,3 @@ pub use kept::{Kept, Origin};
 pub use laws::kept_writes_go_on;
 pub use refusal::Refusal;
 pub use table::{MAX_DATA, MAX_KEPT, Table};
-
-#[cfg(test)]
-mod tests;

@@ -21,6 +21,3 @@ pub use laws::{
 pub use piece::{Piece, PieceIter, pieces};
 pub use refusal::Refusal;
 pub use write::{Write, patch};
-
-#[cfg(test)]
-mod tests;

@@ -19,8 +19,6 @@ mod lists;
 mod machine;
 mod request;
 mod taken;
-#[cfg(test)]
-mod tests;
 
 pub use chain_laws::{
     chains_begin_again, commits_are_of_one_volume, demands_are_of_one_volume,

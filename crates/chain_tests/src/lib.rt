@@ -1,0 +1,22 @@
+//! Tests of the crates between a chain's members and its clients: worked rows, outside vectors of the protocol, and each
+//! public call once. A crate with tests is proved twice, so these stand beside their crates and not in them.
+#![tactic(auto)]
+
+#[cfg(test)]
+mod board_tests;
+#[cfg(test)]
+mod chain_core_tests;
+#[cfg(test)]
+mod flush_barrier_tests;
+#[cfg(test)]
+mod nbd_codec_tests;
+#[cfg(test)]
+mod nbd_session_tests;
+#[cfg(test)]
+mod server_tests;
+#[cfg(test)]
+mod tail_query_tests;
+#[cfg(test)]
+mod version_table_tests;
+#[cfg(test)]
+mod world_model_tests;

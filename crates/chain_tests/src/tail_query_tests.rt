@@ -1,0 +1,36 @@
+// A table with one write, of the number 1, in block 0.
+use bytes::Bytes;
+use std::process::Abort;
+use std::test::Fail;
+use tail_query::{Plan, front_of, plan};
+use version_table::{Origin, Table};
+use volume::Write;
+
+fn plan_at(rt: &impl Abort, table: &Table, offset: u64, k: u64) -> Plan {
+    assert!(rt; table.forgotten() <= k && k <= table.applied());
+    assert!(rt; offset <= 8_192);
+    plan(table, offset, 4_096, k)
+}
+
+#[test]
+fn dirty_and_clean_ranges(rt: HostRuntime) -> Result<(), Fail> {
+    let mut table = Table::new(rt.alloc(), 0);
+    let write = Write::new(4_095, Bytes::copy_from_slice(rt.alloc(), &[1])?);
+    let origin = Origin {
+        slot: 0,
+        incarnation: 1,
+        ticket: 1,
+    };
+    table.apply(1, &write, origin)?;
+    assert_eq!(rt; plan_at(&rt, &table, 0, 0), Plan::Ask);
+    assert_eq!(rt; plan_at(&rt, &table, 0, 1), Plan::Local);
+    assert_eq!(rt; plan_at(&rt, &table, 4_096, 0), Plan::Local);
+    Ok(())
+}
+
+#[test]
+fn fronts(rt: HostRuntime) {
+    for (asked, k, front) in [(3, 2, 3), (2, 3, 3), (0, 0, 0)] {
+        assert_eq!(rt; front_of(asked, k), front);
+    }
+}

@@ -1,5 +1,0 @@
-use Rattle.std.proofs.Common.{vec_len}
-use Rattle.nbd_session.proofs.tests.note.Given as goal
-
-abbrev pub decreases-loop-demand : goal.decreases-loop-demand
-decreases-loop-demand l = vec_len l.demands

@@ -1,0 +1,146 @@
+// What no clause says of a store: the bytes, the calls of the device, and stops that were really played.
+use super::configurations_tests::record;
+use configurations::{ConfigStore, Epoch, Refusal};
+use disk_model::{Cut, Disk, DiskError, Event, MemDisk, Part, Script};
+use gate_journal::PAIR_SIZE;
+use std::alloc::Global;
+use std::process::Abort;
+use std::test::Fail;
+
+// The members of a fresh chain of three.
+const THREE: [(u8, u64); 3] = [(0, 1), (1, 1), (2, 1)];
+
+// What a slot begins with that holds the first record of a fresh chain of three.
+const FIRST: [u8; 61] =
+    *b"\x01\0\0\0\0\0\0\0\x01\0\0\0\x30CRAQCONF\x00\x00\x00\x01\x00\x00\x00\x00\x00\x00\x00\x01\x03\x00\x00\x00\x00\x00\x00\x00\x00\x01\x01\x00\x00\x00\x00\x00\x00\x00\x01\x02\x00\x00\x00\x00\x00\x00\x00\x01";
+
+#[test]
+fn records(rt: HostRuntime) -> Result<(), Fail> {
+    let alloc = rt.alloc();
+    let part = Part::new(3, PAIR_SIZE);
+    let mut disk = MemDisk::new(alloc, 3 + PAIR_SIZE, Script::new(alloc))?;
+    let mut store = ConfigStore::create(alloc, &mut disk, part, record(alloc, 1, &THREE)?)?;
+    assert_eq!(rt;
+        (store.part(), store.current().epoch().number(), disk.calls()),
+        (part, 1, 12)
+    );
+    let mut bytes = [9; 61];
+    part.read(&mut disk, 0, &mut bytes)?;
+    assert_eq!(rt; bytes, FIRST);
+
+    store.begin_record(&mut disk, Epoch::new(2).ok_or("an epoch")?)?;
+    assert_eq!(rt; (disk.calls(), store.is_begun()), (15, true));
+    store.end_record(alloc, &mut disk, record(alloc, 2, &THREE[1..])?)?;
+    assert_eq!(rt; disk.calls(), 19);
+    store.record(alloc, &mut disk, record(alloc, 3, &THREE[2..])?)?;
+    assert_eq!(rt; disk.calls(), 25);
+
+    let opened = ConfigStore::open(alloc, &mut disk, part)?;
+    assert_eq!(rt; opened.current().epoch().number(), 3);
+    assert_eq!(rt;
+        opened.current().members(),
+        record(alloc, 3, &THREE[2..])?.members()
+    );
+    Ok(())
+}
+
+// What a record of this epoch is refused with behind the first, and how many device calls it makes.
+fn told_behind_the_first(alloc: Global, epoch: u64) -> Result<(Option<Refusal>, u64), Fail> {
+    let part = Part::new(0, PAIR_SIZE);
+    let mut disk = MemDisk::new(alloc, PAIR_SIZE, Script::new(alloc))?;
+    let mut store = ConfigStore::create(alloc, &mut disk, part, record(alloc, 1, &THREE)?)?;
+    let told = store.record(alloc, &mut disk, record(alloc, epoch, &THREE)?);
+    Ok((told.err(), disk.calls()))
+}
+
+#[test]
+fn not_next(rt: HostRuntime) -> Result<(), Fail> {
+    for (epoch, told, calls) in [
+        (0, Some(Refusal::NotNext), 12),
+        (1, Some(Refusal::NotNext), 12),
+        (2, None, 18),
+        (3, Some(Refusal::NotNext), 12),
+    ] {
+        assert_eq!(rt;
+            told_behind_the_first(rt.alloc(), epoch)?,
+            (told, calls),
+            "epoch {epoch}"
+        );
+    }
+    Ok(())
+}
+
+#[test]
+fn nothing_recorded(rt: HostRuntime) -> Result<(), Fail> {
+    let alloc = rt.alloc();
+    let part = Part::new(0, PAIR_SIZE);
+    let mut disk = MemDisk::new(alloc, PAIR_SIZE, Script::new(alloc))?;
+    let blank = ConfigStore::open(alloc, &mut disk, part).err();
+    assert_eq!(rt; blank, Some(Refusal::NoRecord));
+    let store = ConfigStore::create(alloc, &mut disk, part, record(alloc, 1, &THREE)?)?;
+    assert_eq!(rt; store.current().members().len(), 3);
+    part.write_at(&mut disk, 13, b"CRAQDISK")?;
+    let other = ConfigStore::open(alloc, &mut disk, part).err();
+    assert_eq!(rt; other, Some(Refusal::NoRecord));
+    for (refusal, number, text) in [
+        (Refusal::Memory, 100, "100 Memory"),
+        (Refusal::Broken, 122, "122 Broken"),
+        (Refusal::NoRecord, 161, "161 NoRecord"),
+        (Refusal::NotNext, 162, "162 NotNext"),
+        (Refusal::Device(DiskError::SyncFault), 103, "103 SyncFault"),
+    ] {
+        assert_eq!(rt;
+            (refusal.number(), refusal.to_string(alloc)?.as_str()),
+            (Some(number), text)
+        );
+    }
+    Ok(())
+}
+
+// A stop in a call of a third record, after so many bytes of it, and whether this record is found then, where a cut left
+// all that was written, and where it left none of what no sync had reached.
+const STOPS: [(u64, u64, bool, bool); 9] = [
+    (1, 0, false, false),
+    (1, 1, false, false),
+    (2, 0, false, false),
+    (3, 0, false, false),
+    (3, 8, false, false),
+    (4, 0, false, false),
+    (5, 0, false, false),
+    (5, 1, true, false),
+    (6, 0, true, false),
+];
+
+// Stops the third record, cuts, opens, and says which epoch is found.
+fn epoch_after(rt: &impl Abort, alloc: Global, event: Event, cut: Cut) -> Result<u64, Fail> {
+    let part = Part::new(0, PAIR_SIZE);
+    let mut disk = MemDisk::new(alloc, PAIR_SIZE, Script::new(alloc))?;
+    let mut store = ConfigStore::create(alloc, &mut disk, part, record(alloc, 1, &THREE)?)?;
+    store.record(alloc, &mut disk, record(alloc, 2, &THREE[1..])?)?;
+    disk.arm(event)?;
+    let told = store.record(alloc, &mut disk, record(alloc, 3, &THREE[2..])?);
+    assert_eq!(rt; told.err(), Some(Refusal::Device(DiskError::Stopped)));
+    let again = store.record(alloc, &mut disk, record(alloc, 3, &THREE[2..])?);
+    assert_eq!(rt; again.err(), Some(Refusal::Broken));
+    disk.cut(cut);
+    let opened = ConfigStore::open(alloc, &mut disk, part)?;
+    Ok(opened.current().epoch().number())
+}
+
+#[test]
+fn stops(rt: HostRuntime) -> Result<(), Fail> {
+    for (call, bytes, after_all, after_none) in STOPS {
+        let event = Event::StopAt { call, bytes };
+        let found = (
+            epoch_after(&rt, rt.alloc(), event, Cut::All)?,
+            epoch_after(&rt, rt.alloc(), event, Cut::None)?,
+        );
+        let epoch = |is_new: bool| if is_new { 3 } else { 2 };
+        assert_eq!(rt;
+            found,
+            (epoch(after_all), epoch(after_none)),
+            "call {call}, {bytes} bytes"
+        );
+    }
+    Ok(())
+}

@@ -1,0 +1,18 @@
+use flusher::Plan;
+use std::test::Fail;
+
+#[test]
+fn round_and_round(rt: HostRuntime) -> Result<(), Fail> {
+    let mut pending = [None; 9];
+    let mut plan = Plan::new();
+    assert_eq!(rt; plan.next(&pending), None);
+    for block in [7, 0, 8] {
+        pending[block] = Some(());
+    }
+    for block in [0, 7, 8, 0, 7] {
+        assert_eq!(rt; plan.next(&pending), Some(block));
+    }
+    pending[8] = None;
+    assert_eq!(rt; plan.next(&pending), Some(0));
+    Ok(())
+}

@@ -1,0 +1,251 @@
+// What no clause says: the bytes of the format, the calls of the device, and stops that were really played.
+ghost use Rattle.std.specs.Prelude.{◌≡◌, ◌+◌, ◌≤◌};
+
+use disk_model::{Cut, Disk, DiskError, Event, MemDisk, Part, Script};
+use gate_journal::{IMAGE_SIZE, Image, Journal, MAX_NUMBER, Refusal, Slot, Synced};
+use std::alloc::{AllocError, Global};
+use std::process::Abort;
+use std::test::Fail;
+
+fn image(block: u32, byte: u8) -> Image {
+    Image {
+        block,
+        bytes: [byte; IMAGE_SIZE],
+    }
+}
+
+// Appends what the journal takes.
+fn append<D: Disk>(
+    rt: &impl Abort,
+    alloc: Global,
+    journal: &mut Journal,
+    disk: &mut D,
+    front: u64,
+    images: &[Image],
+) -> Result<Synced, Refusal>
+    requires { journal.old.part.start + journal.old.part.len ≤ D.size disk.old }
+    ensures part { journal.new.part ≡ journal.old.part }
+    ensures size { D.size disk.new ≡ D.size disk.old }
+{
+    assert!(rt; journal.are_images(images) && journal.front() < front && front <= MAX_NUMBER);
+    journal.append(alloc, disk, front, images)
+}
+
+// A stop in a call of `append`, after so many bytes of it, and how many batches are found then, where a cut left all
+// that was written, and where it left none of what no sync had reached.
+const STOPS: [(u64, u64, usize, usize); 8] = [
+    (1, 0, 1, 1),
+    (1, 1, 1, 1),
+    (1, 2056, 1, 1),
+    (1, 4113, 1, 1),
+    (2, 0, 1, 1),
+    (3, 0, 1, 1),
+    (3, 1, 2, 1),
+    (4, 0, 2, 1),
+];
+
+// Two batches of an image, and the gate behind them.
+const TWO: u64 = 8_227;
+
+// Stops the second `append`, cuts, opens, and says how many batches are found, of which each is what was appended.
+fn found_after(
+    rt: &impl Abort,
+    alloc: Global,
+    slot: Slot,
+    event: Event,
+    cut: Cut,
+) -> Result<usize, Fail> {
+    let part = Part::new(5, TWO);
+    let mut disk = MemDisk::new(alloc, 5 + TWO, Script::new(alloc))?;
+    let mut journal = Journal::create(&mut disk, part, slot, 4, 6)?;
+    assert_eq!(rt; disk.calls(), 2);
+    let receipt = append(rt, alloc, &mut journal, &mut disk, 9, &[image(0, 7)])?;
+    assert_eq!(rt; (receipt.front(), disk.calls()), (9, 6));
+    disk.arm(event)?;
+    let told = append(rt, alloc, &mut journal, &mut disk, 11, &[image(3, 8)]);
+    assert_eq!(rt; told.err(), Some(Refusal::Device(DiskError::Stopped)));
+    let again = append(rt, alloc, &mut journal, &mut disk, 11, &[image(3, 8)]);
+    assert_eq!(rt; again.err(), Some(Refusal::Broken));
+    disk.cut(cut);
+
+    let (_, batches) = Journal::open(alloc, &mut disk, part, slot, 4, 6)?;
+    let wanted = [(9, image(0, 7)), (11, image(3, 8))];
+    for (batch, (front, image)) in batches.iter().zip(wanted) {
+        assert_eq!(rt; batch.front(), front);
+        assert_eq!(rt; batch.images(), [image].as_slice());
+    }
+    Ok(batches.len())
+}
+
+#[test]
+fn stops(rt: HostRuntime) -> Result<(), Fail> {
+    let slot = Slot::new(3).ok_or("a slot")?;
+    for (call, bytes, after_all, after_none) in STOPS {
+        let event = Event::StopAt { call, bytes };
+        let found = (
+            found_after(&rt, rt.alloc(), slot, event, Cut::All)?,
+            found_after(&rt, rt.alloc(), slot, event, Cut::None)?,
+        );
+        assert_eq!(rt;
+            found,
+            (after_all, after_none),
+            "call {call}, {bytes} bytes"
+        );
+    }
+    Ok(())
+}
+
+// What the device calls of `append`, and then those of `read_all` that find one batch, answer where one fails.
+#[test]
+fn faults(rt: HostRuntime) -> Result<(), Fail> {
+    let alloc = rt.alloc();
+    let part = Part::new(0, TWO);
+    let slot = Slot::new(0).ok_or("a slot")?;
+    for (call, fault) in [
+        (1, DiskError::WriteFault),
+        (2, DiskError::SyncFault),
+        (3, DiskError::WriteFault),
+        (4, DiskError::SyncFault),
+    ] {
+        let mut disk = MemDisk::new(alloc, TWO, Script::new(alloc))?;
+        let mut journal = Journal::create(&mut disk, part, slot, 1, 0)?;
+        disk.arm(Event::FailAt { call })?;
+        let told = append(&rt, alloc, &mut journal, &mut disk, 1, &[image(0, 1)]);
+        assert_eq!(rt; told.err(), Some(Refusal::Device(fault)), "{call}");
+        assert_eq!(rt;
+            journal.read_all(alloc, &mut disk).err(),
+            Some(Refusal::Broken)
+        );
+        assert_eq!(rt; disk.calls(), 2 + call);
+    }
+    for call in 1..=4 {
+        let mut disk = MemDisk::new(alloc, TWO, Script::new(alloc))?;
+        let mut journal = Journal::create(&mut disk, part, slot, 1, 0)?;
+        append(&rt, alloc, &mut journal, &mut disk, 1, &[image(0, 1)])?;
+        assert_eq!(rt; journal.read_all(alloc, &mut disk)?.len(), 1);
+        assert_eq!(rt; disk.calls(), 10);
+        disk.arm(Event::FailAt { call })?;
+        let told = journal.read_all(alloc, &mut disk).err();
+        assert_eq!(rt; told, Some(Refusal::Device(DiskError::ReadFault)), "{call}");
+        assert!(rt; journal.is_broken());
+    }
+    Ok(())
+}
+
+// An open gate, a front, a count, and blocks of zeros under these numbers.
+fn encode(bytes: &mut Vec<u8>, front: u64, count: u32, blocks: &[u32]) -> Result<(), AllocError> {
+    bytes.push(1)?;
+    bytes.extend_from_slice(&front.to_be_bytes())?;
+    bytes.extend_from_slice(&count.to_be_bytes())?;
+    for block in blocks {
+        bytes.extend_from_slice(&block.to_be_bytes())?;
+        bytes.extend_from_slice(&[0; 4_096])?;
+    }
+    Ok(())
+}
+
+// What `open` says of an area with these bytes at its front, for 4 blocks behind the front 6: the last front.
+fn opened(alloc: Global, area: u32, bytes: &[u8]) -> Result<Result<u64, Refusal>, Fail> {
+    let part = Part::new(0, u64::from(area));
+    let mut disk = MemDisk::new(alloc, u64::from(area), Script::new(alloc))?;
+    disk.write_at(0, &bytes[..bytes.len().min(area as usize)])?;
+    let slot = Slot::new(0).ok_or("a slot")?;
+    let (journal, _batches) = match Journal::open(alloc, &mut disk, part, slot, 4, 6) {
+        Ok(opened) => opened,
+        Err(refusal) => return Ok(Err(refusal)),
+    };
+    Ok(Ok(journal.front()))
+}
+
+// A first batch of the front 7 with block 1, and a second: its front, its count and its blocks; the area's length; and
+// the last front, where it isn't damage. Two such batches have 8,226 bytes.
+const SECONDS: [(u64, u32, &[u32], u32, Option<u64>); 14] = [
+    (8, 1, &[3], 8_227, Some(8)),
+    (8, 1, &[3], 8_226, None),
+    (8, 1, &[3], 8_225, None),
+    (8, 1, &[3], 4_127, None),
+    (8, 1, &[3], 4_114, None),
+    (8, 2, &[3, 0], 12_327, Some(8)),
+    (8, 2, &[3, 3], 12_327, None),
+    (8, 2, &[3, 4], 12_327, None),
+    (8, 0, &[], 8_227, None),
+    (8, 0xffff_ffff, &[3], 8_227, None),
+    (7, 1, &[3], 8_227, None),
+    (
+        0x7fff_ffff_ffff_ffff,
+        1,
+        &[3],
+        8_227,
+        Some(0x7fff_ffff_ffff_ffff),
+    ),
+    (0x8000_0000_0000_0000, 1, &[3], 8_227, None),
+    (0xffff_ffff_ffff_ffff, 1, &[3], 8_227, None),
+];
+
+#[test]
+fn damage(rt: HostRuntime) -> Result<(), Fail> {
+    let alloc = rt.alloc();
+    for (front, count, blocks, area, last) in SECONDS {
+        let mut bytes = Vec::new(alloc);
+        encode(&mut bytes, 7, 1, &[1])?;
+        encode(&mut bytes, front, count, blocks)?;
+        let wanted = last.ok_or(Refusal::Damaged);
+        assert_eq!(rt;
+            opened(alloc, area, &bytes)?,
+            wanted,
+            "{front} {count} {area}"
+        );
+    }
+    // Any byte but 1 closes a gate, and no byte is no gate.
+    assert_eq!(rt; opened(alloc, 1, &[0xff])?, Ok(6));
+    assert_eq!(rt; opened(alloc, 1, &[1])?, Err(Refusal::Damaged));
+    assert_eq!(rt; opened(alloc, 0, &[])?, Err(Refusal::Damaged));
+    Ok(())
+}
+
+#[test]
+fn full(rt: HostRuntime) -> Result<(), Fail> {
+    let alloc = rt.alloc();
+    let slot = Slot::new(7).ok_or("a slot")?;
+    for (area, room, told) in [
+        (4_113, 0, Some(Refusal::Full)),
+        (4_114, 1, None),
+        (8_213, 1, None),
+        (8_214, 2, None),
+    ] {
+        let part = Part::new(0, area);
+        let mut disk = MemDisk::new(alloc, area, Script::new(alloc))?;
+        let mut journal = Journal::create(&mut disk, part, slot, 1, 0)?;
+        assert_eq!(rt; journal.room(), room, "{area}");
+        let first = append(
+            &rt,
+            alloc,
+            &mut journal,
+            &mut disk,
+            MAX_NUMBER,
+            &[image(0, 1)],
+        );
+        assert_eq!(rt; first.err(), told, "{area}");
+        assert_eq!(rt; journal.part(), part);
+    }
+    Ok(())
+}
+
+#[test]
+fn numbers(rt: HostRuntime) -> Result<(), Fail> {
+    for (refusal, number, text) in [
+        (Refusal::Memory, Some(100), "100 Memory"),
+        (Refusal::Full, Some(121), "121 Full"),
+        (Refusal::Broken, Some(122), "122 Broken"),
+        (Refusal::Damaged, Some(123), "123 Damaged"),
+        (
+            Refusal::Device(DiskError::SyncFault),
+            Some(103),
+            "103 SyncFault",
+        ),
+    ] {
+        assert_eq!(rt; refusal.number(), number);
+        assert_eq!(rt; refusal.to_string(rt.alloc())?.as_str(), text);
+    }
+    Ok(())
+}

@@ -1,0 +1,124 @@
+// Worked rows, and each call once over a disk in memory.
+use disk_model::{MemDisk, Script};
+use gate_journal::{GatedPair, PAIR_SIZE, Slot};
+use home_blocks::{
+    Area, Home, Progress, Refusal, Superblock, area_part, disk_size, home_part, superblock_part,
+};
+use std::test::Fail;
+use volume::Geometry;
+
+// The superblock of slot 2, incarnation 1, 8 blocks, areas of 8,214 bytes and payloads of 4,096, at front 0 and area 0.
+const ROW: [u8; Superblock::SIZE] =
+    *b"CRAQDISK\0\0\0\x01\x01\x02\0\0\0\0\0\0\0\x01\0\0\0\x08\0\0\x20\x16\0\0\x10\0\0\0\0\0\0\0\0\0\0";
+
+// The same superblock, and one of a disk that is being installed.
+fn superblock(progress: Progress) -> Result<Superblock, Fail> {
+    let slot = Slot::new(2).ok_or("a slot")?;
+    let geometry = Geometry::new(8, 8_214, 4_096)?;
+    Ok(Superblock::new(progress, slot, 1, geometry, 0, Area::First))
+}
+
+#[test]
+fn a_superblock(rt: HostRuntime) -> Result<(), Fail> {
+    let row = superblock(Progress::Whole)?;
+    assert_eq!(rt; row.encoded(), ROW);
+    assert_eq!(rt; Superblock::read(&ROW)?, row);
+    assert_eq!(rt;
+        (row.progress(), row.slot().number(), row.incarnation()),
+        (Progress::Whole, 2, 1)
+    );
+    assert_eq!(rt;
+        (row.front(), row.current(), row.current().other()),
+        (0, Area::First, Area::Second)
+    );
+    let mut other = ROW;
+    other[11] = 2;
+    assert_eq!(rt; Superblock::read(&other).err(), Some(Refusal::OtherVersion));
+    other[7] = b'!';
+    assert_eq!(rt; Superblock::read(&other).err(), Some(Refusal::NotAVolume));
+    Ok(())
+}
+
+#[test]
+fn places(rt: HostRuntime) -> Result<(), Fail> {
+    let geometry = superblock(Progress::Whole)?.geometry();
+    assert_eq!(rt; disk_size(geometry), 57_388);
+    let (superblock, home) = (superblock_part(), home_part(geometry));
+    assert_eq!(rt; (superblock.start(), superblock.len()), (0, 8_192));
+    assert_eq!(rt; (home.start(), home.len()), (8_192, 32_768));
+    let (first, second) = (
+        area_part(geometry, Area::First),
+        area_part(geometry, Area::Second),
+    );
+    assert_eq!(rt; (first.start(), first.len()), (40_960, 8_214));
+    assert_eq!(rt; (second.start(), second.len()), (49_174, 8_214));
+    Ok(())
+}
+
+#[test]
+fn a_home(rt: HostRuntime) -> Result<(), Fail> {
+    let alloc = rt.alloc();
+    let fresh = superblock(Progress::Installing)?;
+    let mut disk = MemDisk::new(alloc, disk_size(fresh.geometry()), Script::new(alloc))?;
+    let (mut home, receipt) = Home::create(&mut disk, fresh)?;
+    assert_eq!(rt; (receipt.slot(), receipt.front()), (fresh.slot(), 0));
+    assert_eq!(rt; (home.superblock(), home.is_broken()), (fresh, false));
+    assert_eq!(rt; home.superblock().geometry().blocks, 8);
+
+    home.write_home(&mut disk, 7, &[5; 4_096])?;
+    home.sync_home(&mut disk)?;
+    let receipt = home.mark(&mut disk, 9, Area::Second)?;
+    assert_eq!(rt; (receipt.slot(), receipt.front()), (fresh.slot(), 9));
+
+    let home = Home::open(alloc, &mut disk)?;
+    let (slot, geometry) = (fresh.slot(), fresh.geometry());
+    let marked = Superblock::new(Progress::Whole, slot, 1, geometry, 9, Area::Second);
+    assert_eq!(rt; home.superblock(), marked);
+    assert_eq!(rt; home.superblock().geometry().blocks, 8);
+    let mut bytes = [9; 4_096];
+    home.read_home(&mut disk, 7, &mut bytes)?;
+    assert_eq!(rt; bytes, [5; 4_096]);
+    home.read_home(&mut disk, 6, &mut bytes)?;
+    assert_eq!(rt; bytes, [0; 4_096]);
+    Ok(())
+}
+
+#[test]
+fn no_room(rt: HostRuntime) -> Result<(), Fail> {
+    let alloc = rt.alloc();
+    let mut disk = MemDisk::new(alloc, PAIR_SIZE - 1, Script::new(alloc))?;
+    assert_eq!(rt;
+        Home::open(alloc, &mut disk).err(),
+        Some(Refusal::NotAVolume)
+    );
+    Ok(())
+}
+
+#[test]
+fn no_homes(rt: HostRuntime) -> Result<(), Fail> {
+    let alloc = rt.alloc();
+    let mut short = MemDisk::new(alloc, 57_387, Script::new(alloc))?;
+    assert_eq!(rt;
+        Home::open(alloc, &mut short).err(),
+        Some(Refusal::NotAVolume)
+    );
+    let slot = Slot::new(2).ok_or("a slot")?;
+    let (mut pair, _) = GatedPair::create(&mut short, superblock_part(), &ROW, slot, 0)?;
+    assert_eq!(rt;
+        Home::open(alloc, &mut short).err(),
+        Some(Refusal::NotAVolume)
+    );
+    let _receipt = pair.store(&mut short, b"CRAQDISK\0\0\0\x02", slot, 0)?;
+    assert_eq!(rt;
+        Home::open(alloc, &mut short).err(),
+        Some(Refusal::OtherVersion)
+    );
+    assert_eq!(rt;
+        (
+            Refusal::OtherVersion.number(),
+            Refusal::NotAVolume.to_string(alloc)?.as_str()
+        ),
+        (Some(132), "131 NotAVolume")
+    );
+    Ok(())
+}

@@ -1,0 +1,529 @@
+// What no clause says: the bytes of the format, the calls of the device, and stops that were really played.
+ghost use Rattle.std.specs.Prelude.{◌≡◌, ◌≤◌, ◌<◌};
+ghost use Rattle.disk_model.specs.Memory.{size_of};
+ghost use Rattle.gate_journal.specs.Batch.{AreImages};
+ghost use Rattle.home_blocks.specs.Places.{disk_size_of};
+ghost use Rattle.local_store.specs.Store.{geometry_of};
+
+use disk_model::{Cut, Disk, DiskError, Event, MemDisk, Script};
+use flusher::Plan;
+use gate_journal::{IMAGE_SIZE, Image, MAX_NUMBER, Slot, Synced};
+use home_blocks::disk_size;
+use local_store::{Contents, Refusal, Store};
+use std::alloc::Global;
+use std::process::Abort;
+use std::test::Fail;
+use volume::Geometry;
+
+// The least area of payloads of 4,096 bytes, which a batch of two blocks fills, and one with room for a block behind it.
+const LEAST: u32 = 8_214;
+
+const ROOMY: u32 = 12_327;
+
+// Two superblocks of slot 0 and incarnation 1, of 8 blocks, areas of 8,214 bytes and payloads of 4,096: the first one,
+// of front 0 and area 0, and a second one, of front 1 and area 1.
+const FIRST: [u8; 56] =
+    *b"\x01\0\0\0\0\0\0\0\x01\0\0\0\x2bCRAQDISK\0\0\0\x01\x01\0\0\0\0\0\0\0\0\x01\0\0\0\x08\0\0\x20\x16\0\0\x10\0\0\0\0\0\0\0\0\0\0";
+
+const SECOND: [u8; 56] =
+    *b"\x01\0\0\0\0\0\0\0\x02\0\0\0\x2bCRAQDISK\0\0\0\x01\x01\0\0\0\0\0\0\0\0\x01\0\0\0\x08\0\0\x20\x16\0\0\x10\0\0\0\0\0\0\0\0\x01\x01";
+
+// A store and its disk.
+#[derive(Drop)]
+struct Rig {
+    alloc: Global,
+    disk: MemDisk,
+    store: Contents,
+    plan: Plan,
+}
+
+// Formats the disk for slot 0, incarnation 1.
+fn format(
+    rt: &impl Abort,
+    alloc: Global,
+    disk: &mut MemDisk,
+    area: u32,
+) -> Result<Result<Contents, Refusal>, Fail> {
+    let slot = Slot::new(0).ok_or("a slot")?;
+    let geometry = Geometry::new(8, area, 4_096)?;
+    assert!(rt; disk_size(geometry) <= disk.len());
+    Ok(Contents::format(alloc, disk, slot, 1, geometry))
+}
+
+// A new disk, formatted.
+fn formatted(rt: &impl Abort, alloc: Global, area: u32) -> Result<Rig, Fail> {
+    let len = 40_960 + 2 * u64::from(area);
+    let mut disk = MemDisk::new(alloc, len, Script::new(alloc))?;
+    let store = format(rt, alloc, &mut disk, area)??;
+    Ok(Rig {
+        alloc,
+        disk,
+        store,
+        plan: Plan::new(),
+    })
+}
+
+// The blocks 0 and 1.
+fn two(first: u8, second: u8) -> [Image; 2]
+    ensures { AreImages 8 result }
+{
+    [
+        Image {
+            block: 0,
+            bytes: [first; IMAGE_SIZE],
+        },
+        Image {
+            block: 1,
+            bytes: [second; IMAGE_SIZE],
+        },
+    ]
+}
+
+// The block 1.
+fn one(byte: u8) -> [Image; 1]
+    ensures { AreImages 8 result }
+{
+    [Image {
+        block: 1,
+        bytes: [byte; IMAGE_SIZE],
+    }]
+}
+
+// The store's disk is long enough, for its 8 blocks.
+fn fits(rt: &impl Abort, store: &Contents, disk: &MemDisk)
+    ensures room { disk_size_of (geometry_of store.now) ≤ size_of disk.now }
+    ensures blocks { (geometry_of store.now).blocks ≡ 8 }
+{
+    let geometry = store.geometry();
+    assert!(rt; geometry.blocks == 8 && disk_size(geometry) <= disk.len());
+}
+
+impl Rig {
+    fn commit(&mut self, rt: &impl Abort, front: u64, images: &[Image]) -> Result<Synced, Refusal>
+        requires images { AreImages 8 images.now }
+        requires limit { front ≤ MAX_NUMBER }
+    {
+        fits(rt, &self.store, &self.disk);
+        self.store.commit(self.alloc, &mut self.disk, front, images)
+    }
+
+    fn tick(&mut self, rt: &impl Abort) -> Result<Option<u32>, Refusal> {
+        fits(rt, &self.store, &self.disk);
+        self.store.tick(&mut self.disk, &mut self.plan)
+    }
+
+    fn checkpoint(&mut self, rt: &impl Abort) -> Result<(), Refusal> {
+        fits(rt, &self.store, &self.disk);
+        self.store.checkpoint(&mut self.disk)
+    }
+
+    // The byte of which the block consists.
+    fn read(&mut self, rt: &impl Abort, block: u32) -> Result<u8, Refusal>
+        requires { block < 8 }
+    {
+        fits(rt, &self.store, &self.disk);
+        let mut bytes = [0xee; IMAGE_SIZE];
+        self.store.read_block(&mut self.disk, block, &mut bytes)?;
+        assert_eq!(rt; bytes, [bytes[0]; IMAGE_SIZE], "block {block}");
+        Ok(bytes[0])
+    }
+}
+
+// The store that the disk holds.
+fn opened(alloc: Global, disk: MemDisk) -> Result<Rig, Refusal> {
+    let mut disk = disk;
+    let store = match Contents::open(alloc, &mut disk) {
+        Ok(store) => store,
+        Err(refusal) => return Err(refusal),
+    };
+    Ok(Rig {
+        alloc,
+        disk,
+        store,
+        plan: Plan::new(),
+    })
+}
+
+// The disk's bytes from a place on: none where it has less.
+fn stretch(disk: &MemDisk, at: usize, len: usize) -> &[u8] {
+    disk.bytes()
+        .get(at..at.saturating_add(len))
+        .unwrap_or_default()
+}
+
+// A disk that was used: each byte of it is 238.
+fn used(alloc: Global) -> Result<MemDisk, Fail> {
+    let bytes = vec![in alloc; 0xee; 57_388]?;
+    let mut disk = MemDisk::new(alloc, 57_388, Script::new(alloc))?;
+    disk.write_at(0, &bytes)?;
+    disk.sync()?;
+    Ok(disk)
+}
+
+// The disk's bytes from a place on are zeros, so many.
+fn are_zeros(disk: &MemDisk, at: usize, len: usize) -> bool {
+    let bytes = stretch(disk, at, len);
+    bytes.len() == len && bytes.iter().all(|byte| *byte == 0)
+}
+
+#[test]
+fn format_writes_the_row(rt: HostRuntime) -> Result<(), Fail> {
+    let alloc = rt.alloc();
+    let mut disk = used(alloc)?;
+    let _store = format(&rt, alloc, &mut disk, LEAST)??;
+    disk.cut(Cut::None);
+    assert_eq!(rt; stretch(&disk, 0, 56), FIRST.as_slice());
+    assert_eq!(rt;
+        (are_zeros(&disk, 4_096, 13), are_zeros(&disk, 8_192, 32_768)),
+        (true, true)
+    );
+    assert_eq!(rt; stretch(&disk, 40_960, 2), b"\0\xee".as_slice());
+    Ok(())
+}
+
+#[test]
+fn a_formatted_disk_is_opened(rt: HostRuntime) -> Result<(), Fail> {
+    let alloc = rt.alloc();
+    let mut disk = used(alloc)?;
+    let _store = format(&rt, alloc, &mut disk, LEAST)??;
+    disk.cut(Cut::None);
+    let mut rig = opened(alloc, disk)?;
+    assert_eq!(rt; rig.store.geometry(), Geometry::new(8, LEAST, 4_096)?);
+    for block in 0..8 {
+        assert_eq!(rt; rig.read(&rt, block)?, 0);
+    }
+    let receipt = rig.commit(&rt, MAX_NUMBER, &two(1, 2))?;
+    assert_eq!(rt; (receipt.slot().number(), receipt.front()), (0, MAX_NUMBER));
+    Ok(())
+}
+
+// What a commit of blocks 0 and 1 writes into an area of 8,214 bytes behind 40,960: at each place these bytes.
+const BATCH: [(usize, &[u8]); 5] = [
+    (40_960, b"\x01\0\0\0\0\0\0\0\x01\0\0\0\x02\0\0\0\0"),
+    (40_977, &[7; IMAGE_SIZE]),
+    (45_073, b"\0\0\0\x01"),
+    (45_077, &[8; IMAGE_SIZE]),
+    (49_173, b"\0"),
+];
+
+#[test]
+fn a_commit_writes_its_batch(rt: HostRuntime) -> Result<(), Fail> {
+    let mut rig = formatted(&rt, rt.alloc(), LEAST)?;
+    assert_eq!(rt; rig.disk.calls(), 22);
+    let _receipt = rig.commit(&rt, 1, &two(7, 8))?;
+    assert_eq!(rt; rig.disk.calls(), 26);
+    for (at, bytes) in BATCH {
+        assert_eq!(rt; stretch(&rig.disk, at, bytes.len()), bytes, "at {at}");
+    }
+    Ok(())
+}
+
+#[test]
+fn a_checkpoint_writes_a_superblock(rt: HostRuntime) -> Result<(), Fail> {
+    let mut rig = formatted(&rt, rt.alloc(), LEAST)?;
+    let _receipt = rig.commit(&rt, 1, &two(7, 8))?;
+    rig.checkpoint(&rt)?;
+    assert_eq!(rt; rig.disk.calls(), 37);
+    assert_eq!(rt; stretch(&rig.disk, 4_096, 56), SECOND.as_slice());
+    let _receipt = rig.commit(&rt, 2, &one(9))?;
+    assert_eq!(rt;
+        stretch(&rig.disk, 49_174, 9),
+        b"\x01\0\0\0\0\0\0\0\x02".as_slice()
+    );
+    Ok(())
+}
+
+// Behind a checkpoint and a commit of block 1: a pending block, two that are home, and a tick's block before and behind it.
+#[test]
+fn calls_are_counted(rt: HostRuntime) -> Result<(), Fail> {
+    let mut rig = formatted(&rt, rt.alloc(), LEAST)?;
+    let _receipt = rig.commit(&rt, 1, &two(7, 8))?;
+    rig.checkpoint(&rt)?;
+    let _receipt = rig.commit(&rt, 2, &one(9))?;
+    for (block, byte, calls) in [(1, 9, 41), (0, 7, 42), (7, 0, 43)] {
+        assert_eq!(rt; (rig.read(&rt, block)?, rig.disk.calls()), (byte, calls));
+    }
+    for (given, calls) in [(Some(1), 44), (None, 44)] {
+        assert_eq!(rt; (rig.tick(&rt)?, rig.disk.calls()), (given, calls));
+    }
+    assert_eq!(rt; (rig.read(&rt, 1)?, rig.disk.calls()), (9, 45));
+    rig.checkpoint(&rt)?;
+    assert_eq!(rt; (rig.disk.calls(), rig.store.front()), (54, 2));
+    Ok(())
+}
+
+// What is put over the bytes of a new disk with the first superblock, at which place; and the front that the disk means,
+// or what `open` says of it.
+const DISKS: [(u64, &[u8], Result<u64, Refusal>); 12] = [
+    (56, b"", Ok(0)),
+    (0, &[0; 56], Err(Refusal::NotAVolume)),
+    (0, b"\0", Err(Refusal::NotAVolume)),
+    (13, b"K", Err(Refusal::NotAVolume)),
+    (24, b"\x02", Err(Refusal::OtherVersion)),
+    (25, b"\0", Err(Refusal::Unfinished)),
+    (25, b"\x02", Err(Refusal::NotAVolume)),
+    (54, b"\x06\x01", Ok(6)),
+    (55, b"\x02", Err(Refusal::NotAVolume)),
+    (40_960, b"\xff\0\0\0\0\0\0\0\x07\0\0\0\0", Ok(0)),
+    (40_960, b"\x01\0\0\0\0\0\0\0\x07\0\0\0\x01", Ok(7)),
+    (
+        40_960,
+        b"\x01\0\0\0\0\0\0\0\x07\0\0\0\0",
+        Err(Refusal::NotAVolume),
+    ),
+];
+
+#[test]
+fn opens(rt: HostRuntime) -> Result<(), Fail> {
+    let alloc = rt.alloc();
+    for (at, bytes, wanted) in DISKS {
+        let mut disk = MemDisk::new(alloc, 57_388, Script::new(alloc))?;
+        disk.write_at(0, &FIRST)?;
+        assert!(rt; at <= 40_960 && bytes.len() <= 56);
+        disk.write_at(at, bytes)?;
+        let is = Contents::open(alloc, &mut disk).map(|store| store.front());
+        assert_eq!(rt; is, wanted, "at {at}: {bytes:?}");
+    }
+    Ok(())
+}
+
+// Whether a commit of block 1 at each of these fronts is refused so.
+fn are_refused(rt: &impl Abort, rig: &mut Rig, fronts: &[(u64, Refusal)]) {
+    for (front, told) in fronts {
+        assert!(rt; *front <= MAX_NUMBER);
+        assert_eq!(rt;
+            rig.commit(rt, *front, &one(9)).err(),
+            Some(*told),
+            "{front}"
+        );
+    }
+}
+
+#[test]
+fn refusals(rt: HostRuntime) -> Result<(), Fail> {
+    let mut rig = formatted(&rt, rt.alloc(), LEAST)?;
+    are_refused(&rt, &mut rig, &[(0, Refusal::Backwards)]);
+    let _receipt = rig.commit(&rt, 4, &two(7, 8))?;
+    are_refused(
+        &rt,
+        &mut rig,
+        &[
+            (3, Refusal::Backwards),
+            (4, Refusal::Backwards),
+            (5, Refusal::Full),
+        ],
+    );
+    rig.checkpoint(&rt)?;
+    are_refused(&rt, &mut rig, &[(4, Refusal::Backwards)]);
+    let _receipt = rig.commit(&rt, 5, &one(9))?;
+    Ok(())
+}
+
+const TEXTS: [(Refusal, Option<u16>, &str); 9] = [
+    (Refusal::Memory, Some(100), "100 Memory"),
+    (Refusal::Full, Some(121), "121 Full"),
+    (Refusal::Broken, Some(122), "122 Broken"),
+    (Refusal::NotAVolume, Some(131), "131 NotAVolume"),
+    (Refusal::OtherVersion, Some(132), "132 OtherVersion"),
+    (Refusal::Unfinished, Some(133), "133 Unfinished"),
+    (Refusal::Backwards, Some(134), "134 Backwards"),
+    (
+        Refusal::Device(DiskError::WriteFault),
+        Some(102),
+        "102 WriteFault",
+    ),
+    (Refusal::Device(DiskError::Stopped), None, "stopped"),
+];
+
+#[test]
+fn refusals_in_words(rt: HostRuntime) -> Result<(), Fail> {
+    for (refusal, number, text) in TEXTS {
+        assert_eq!(rt; refusal.number(), number);
+        assert_eq!(rt; refusal.to_string(rt.alloc())?.as_str(), text);
+    }
+    Ok(())
+}
+
+// A call of a store.
+#[derive(Clone, Copy, Debug, PartialEq, Eq)]
+enum Doing {
+    Commit,
+    Tick,
+    Checkpoint,
+    Read,
+}
+
+// Does it: a commit is of block 1 at front 2, and a read of block 7.
+fn refused(rt: &impl Abort, rig: &mut Rig, doing: Doing) -> Option<Refusal> {
+    match doing {
+        Doing::Commit => rig.commit(rt, 2, &one(9)).err(),
+        Doing::Tick => rig.tick(rt).err(),
+        Doing::Checkpoint => rig.checkpoint(rt).err(),
+        Doing::Read => rig.read(rt, 7).err(),
+    }
+}
+
+const ALL: [Doing; 4] = [Doing::Commit, Doing::Tick, Doing::Checkpoint, Doing::Read];
+
+#[test]
+fn faults(rt: HostRuntime) -> Result<(), Fail> {
+    for (doing, call, fault) in [
+        (Doing::Commit, 1, DiskError::WriteFault),
+        (Doing::Commit, 4, DiskError::SyncFault),
+        (Doing::Tick, 1, DiskError::WriteFault),
+        (Doing::Checkpoint, 2, DiskError::WriteFault),
+        (Doing::Checkpoint, 11, DiskError::SyncFault),
+        (Doing::Read, 1, DiskError::ReadFault),
+    ] {
+        let mut rig = formatted(&rt, rt.alloc(), ROOMY)?;
+        let _receipt = rig.commit(&rt, 1, &two(7, 8))?;
+        let before = rig.disk.calls();
+        rig.disk.arm(Event::FailAt { call })?;
+        let told = refused(&rt, &mut rig, doing);
+        assert_eq!(rt; told, Some(Refusal::Device(fault)), "{doing:?} {call}");
+        for again in ALL {
+            assert_eq!(rt;
+                refused(&rt, &mut rig, again),
+                Some(Refusal::Broken),
+                "{again:?}"
+            );
+        }
+        assert_eq!(rt; rig.disk.calls(), before.saturating_add(call));
+    }
+    Ok(())
+}
+
+// What a disk means that was cut: the front, and the byte of which each block consists.
+fn found(
+    rt: &impl Abort,
+    alloc: Global,
+    disk: MemDisk,
+) -> Result<Result<(u64, [u8; 8]), Refusal>, Fail> {
+    let mut rig = match opened(alloc, disk) {
+        Ok(rig) => rig,
+        Err(refusal) => return Ok(Err(refusal)),
+    };
+    let mut blocks = [0; 8];
+    for block in 0..8 {
+        blocks[block as usize] = rig.read(rt, block)?;
+    }
+    Ok(Ok((rig.store.front(), blocks)))
+}
+
+// The bytes that each device call of `format`, and of the other calls behind a commit of blocks 0 and 1, writes: a sync
+// writes none, and neither does the closing of a gate that is closed.
+const FORMAT: [u64; 22] = [
+    4_096, 4_096, 4_096, 4_096, 4_096, 4_096, 4_096, 4_096, 1, 0, 12, 12, 0, 1, 1, 0, 0, 0, 55, 0,
+    1, 0,
+];
+
+const WRITES: [(Doing, &[u64]); 3] = [
+    (Doing::Commit, &[4_113, 0, 1, 0]),
+    (Doing::Tick, &[4_096]),
+    (
+        Doing::Checkpoint,
+        &[4_096, 4_096, 0, 1, 0, 0, 0, 55, 0, 1, 0],
+    ),
+];
+
+// Stops `format` of a used disk, cuts, and finds.
+fn format_stopped(
+    rt: &impl Abort,
+    alloc: Global,
+    event: Event,
+    cut: Cut,
+) -> Result<Result<(u64, [u8; 8]), Refusal>, Fail> {
+    let mut disk = used(alloc)?;
+    disk.arm(event)?;
+    let told = format(rt, alloc, &mut disk, LEAST)?;
+    assert_eq!(rt; told.err(), Some(Refusal::Device(DiskError::Stopped)));
+    disk.cut(cut);
+    found(rt, alloc, disk)
+}
+
+#[test]
+fn format_stops(rt: HostRuntime) -> Result<(), Fail> {
+    for (len, call) in FORMAT.iter().zip(1..=22) {
+        for bytes in [0, 1, len / 2, *len] {
+            let event = Event::StopAt { call, bytes };
+            let is_open = call == 22 || call == 21 && bytes > 0;
+            let wanted = if is_open {
+                Ok((0, [0; 8]))
+            } else {
+                Err(Refusal::NotAVolume)
+            };
+            let is = format_stopped(&rt, rt.alloc(), event, Cut::All)?;
+            assert_eq!(rt; is, wanted, "call {call}, {bytes} bytes");
+            let is = format_stopped(&rt, rt.alloc(), event, Cut::None)?;
+            assert_eq!(rt; is, Err(Refusal::NotAVolume), "call {call}, {bytes} bytes");
+        }
+    }
+    Ok(())
+}
+
+// Stops the call behind a commit of blocks 0 and 1 at front 1, cuts, and finds.
+fn stopped(
+    rt: &impl Abort,
+    alloc: Global,
+    doing: Doing,
+    event: Event,
+    cut: Cut,
+) -> Result<Result<(u64, [u8; 8]), Refusal>, Fail> {
+    let mut rig = formatted(rt, alloc, ROOMY)?;
+    let _receipt = rig.commit(rt, 1, &two(7, 8))?;
+    rig.disk.arm(event)?;
+    let told = refused(rt, &mut rig, doing);
+    assert_eq!(rt; told, Some(Refusal::Device(DiskError::Stopped)));
+    rig.disk.cut(cut);
+    found(rt, alloc, rig.disk)
+}
+
+#[test]
+fn stops(rt: HostRuntime) -> Result<(), Fail> {
+    let (old, new) = ((1, [7, 8, 0, 0, 0, 0, 0, 0]), (2, [7, 9, 0, 0, 0, 0, 0, 0]));
+    for (doing, writes) in WRITES {
+        for (len, call) in writes.iter().zip(1..=11) {
+            for bytes in [0, 1, len / 2, *len] {
+                let event = Event::StopAt { call, bytes };
+                let is_new = doing == Doing::Commit && (call == 4 || call == 3 && bytes > 0);
+                let wanted = if is_new { new } else { old };
+                let is = stopped(&rt, rt.alloc(), doing, event, Cut::All)?;
+                assert_eq!(rt; is, Ok(wanted), "{doing:?} {call}, {bytes} bytes");
+                let is = stopped(&rt, rt.alloc(), doing, event, Cut::None)?;
+                assert_eq!(rt; is, Ok(old), "{doing:?} {call}, {bytes} bytes");
+            }
+        }
+    }
+    Ok(())
+}
+
+// A commit, a tick and an opening, each of which memory may run out in: the answer is that, or the right one.
+#[test]
+fn no_memory(rt: HostRuntime) -> Result<(), Fail> {
+    let alloc = rt.alloc();
+    let mut rig = formatted(&rt, alloc, ROOMY)?;
+    let before = rig.disk.calls();
+    let front = match rig.commit(&rt, 1, &two(7, 8)) {
+        Ok(receipt) => receipt.front(),
+        Err(Refusal::Memory) => {
+            assert_eq!(rt; (rig.disk.calls(), rig.store.front()), (before, 0));
+            assert_eq!(rt; rig.read(&rt, 1)?, 0);
+            rig.commit(&rt, 1, &two(7, 8))?.front()
+        }
+        Err(refusal) => {
+            assert_eq!(rt; refusal, Refusal::Device(DiskError::Memory));
+            assert_eq!(rt; rig.commit(&rt, 1, &two(7, 8)).err(), Some(Refusal::Broken));
+            0
+        }
+    };
+    let blocks = if front == 1 {
+        [7, 8, 0, 0, 0, 0, 0, 0]
+    } else {
+        [0; 8]
+    };
+    let is = found(&rt, alloc, rig.disk)?;
+    if is != Err(Refusal::Memory) && is != Err(Refusal::Device(DiskError::Memory)) {
+        assert_eq!(rt; is, Ok((front, blocks)));
+    }
+    Ok(())
+}
