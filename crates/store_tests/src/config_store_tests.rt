@@ -15,32 +15,44 @@ const FIRST: [u8; 61] =
     *b"\x01\0\0\0\0\0\0\0\x01\0\0\0\x30CRAQCONF\x00\x00\x00\x01\x00\x00\x00\x00\x00\x00\x00\x01\x03\x00\x00\x00\x00\x00\x00\x00\x00\x01\x01\x00\x00\x00\x00\x00\x00\x00\x01\x02\x00\x00\x00\x00\x00\x00\x00\x01";
 
 #[test]
+fn a_first_record(rt: HostRuntime) -> Result<(), Fail> {
+    let alloc = rt.alloc();
+    let part = Part::new(3, PAIR_SIZE);
+    let mut disk = MemDisk::new(alloc, 3 + PAIR_SIZE, Script::new(alloc))?;
+    let store = ConfigStore::create(alloc, &mut disk, part, record(alloc, 1, &THREE)?)?;
+    assert_eq!(rt; (store.part(), store.current().epoch().number()), (part, 1));
+    assert_eq!(rt; disk.calls(), 12);
+    let mut bytes = [9; 61];
+    part.read(&mut disk, 0, &mut bytes)?;
+    assert_eq!(rt; bytes, FIRST);
+    Ok(())
+}
+
+#[test]
 fn records(rt: HostRuntime) -> Result<(), Fail> {
     let alloc = rt.alloc();
     let part = Part::new(3, PAIR_SIZE);
     let mut disk = MemDisk::new(alloc, 3 + PAIR_SIZE, Script::new(alloc))?;
     let mut store = ConfigStore::create(alloc, &mut disk, part, record(alloc, 1, &THREE)?)?;
-    assert_eq!(rt;
-        (store.part(), store.current().epoch().number(), disk.calls()),
-        (part, 1, 12)
-    );
-    let mut bytes = [9; 61];
-    part.read(&mut disk, 0, &mut bytes)?;
-    assert_eq!(rt; bytes, FIRST);
-
     store.begin_record(&mut disk, Epoch::new(2).ok_or("an epoch")?)?;
-    assert_eq!(rt; (disk.calls(), store.is_begun()), (15, true));
+    assert_eq!(rt; (disk.calls(), store.is_begun()), (14, true));
     store.end_record(alloc, &mut disk, record(alloc, 2, &THREE[1..])?)?;
-    assert_eq!(rt; disk.calls(), 19);
-    store.record(alloc, &mut disk, record(alloc, 3, &THREE[2..])?)?;
-    assert_eq!(rt; disk.calls(), 25);
+    assert_eq!(rt; disk.calls(), 18);
+    Ok(())
+}
 
+#[test]
+fn the_last_record_is_opened(rt: HostRuntime) -> Result<(), Fail> {
+    let alloc = rt.alloc();
+    let part = Part::new(3, PAIR_SIZE);
+    let mut disk = MemDisk::new(alloc, 3 + PAIR_SIZE, Script::new(alloc))?;
+    let mut store = ConfigStore::create(alloc, &mut disk, part, record(alloc, 1, &THREE)?)?;
+    store.record(alloc, &mut disk, record(alloc, 2, &THREE[2..])?)?;
+    assert_eq!(rt; disk.calls(), 18);
     let opened = ConfigStore::open(alloc, &mut disk, part)?;
-    assert_eq!(rt; opened.current().epoch().number(), 3);
-    assert_eq!(rt;
-        opened.current().members(),
-        record(alloc, 3, &THREE[2..])?.members()
-    );
+    let wanted = record(alloc, 2, &THREE[2..])?;
+    assert_eq!(rt; opened.current().epoch(), wanted.epoch());
+    assert_eq!(rt; opened.current().members(), wanted.members());
     Ok(())
 }
 
@@ -82,6 +94,11 @@ fn nothing_recorded(rt: HostRuntime) -> Result<(), Fail> {
     part.write_at(&mut disk, 13, b"CRAQDISK")?;
     let other = ConfigStore::open(alloc, &mut disk, part).err();
     assert_eq!(rt; other, Some(Refusal::NoRecord));
+    Ok(())
+}
+
+#[test]
+fn refusals_in_words(rt: HostRuntime) -> Result<(), Fail> {
     for (refusal, number, text) in [
         (Refusal::Memory, 100, "100 Memory"),
         (Refusal::Broken, 122, "122 Broken"),
@@ -89,10 +106,8 @@ fn nothing_recorded(rt: HostRuntime) -> Result<(), Fail> {
         (Refusal::NotNext, 162, "162 NotNext"),
         (Refusal::Device(DiskError::SyncFault), 103, "103 SyncFault"),
     ] {
-        assert_eq!(rt;
-            (refusal.number(), refusal.to_string(alloc)?.as_str()),
-            (Some(number), text)
-        );
+        assert_eq!(rt; refusal.number(), Some(number));
+        assert_eq!(rt; refusal.to_string(rt.alloc())?.as_str(), text);
     }
     Ok(())
 }

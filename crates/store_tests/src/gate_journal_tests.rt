@@ -95,39 +95,50 @@ fn stops(rt: HostRuntime) -> Result<(), Fail> {
     Ok(())
 }
 
-// What the device calls of `append`, and then those of `read_all` that find one batch, answer where one fails.
+// What `append` is refused with where a device call of it fails; then the journal is broken.
+fn append_fails(rt: &impl Abort, alloc: Global, call: u64) -> Result<Option<Refusal>, Fail> {
+    let slot = Slot::new(0).ok_or("a slot")?;
+    let mut disk = MemDisk::new(alloc, TWO, Script::new(alloc))?;
+    let mut journal = Journal::create(&mut disk, Part::new(0, TWO), slot, 1, 0)?;
+    disk.arm(Event::FailAt { call })?;
+    let told = append(rt, alloc, &mut journal, &mut disk, 1, &[image(0, 1)]);
+    let again = journal.read_all(alloc, &mut disk);
+    assert_eq!(rt; again.err(), Some(Refusal::Broken));
+    assert_eq!(rt; Some(disk.calls()), call.checked_add(2));
+    Ok(told.err())
+}
+
+// What `read_all` is refused with where a device call of it fails; then the journal is broken.
+fn read_fails(rt: &impl Abort, alloc: Global, call: u64) -> Result<Option<Refusal>, Fail> {
+    let slot = Slot::new(0).ok_or("a slot")?;
+    let mut disk = MemDisk::new(alloc, TWO, Script::new(alloc))?;
+    let mut journal = Journal::create(&mut disk, Part::new(0, TWO), slot, 1, 0)?;
+    append(rt, alloc, &mut journal, &mut disk, 1, &[image(0, 1)])?;
+    assert_eq!(rt;
+        (journal.read_all(alloc, &mut disk)?.len(), disk.calls()),
+        (1, 10)
+    );
+    disk.arm(Event::FailAt { call })?;
+    let told = journal.read_all(alloc, &mut disk).err();
+    assert!(rt; journal.is_broken());
+    Ok(told)
+}
+
 #[test]
 fn faults(rt: HostRuntime) -> Result<(), Fail> {
-    let alloc = rt.alloc();
-    let part = Part::new(0, TWO);
-    let slot = Slot::new(0).ok_or("a slot")?;
     for (call, fault) in [
         (1, DiskError::WriteFault),
         (2, DiskError::SyncFault),
         (3, DiskError::WriteFault),
         (4, DiskError::SyncFault),
     ] {
-        let mut disk = MemDisk::new(alloc, TWO, Script::new(alloc))?;
-        let mut journal = Journal::create(&mut disk, part, slot, 1, 0)?;
-        disk.arm(Event::FailAt { call })?;
-        let told = append(&rt, alloc, &mut journal, &mut disk, 1, &[image(0, 1)]);
-        assert_eq!(rt; told.err(), Some(Refusal::Device(fault)), "{call}");
         assert_eq!(rt;
-            journal.read_all(alloc, &mut disk).err(),
-            Some(Refusal::Broken)
+            append_fails(&rt, rt.alloc(), call)?,
+            Some(Refusal::Device(fault)),
+            "{call}"
         );
-        assert_eq!(rt; disk.calls(), 2 + call);
-    }
-    for call in 1..=4 {
-        let mut disk = MemDisk::new(alloc, TWO, Script::new(alloc))?;
-        let mut journal = Journal::create(&mut disk, part, slot, 1, 0)?;
-        append(&rt, alloc, &mut journal, &mut disk, 1, &[image(0, 1)])?;
-        assert_eq!(rt; journal.read_all(alloc, &mut disk)?.len(), 1);
-        assert_eq!(rt; disk.calls(), 10);
-        disk.arm(Event::FailAt { call })?;
-        let told = journal.read_all(alloc, &mut disk).err();
+        let told = read_fails(&rt, rt.alloc(), call)?;
         assert_eq!(rt; told, Some(Refusal::Device(DiskError::ReadFault)), "{call}");
-        assert!(rt; journal.is_broken());
     }
     Ok(())
 }

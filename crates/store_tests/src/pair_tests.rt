@@ -9,40 +9,55 @@ use std::process::Abort;
 use std::test::Fail;
 
 #[test]
-fn pair_bytes(rt: HostRuntime) -> Result<(), Fail> {
-    let alloc = rt.alloc();
+fn a_new_pair(rt: HostRuntime) -> Result<(), Fail> {
     let slot = Slot::new(2).ok_or("a slot")?;
     let part = Part::new(3, PAIR_SIZE);
-    let mut disk = MemDisk::new(alloc, 3 + PAIR_SIZE, Script::new(alloc))?;
-    let (mut pair, receipt) = GatedPair::create(&mut disk, part, b"one", slot, 5)?;
-    assert_eq!(rt;
-        (receipt.slot(), receipt.front(), disk.calls()),
-        (slot, 5, 12)
-    );
-    assert_eq!(rt;
-        (
-            pair.part(),
-            pair.number(),
-            pair.is_broken(),
-            pair.is_begun()
-        ),
-        (part, 1, false, true)
-    );
-    let mut bytes = [9; 16];
-    part.read(&mut disk, 0, &mut bytes)?;
-    assert_eq!(rt; bytes, *b"\x01\0\0\0\0\0\0\0\x01\0\0\0\x03one");
-    let mut bytes = [9; 13];
-    part.read(&mut disk, 4_096, &mut bytes)?;
-    assert_eq!(rt; bytes, [0; 13]);
+    let mut disk = MemDisk::new(rt.alloc(), 3 + PAIR_SIZE, Script::new(rt.alloc()))?;
+    let (pair, receipt) = GatedPair::create(&mut disk, part, b"one", slot, 5)?;
+    assert_eq!(rt; (receipt.slot(), receipt.front()), (slot, 5));
+    assert_eq!(rt; (pair.part(), pair.number()), (part, 1));
+    assert_eq!(rt; (pair.is_broken(), pair.is_begun()), (false, true));
+    assert_eq!(rt; disk.calls(), 12);
+    Ok(())
+}
 
+// The bytes of a disk from a place on: none where it has less.
+fn stretch(disk: &MemDisk, at: usize, len: usize) -> &[u8] {
+    disk.bytes()
+        .get(at..at.saturating_add(len))
+        .unwrap_or_default()
+}
+
+#[test]
+fn pair_bytes(rt: HostRuntime) -> Result<(), Fail> {
+    let slot = Slot::new(2).ok_or("a slot")?;
+    let part = Part::new(3, PAIR_SIZE);
+    let mut disk = MemDisk::new(rt.alloc(), 3 + PAIR_SIZE, Script::new(rt.alloc()))?;
+    let (mut pair, _) = GatedPair::create(&mut disk, part, b"one", slot, 5)?;
+    assert_eq!(rt;
+        stretch(&disk, 3, 16),
+        b"\x01\0\0\0\0\0\0\0\x01\0\0\0\x03one".as_slice()
+    );
+    assert_eq!(rt; stretch(&disk, 4_099, 13), [0; 13].as_slice());
     let receipt = pair.store(&mut disk, b"two!", slot, 9)?;
-    assert_eq!(rt; (receipt.front(), disk.calls(), pair.number()), (9, 20, 2));
-    let mut bytes = [9; 17];
-    part.read(&mut disk, 4_096, &mut bytes)?;
-    assert_eq!(rt; bytes, *b"\x01\0\0\0\0\0\0\0\x02\0\0\0\x04two!");
+    assert_eq!(rt; receipt.front(), 9);
+    assert_eq!(rt;
+        stretch(&disk, 4_099, 17),
+        b"\x01\0\0\0\0\0\0\0\x02\0\0\0\x04two!".as_slice()
+    );
+    Ok(())
+}
 
+#[test]
+fn pair_calls(rt: HostRuntime) -> Result<(), Fail> {
+    let slot = Slot::new(2).ok_or("a slot")?;
+    let part = Part::new(3, PAIR_SIZE);
+    let mut disk = MemDisk::new(rt.alloc(), 3 + PAIR_SIZE, Script::new(rt.alloc()))?;
+    let (mut pair, _) = GatedPair::create(&mut disk, part, b"one", slot, 5)?;
+    let _receipt = pair.store(&mut disk, b"two!", slot, 9)?;
+    assert_eq!(rt; (disk.calls(), pair.number()), (18, 2));
     pair.begin_store(&mut disk)?;
-    assert_eq!(rt; (disk.calls(), pair.is_begun()), (23, true));
+    assert_eq!(rt; (disk.calls(), pair.is_begun()), (20, true));
     Ok(())
 }
 
@@ -145,28 +160,40 @@ fn put_slot(
     part.write_at(disk, at + 9, &len.to_be_bytes())
 }
 
-#[test]
-fn pair_loads(rt: HostRuntime) -> Result<(), Fail> {
-    let alloc = rt.alloc();
+// Writes these slots, loads, and says what was found; then stores, says what that is refused with, and finds it.
+fn found_and_told(
+    rt: &impl Abort,
+    alloc: Global,
+    first: SlotHead,
+    second: SlotHead,
+) -> Result<(Option<(Option<u8>, usize)>, Option<Refusal>), Fail> {
     let slot = Slot::new(0).ok_or("a slot")?;
     let part = Part::new(0, PAIR_SIZE);
+    let mut disk = MemDisk::new(alloc, PAIR_SIZE, Script::new(alloc))?;
+    put_slot(&mut disk, part, 0, first, 0)?;
+    put_slot(&mut disk, part, 4_096, second, 1)?;
+    let (mut pair, payload) = GatedPair::load(alloc, &mut disk, part)?;
+    let is = payload
+        .as_ref()
+        .map(|payload| (payload.first().copied(), payload.len()));
+    let told = pair.store(&mut disk, b"new", slot, 1).err();
+    if told.is_none() {
+        let (_, payload) = GatedPair::load(alloc, &mut disk, part)?;
+        let payload = payload.ok_or("a payload")?;
+        assert_eq!(rt; payload.as_slice(), b"new".as_slice());
+    }
+    Ok((is, told))
+}
+
+#[test]
+fn pair_loads(rt: HostRuntime) -> Result<(), Fail> {
     for (first, second, found, told) in SLOTS {
-        let mut disk = MemDisk::new(alloc, PAIR_SIZE, Script::new(alloc))?;
-        put_slot(&mut disk, part, 0, first, 0)?;
-        put_slot(&mut disk, part, 4_096, second, 1)?;
-        let (mut pair, payload) = GatedPair::load(alloc, &mut disk, part)?;
-        let is = payload
-            .as_ref()
-            .map(|payload| (payload.first().copied(), payload.len()));
         let wanted = found.map(|(byte, len)| ((len > 0).then_some(byte), len));
-        assert_eq!(rt; is, wanted, "{first:?} {second:?}");
-        let stored = pair.store(&mut disk, b"new", slot, 1).err();
-        assert_eq!(rt; stored, told);
-        if told.is_none() {
-            let (_, payload) = GatedPair::load(alloc, &mut disk, part)?;
-            let payload = payload.ok_or("a payload")?;
-            assert_eq!(rt; payload.as_slice(), b"new".as_slice());
-        }
+        assert_eq!(rt;
+            found_and_told(&rt, rt.alloc(), first, second)?,
+            (wanted, told),
+            "{first:?} {second:?}"
+        );
     }
     Ok(())
 }
