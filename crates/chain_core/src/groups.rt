@@ -13,7 +13,7 @@ ghost use Rattle.chain_core.specs.Reads.{AreUnread, HasOnlyRead};
 ghost use Rattle.chain_core.specs.Groups.{IsGroupUpTo, IsTooMuch, IsTouchedList, TouchAtMost, TouchMore};
 
 use crate::commit::Commit;
-use crate::reading::{Unread, block_at};
+use crate::reading::{Unread, read_block_at};
 use gate_journal::Image;
 use local_store::StoreLike;
 use std::alloc::{AllocError, Global};
@@ -144,13 +144,14 @@ pub(crate) fn images_of<S: StoreLike>(
         return Err(Unread::Memory);
     };
     for block in blocks {
-        match block_at(store, table, *block, front) {
-            Ok(bytes) => images.push_reserved(Image {
-                block: *block,
-                bytes,
-            }),
-            Err(error) => return Err(Unread::Device(error)),
+        let mut image = Image {
+            block: *block,
+            bytes: [0; BLOCK_SIZE as usize],
+        };
+        if let Err(error) = read_block_at(store, table, *block, front, &mut image.bytes) {
+            return Err(Unread::Device(error));
         }
+        images.push_reserved(image);
     }
     Ok(images)
 }

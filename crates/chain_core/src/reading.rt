@@ -82,8 +82,9 @@ fn read_into<S: StoreLike>(
     ensures failures { OnOk result (S.failures store.new ≡ S.failures store.old) }
     ensures failed { IfErr result (HasFailed S.about S.failures store.old store.new) }
 {
+    let mut block = [0; BLOCK_SIZE as usize];
     for piece in pieces(offset, len) {
-        let block = block_at(store, table, piece.block, front)?;
+        read_block_at(store, table, piece.block, front, &mut block)?;
         let Ok(()) = bytes.extend_from_slice(&block[piece.start..piece.start + piece.len]) else {
             unreachable!();
         };
@@ -124,59 +125,63 @@ pub(crate) fn read_ranges<S: StoreLike>(
     Ok(all)
 }
 
-/// A block of the volume after `front` writes, between the durable front and the last applied write. The store isn't broken.
+/// Reads a block of the volume after `front` writes, between the durable front and the last applied write. The store isn't
+/// broken.
 ///
 /// What the device refuses in a read: then the store is broken.
-pub(crate) fn block_at<S: StoreLike>(
+pub(crate) fn read_block_at<S: StoreLike>(
     store: &mut S,
     table: &Table,
     block: u32,
     front: u64,
-) -> Result<[u8; BLOCK_SIZE as usize], DiskError>
+    bytes: &mut [u8; BLOCK_SIZE as usize],
+) -> Result<(), DiskError>
     requires runs { (S.about store.old).broken ≡ false }
     requires block { block < (S.about store.old).geometry.blocks }
     requires inside { All (λ k. Fits (size_of (S.about store.old)) k.write) table.now.kept }
     requires kept { table.now.forgotten ≤ front }
     requires applied { front ≤ applied_of table.now }
     ensures read { S.keeps_model → (volume : List ℕ) → S.keeps store.old volume → length volume ≡ size_of (S.about store.old)
-        → IfOk result (λ bytes. bytes ≡ block_of (fold patched volume (writes_upto table.now front)) block) }
+        → OnOk result (bytes.new ≡ block_of (fold patched volume (writes_upto table.now front)) block) }
     ensures kept { S.keeps_model → (volume : List ℕ) → S.keeps store.old volume → OnOk result (S.keeps store.new volume) }
     ensures any_moment { S.keeps_model → (volume : List ℕ) → S.keeps store.old volume → LeavesOnly S.moment S.may_have_left_since store.old store.new (Means (meaning_with (S.about store.old) volume)) }
     ensures about { OnOk result (S.about store.new ≡ S.about store.old) }
     ensures failures { OnOk result (S.failures store.new ≡ S.failures store.old) }
     ensures failed { IfErr result (HasFailed S.about S.failures store.old store.new) }
 {
-    let mut bytes = base_of(store, table, block, front)?;
-    table.value_at(block, front, &mut bytes);
-    Ok(bytes)
+    read_base(store, table, block, front, bytes)?;
+    table.value_at(block, front, bytes);
+    Ok(())
 }
 
-/// The block that the writes up to a front are put over. It is read from the store, unless one of them has the whole block.
-fn base_of<S: StoreLike>(
+/// Reads the block that the writes up to a front are put over. It comes from the store, unless one of them has the whole block:
+/// then it is zeros.
+fn read_base<S: StoreLike>(
     store: &mut S,
     table: &Table,
     block: u32,
     front: u64,
-) -> Result<[u8; BLOCK_SIZE as usize], DiskError>
+    bytes: &mut [u8; BLOCK_SIZE as usize],
+) -> Result<(), DiskError>
     requires runs { (S.about store.old).broken ≡ false }
     requires block { block < (S.about store.old).geometry.blocks }
     requires inside { All (λ k. Fits (size_of (S.about store.old)) k.write) table.now.kept }
     requires kept { table.now.forgotten ≤ front }
     requires applied { front ≤ applied_of table.now }
     ensures base { S.keeps_model → (volume : List ℕ) → S.keeps store.old volume → length volume ≡ size_of (S.about store.old)
-        → IfOk result (IsBaseOf volume (writes_upto table.now front) block) }
+        → OnOk result (IsBaseOf volume (writes_upto table.now front) block bytes.new) }
     ensures kept { S.keeps_model → (volume : List ℕ) → S.keeps store.old volume → OnOk result (S.keeps store.new volume) }
     ensures any_moment { S.keeps_model → (volume : List ℕ) → S.keeps store.old volume → LeavesOnly S.moment S.may_have_left_since store.old store.new (Means (meaning_with (S.about store.old) volume)) }
     ensures about { OnOk result (S.about store.new ≡ S.about store.old) }
     ensures failures { OnOk result (S.failures store.new ≡ S.failures store.old) }
     ensures failed { IfErr result (HasFailed S.about S.failures store.old store.new) }
 {
-    let mut bytes = [0; BLOCK_SIZE as usize];
     if table.is_whole(block, front) {
-        return Ok(bytes);
+        *bytes = [0; BLOCK_SIZE as usize];
+        return Ok(());
     }
-    match store.read_block(block, &mut bytes) {
-        Ok(()) => Ok(bytes),
+    match store.read_block(block, bytes) {
+        Ok(()) => Ok(()),
         Err(Refusal::Device(error)) => Err(error),
         Err(_) => unreachable!(),
     }

@@ -173,7 +173,7 @@ impl Owner {
     }
 
     /// Whether a commit waits for another piece: something was told, a client's last piece since the last commit filled its
-    /// buffer, and its reader reads on. So often in turn at most.
+    /// buffer, and its reader reads on. It does so at most `MAX_GATHERED` times in turn.
     fn gathers(&mut self, told: bool) -> bool
         ensures told { result ≡ true → told ≡ true }
         ensures more { result ≡ true → Any (IsSendingMore self.old.commits) self.old.clients.items }

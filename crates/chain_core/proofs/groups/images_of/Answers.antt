@@ -24,19 +24,19 @@ loop-block-init g c = record {
 }
 
 pub returns-in-Err-clause-any_moment : goal.returns-in-Err-clause-any_moment
-returns-in-Err-clause-any_moment g c = run_more c.loop-block.invariant.store c.block_at.new.store c.block_at.ensures.any_moment
+returns-in-Err-clause-any_moment g c = run_more c.loop-block.invariant.store c.read_block_at.new.store c.read_block_at.ensures.any_moment
 
 pub loop-block-preserved : goal.loop-block-preserved
 loop-block-preserved g c =
-    let image : Image = record { block = get_or c.args.blocks.now c.loop-block.block-index 0; bytes = c.in-Ok-block_at.bytes } in
+    let image : Image = record { block = get_or c.args.blocks.now c.loop-block.block-index 0; bytes = c.read_block_at.new.bytes } in
     let items : c.push_reserved.new.self.items ≡ c.loop-block.images.items ++ image ∷ [] = c.push_reserved.ensures.items in
     record {
       many = omega (arith, length-append c.loop-block.images.items (image ∷ []), ap length items, c.loop-block.invariant.many);
-      store = one_more c.loop-block.invariant.store c.block_at.new.store c.in-Ok-block_at.ensures.about c.in-Ok-block_at.ensures.failures c.in-Ok-block_at.ensures.kept c.block_at.ensures.any_moment;
+      store = one_more c.loop-block.invariant.store c.read_block_at.new.store c.in_default-read_block_at.ensures.about c.in_default-read_block_at.ensures.failures c.in_default-read_block_at.ensures.kept c.read_block_at.ensures.any_moment;
       blocks = ap (map (λ (i : Image). i.block)) items ∙ map-append (λ (i : Image). i.block) c.loop-block.images.items (image ∷ [])
           ∙ ap (λ l. l ++ image.block ∷ []) c.loop-block.invariant.blocks ∙ sym (take_more c.args.blocks.now c.loop-block.block-index 0 c.loop-block-test.true);
       bytes = λ here volume kept long.
           let P = λ (i : Image). i.bytes ≡ block_of (fold patched volume (writes_upto c.args.table.now c.args.front)) i.block in
           subst (All P) (sym items) (All-push P c.loop-block.images.items image (c.loop-block.invariant.bytes here volume kept long)
-          (c.in-Ok-block_at.ensures.read here volume (c.loop-block.invariant.store.kept here volume kept) (long ∙ ap size_of (sym c.loop-block.invariant.store.tells))));
+          (c.in_default-read_block_at.ensures.read here volume (c.loop-block.invariant.store.kept here volume kept) (long ∙ ap size_of (sym c.loop-block.invariant.store.tells))));
     }

@@ -22,8 +22,8 @@ loop-piece-init g c = let starts = c.into_iter-piece-iterator.ensures.into_iter_
   bytes = λ here volume kept long. c.requires.empty;
 }
 
-pub returns-in_err-block-clause-any_moment : goal.returns-in_err-block-clause-any_moment
-returns-in_err-block-clause-any_moment g c = run_more c.loop-piece.invariant.store c.block_at.new.store c.block_at.ensures.any_moment
+pub returns-in_err-read_block_at-clause-any_moment : goal.returns-in_err-read_block_at-clause-any_moment
+returns-in_err-read_block_at-clause-any_moment g c = run_more c.loop-piece.invariant.store c.read_block_at.new.store c.read_block_at.ensures.any_moment
 
 pub loop-piece-preserved : goal.loop-piece-preserved
 loop-piece-preserved g c =
@@ -35,11 +35,11 @@ loop-piece-preserved g c =
           let left : piece_bytes c.loop-piece.piece-iterator ≡ c.in-Some.piece.len + piece_bytes c.next.new.self = ap piece_bytes c.in-Some.ensures.steps ∙ sum_by-cons (λ p. p.len) c.in-Some.piece c.next.new.self in
           let is = each 0 c.in-Some.piece (omega arith) in
           grind (arith, left, is.in_block, c.loop-piece.invariant.room, c.in-Ok.ensures.len, c.extend_from_slice.ensures.capacity, length-take, length-drop);
-      store = one_more c.loop-piece.invariant.store c.block_at.new.store c.in_ok-block.ensures.about c.in_ok-block.ensures.failures c.in_ok-block.ensures.kept c.block_at.ensures.any_moment;
+      store = one_more c.loop-piece.invariant.store c.read_block_at.new.store c.in_ok-read_block_at.ensures.about c.in_ok-read_block_at.ensures.failures c.in_ok-read_block_at.ensures.kept c.read_block_at.ensures.any_moment;
       bytes = λ here volume kept long.
-          one_read (fold patched volume (writes_upto c.args.table.now c.args.front)) c.loop-piece.bytes.items c.in_ok-block.block c.extend_from_slice.new.self.items c.loop-piece.yielded c.in-Some.piece
+          one_read (fold patched volume (writes_upto c.args.table.now c.args.front)) c.loop-piece.bytes.items c.read_block_at.new.bytes c.extend_from_slice.new.self.items c.loop-piece.yielded c.in-Some.piece
           (c.loop-piece.invariant.bytes here volume kept long)
-          (c.in_ok-block.ensures.read here volume (c.loop-piece.invariant.store.kept here volume kept) (long ∙ ap size_of (sym c.loop-piece.invariant.store.tells)))
+          (c.in_ok-read_block_at.ensures.read here volume (c.loop-piece.invariant.store.kept here volume kept) (long ∙ ap size_of (sym c.loop-piece.invariant.store.tells)))
           c.in-Ok.ensures.items;
     }
 

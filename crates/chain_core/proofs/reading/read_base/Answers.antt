@@ -2,7 +2,7 @@ use Rattle.std.proofs.Common.{◌∙◌, arith, refl, sym}
 use Rattle.chain_core.specs.Node.{size_of}
 use Rattle.chain_core.proofs.Ranges.{whole_base}
 use Rattle.chain_core.proofs.StoreReads.{run_first}
-use Rattle.chain_core.proofs.reading.base_of.Goals as goal
+use Rattle.chain_core.proofs.reading.read_base.Goals as goal
 
 pub returns-then-is_whole-clause-base : goal.returns-then-is_whole-clause-base
 returns-then-is_whole-clause-base g c = λ keeps volume kept long.
