@@ -18,6 +18,12 @@ block_read bytes b n at whole place =
     let count : at + n - at ≡ 4096 = omega arith in
     ap (λ (k : ℕ). take k (drop at bytes)) count ∙ ap (λ (k : ℕ). take 4096 (drop k bytes)) place
 
+-- and so are the bytes from a block on
+pub blocks_read : (bytes : List ℕ) (b n at : ℕ) → at ≡ 4096 * b → slice_range bytes at (at + n) ≡ take n (drop (4096 * b) bytes)
+blocks_read bytes b n at place =
+    let count : at + n - at ≡ n = omega arith in
+    ap (λ (k : ℕ). take k (drop at bytes)) count ∙ ap (λ (k : ℕ). take n (drop k bytes)) place
+
 -- an emptied slot leaves the newer one, and the next number is the newer one
 abbrev pub LeavesOld : Type 0
 LeavesOld = (slots : Slots) → newest (with_entry (next_slot slots) None slots) ≡ newest slots

@@ -1,5 +1,5 @@
 // The superblock and the home region of a member's disk.
-ghost use Rattle.std.specs.Prelude.{◌≡◌, ◌⊎◌, ◌+◌, ◌*◌, ◌<◌, ◌≤◌, ◌↔◌, List, ℕ, true, false, length, IfOk, IfErr, OnOk, OnErr, IsErrOf, IsTrue};
+ghost use Rattle.std.specs.Prelude.{◌≡◌, ◌⊎◌, ◌+◌, ◌*◌, ◌<◌, ◌≤◌, ◌↔◌, List, ℕ, true, false, length, take, drop, IfOk, IfErr, OnOk, OnErr, IsErrOf, IsTrue};
 ghost use Rattle.disk_model.specs.Disk.{Elapses, Follows, Holds, LeavesOnly, NothingNew, Only, Torn};
 ghost use Rattle.disk_model.specs.Error as disk_error;
 ghost use Rattle.disk_model.specs.Part.{inside, LeftInside, TouchesOnly};
@@ -143,6 +143,25 @@ impl Home {
     {
         let part = home_part(self.superblock.geometry());
         part.read(disk, BLOCK_SIZE * u64::from(block), bytes)
+    }
+
+    /// Reads as many bytes of the home region as there is room for, from a block on, by one device call.
+    pub fn read_blocks<D: Disk>(
+        &self,
+        disk: &mut D,
+        first: u32,
+        bytes: &mut [u8],
+    ) -> Result<(), DiskError>
+        requires on_disk { disk_size_of self.now.superblock.geometry ≤ D.size disk.old }
+        requires within { 4096 * first + length bytes.old ≤ 4096 * self.now.superblock.geometry.blocks }
+
+        ensures read { D.keeps_model → OnOk result (bytes.new ≡ take (length bytes.old) (drop (4096 * first) (inside (places.home_part self.now.superblock.geometry) (D.gives disk.old)))) }
+        ensures reads { D.keeps_model → OnlyReads D.gives D.may_leave_now D.moment D.may_have_left_since disk.old disk.new }
+        ensures size { D.size disk.new ≡ D.size disk.old }
+        ensures cause { disk_error.HasCause DiskError.ReadFault (D.failures disk.old) (D.failures disk.new) result }
+    {
+        let part = home_part(self.superblock.geometry());
+        part.read(disk, BLOCK_SIZE * u64::from(first), bytes)
     }
 
     /// Writes over a block of the home region, of 4,096 bytes. Until a sync, a stop may leave any bytes in it.
