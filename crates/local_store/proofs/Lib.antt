@@ -5,6 +5,7 @@ mod Homes
 mod Opening
 mod Overlays
 mod Refusals
+mod Runs
 mod Pends
 mod Slices
 mod Sound

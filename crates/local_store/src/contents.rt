@@ -1,5 +1,5 @@
 //! What a member's disk holds, as its store knows it. Each call is lent the disk.
-ghost use Rattle.std.specs.Prelude.{◌≡◌, ◌≢◌, ◌⊎◌, ◌*◌, ◌<◌, ◌≤◌, ◌↔◌, ℕ, List, Some, None, true, false, length, Any, replicate, set, IfOk, IfErr, IfNone, IfSome, OnOk, OnErr, IsErrOf, IsSome};
+ghost use Rattle.std.specs.Prelude.{◌≡◌, ◌≢◌, ◌⊎◌, ◌+◌, ◌*◌, ◌<◌, ◌≤◌, ◌↔◌, ℕ, List, Some, None, true, false, length, take, drop, Any, replicate, set, IfOk, IfErr, IfNone, IfSome, OnOk, OnErr, IsErrOf, IsSome};
 ghost use Rattle.disk_model.specs.Disk.{LeavesOnly, Only};
 ghost use Rattle.gate_journal.specs.Batch.{AreImages};
 ghost use Rattle.gate_journal.specs.Journal as journals;
@@ -195,6 +195,44 @@ impl Contents {
             self.broken = true;
             return Err(Refusal::Device(error));
         }
+        Ok(())
+    }
+
+    /// Reads a run of blocks of the volume, by one device call: the pending ones are put over what it gave. The cache has what
+    /// the home region has, so it isn't asked.
+    ///
+    /// 122 `Broken` exactly where a device call failed before; and what the device refuses: then the store is broken.
+    pub fn read_blocks<D: Disk>(
+        &mut self,
+        disk: &mut D,
+        first: u32,
+        count: u32,
+        bytes: &mut [u8],
+    ) -> Result<(), Refusal>
+        requires on_disk { disk_size_of (geometry_of self.old) ≤ D.size disk.old }
+        requires within { first + count ≤ (geometry_of self.old).blocks }
+        requires whole { length bytes.old ≡ 4096 * count }
+
+        ensures read { D.keeps_model → (volume : List ℕ) → IsStored self.old volume (D.gives disk.old) (D.may_leave_now disk.old)
+            → OnOk result (bytes.new ≡ take (4096 * count) (drop (4096 * first) volume)) }
+        ensures stored { D.keeps_model → (volume : List ℕ) → IsStored self.old volume (D.gives disk.old) (D.may_leave_now disk.old)
+            → OnOk result (IsStored self.new volume (D.gives disk.new) (D.may_leave_now disk.new)) }
+        ensures ok { OnOk result (self.new ≡ self.old) }
+        ensures reads { D.keeps_model → OnlyReads D.gives D.may_leave_now D.moment D.may_have_left_since disk.old disk.new }
+        ensures size { D.size disk.new ≡ D.size disk.old }
+        ensures broken { IsErrOf result Refusal.Broken ↔ (self.old.broken ≡ true) }
+        ensures told { IfErr result IsOfReading }
+        ensures err { OnErr result (self.new ≡ record self.old { broken = true }) }
+        ensures cause { HasCause (D.failures disk.old) (D.failures disk.new) result }
+    {
+        if self.broken {
+            return Err(Refusal::Broken);
+        }
+        if let Err(error) = self.home.read_blocks(disk, first, bytes) {
+            self.broken = true;
+            return Err(Refusal::Device(error));
+        }
+        self.pending.put_over(first, count, bytes);
         Ok(())
     }
 

@@ -1,8 +1,9 @@
 //! The images that are in the current area and not yet home.
-ghost use Rattle.std.specs.Prelude.{◌≡◌, ℕ, ◌<◌, ◌≤◌, Option, Some, None, All, List, length, replicate, set, map, IfOk, IfSome, IfNone, option_map, ◌↔◌, ◌^◌};
+ghost use Rattle.std.specs.Prelude.{◌≡◌, ℕ, ◌+◌, ◌*◌, ◌<◌, ◌≤◌, Option, Some, None, unwrap_or, All, List, length, replicate, set, map, IfOk, IfSome, IfNone, option_map, ◌↔◌, ◌^◌};
 ghost use Rattle.flusher.specs.Plan.{IsNext, IsPending, NonePending};
 ghost use Rattle.gate_journal.specs.declared.batch.Image.{Image as Imaged};
 ghost use Rattle.local_store.specs.Pending.{held, with_all_pending, with_pending};
+ghost use Rattle.volume.specs.Writes.{block_of};
 
 use flusher::Plan;
 use gate_journal::{Batch, Image};
@@ -77,6 +78,21 @@ impl Pending {
         ensures { option_map (λ image. image.now.bytes) result ≡ held self.now block }
     {
         self.images.get(block as usize)?.as_deref()
+    }
+
+    /// Puts the pending images of a run of blocks over their places in these bytes of it.
+    pub(crate) fn put_over(&self, first: u32, count: u32, bytes: &mut [u8])
+        requires within { first + count < 2 ^ 32 }
+        requires whole { length bytes.old ≡ 4096 * count }
+        ensures size { length bytes.new ≡ length bytes.old }
+        ensures blocks { (i : ℕ) → i < count → block_of bytes.new i ≡ unwrap_or (held self.now (first + i)) (block_of bytes.old i) }
+    {
+        for i in 0..count {
+            if let Some(image) = self.get(first + i) {
+                let start = i as usize * BLOCK_SIZE as usize;
+                bytes[start..start + BLOCK_SIZE as usize].copy_from_slice(&image.bytes);
+            }
+        }
     }
 
     /// The next pending block, by the plan. That none is pending is looked up once, until an image is put in.

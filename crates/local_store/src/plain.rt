@@ -136,7 +136,7 @@ fn stamp(
 }
 
 impl StoreLike for PlainStore {
-    ghost use Rattle.std.specs.Prelude.{◌≡◌, ◌⊎◌, ◌*◌, ◌<◌, ◌≤◌, ◌↔◌, ℕ, List, true, false, length, Any, IfOk, IfErr, IfNone, IfSome, OnOk, OnErr, IsErrOf, ⊤};
+    ghost use Rattle.std.specs.Prelude.{◌≡◌, ◌⊎◌, ◌+◌, ◌*◌, ◌<◌, ◌≤◌, ◌↔◌, ℕ, List, true, false, length, take, drop, Any, IfOk, IfErr, IfNone, IfSome, OnOk, OnErr, IsErrOf, ⊤};
     ghost use Rattle.flusher.specs.Plan.{IsPending};
     ghost use Rattle.local_store.specs.Plain.{KeepsPlain, MeansPlain, keeps_one_plain, means_plain};
 
@@ -196,6 +196,16 @@ impl StoreLike for PlainStore {
         }
         let start = block as usize * BLOCK_SIZE as usize;
         bytes.copy_from_slice(&self.volume[start..start + BLOCK_SIZE as usize]);
+        Ok(())
+    }
+
+    fn read_blocks(&mut self, first: u32, count: u32, bytes: &mut [u8]) -> Result<(), Refusal> {
+        if self.broken {
+            return Err(Refusal::Broken);
+        }
+        let start = first as usize * BLOCK_SIZE as usize;
+        let len = count as usize * BLOCK_SIZE as usize;
+        bytes.copy_from_slice(&self.volume[start..start + len]);
         Ok(())
     }
 

@@ -113,7 +113,7 @@ impl<D: Disk + Drop> Store<D> {
 }
 
 impl<D: Disk + Drop> StoreLike for Store<D> {
-    ghost use Rattle.std.specs.Prelude.{◌≡◌, ◌⊎◌, ◌*◌, ◌<◌, ◌≤◌, ◌↔◌, ℕ, List, true, false, length, Any, IfOk, IfErr, IfNone, IfSome, OnOk, OnErr, IsErrOf};
+    ghost use Rattle.std.specs.Prelude.{◌≡◌, ◌⊎◌, ◌+◌, ◌*◌, ◌<◌, ◌≤◌, ◌↔◌, ℕ, List, true, false, length, take, drop, Any, IfOk, IfErr, IfNone, IfSome, OnOk, OnErr, IsErrOf};
     ghost use Rattle.flusher.specs.Plan.{IsPending};
     ghost use Rattle.local_store.specs.Kept.{one_volume, stored_means};
 
@@ -169,6 +169,11 @@ impl<D: Disk + Drop> StoreLike for Store<D> {
 
     fn read_block(&mut self, block: u32, bytes: &mut [u8]) -> Result<(), Refusal> {
         self.contents.read_block(&mut self.disk, block, bytes)
+    }
+
+    fn read_blocks(&mut self, first: u32, count: u32, bytes: &mut [u8]) -> Result<(), Refusal> {
+        self.contents
+            .read_blocks(&mut self.disk, first, count, bytes)
     }
 
     fn commit(&mut self, alloc: Global, front: u64, images: &[Image]) -> Result<Synced, Refusal> {

@@ -1,5 +1,5 @@
 //! A store, as the layers above see it.
-ghost use Rattle.std.specs.Prelude.{◌≡◌, ◌⊎◌, ◌*◌, ◌<◌, ◌≤◌, ◌↔◌, ℕ, List, true, false, length, Any, IfOk, IfErr, IfNone, IfSome, OnOk, OnErr, IsErrOf};
+ghost use Rattle.std.specs.Prelude.{◌≡◌, ◌⊎◌, ◌+◌, ◌*◌, ◌<◌, ◌≤◌, ◌↔◌, ℕ, List, true, false, length, take, drop, Any, IfOk, IfErr, IfNone, IfSome, OnOk, OnErr, IsErrOf};
 ghost use Rattle.disk_model.specs.Disk.{LeavesOnly};
 ghost use Rattle.gate_journal.specs.Batch.{AreImages};
 ghost use Rattle.local_store.specs.About.{About, HasNoRoom, HasRoom, IsOneLess, meaning_then, meaning_with, one_checkpoint_more, one_commit_more};
@@ -74,6 +74,22 @@ pub trait StoreLike {
         requires block { block < (about self.old).geometry.blocks }
         requires whole { length bytes.old ≡ BLOCK_SIZE }
         ensures read { keeps_model → (volume : List ℕ) → keeps self.old volume → OnOk result (bytes.new ≡ block_of volume block) }
+        ensures kept { keeps_model → (volume : List ℕ) → keeps self.old volume → OnOk result (keeps self.new volume) }
+        ensures any_moment { keeps_model → (volume : List ℕ) → keeps self.old volume → LeavesOnly moment may_have_left_since self.old self.new (Means (meaning_with (about self.old) volume)) }
+        ensures ok { OnOk result (about self.new ≡ about self.old) }
+        ensures still { (b : ℕ) → is_pending self.new b ↔ is_pending self.old b }
+        ensures broken { IsErrOf result Refusal.Broken ↔ ((about self.old).broken ≡ true) }
+        ensures told { IfErr result IsOfReading }
+        ensures err { OnErr result (about self.new ≡ record (about self.old) { broken = true }) }
+        ensures cause { HasCause (failures self.old) (failures self.new) result };
+
+    /// Reads a run of blocks of the volume.
+    ///
+    /// 122 `Broken` exactly where a device call failed before; and what the device refuses: then the store is broken.
+    fn read_blocks(&mut self, first: u32, count: u32, bytes: &mut [u8]) -> Result<(), Refusal>
+        requires within { first + count ≤ (about self.old).geometry.blocks }
+        requires whole { length bytes.old ≡ 4096 * count }
+        ensures read { keeps_model → (volume : List ℕ) → keeps self.old volume → OnOk result (bytes.new ≡ take (4096 * count) (drop (4096 * first) volume)) }
         ensures kept { keeps_model → (volume : List ℕ) → keeps self.old volume → OnOk result (keeps self.new volume) }
         ensures any_moment { keeps_model → (volume : List ℕ) → keeps self.old volume → LeavesOnly moment may_have_left_since self.old self.new (Means (meaning_with (about self.old) volume)) }
         ensures ok { OnOk result (about self.new ≡ about self.old) }

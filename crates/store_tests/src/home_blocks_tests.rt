@@ -83,6 +83,26 @@ fn a_home(rt: HostRuntime) -> Result<(), Fail> {
     Ok(())
 }
 
+// Two blocks that were written and one that was not, by one device call.
+#[test]
+fn a_run(rt: HostRuntime) -> Result<(), Fail> {
+    let alloc = rt.alloc();
+    let fresh = superblock(Progress::Whole)?;
+    let mut disk = MemDisk::new(alloc, disk_size(fresh.geometry()), Script::new(alloc))?;
+    let (home, _) = Home::create(&mut disk, fresh)?;
+    assert_eq!(rt; home.superblock().geometry().blocks, 8);
+    home.write_home(&mut disk, 5, &[5; 4_096])?;
+    home.write_home(&mut disk, 6, &[6; 4_096])?;
+    let before = disk.calls();
+    let mut bytes = [9; 12_288];
+    home.read_blocks(&mut disk, 5, &mut bytes)?;
+    assert_eq!(rt; disk.calls(), before.saturating_add(1));
+    for (block, byte) in bytes.chunks(4_096).zip([5, 6, 0]) {
+        assert_eq!(rt; block, [byte; 4_096].as_slice());
+    }
+    Ok(())
+}
+
 #[test]
 fn no_room(rt: HostRuntime) -> Result<(), Fail> {
     let alloc = rt.alloc();

@@ -127,6 +127,21 @@ impl Rig {
         assert_eq!(rt; bytes, [bytes[0]; IMAGE_SIZE], "block {block}");
         Ok(bytes[0])
     }
+
+    // The byte of which each of three blocks consists, which are read together.
+    fn read_three(&mut self, rt: &impl Abort, first: u32) -> Result<[u8; 3], Refusal>
+        requires { first < 6 }
+    {
+        fits(rt, &self.store, &self.disk);
+        let mut bytes = [0xee; 3 * IMAGE_SIZE];
+        self.store
+            .read_blocks(&mut self.disk, first, 3, &mut bytes)?;
+        let blocks = [bytes[0], bytes[IMAGE_SIZE], bytes[2 * IMAGE_SIZE]];
+        for (block, byte) in bytes.chunks(IMAGE_SIZE).zip(blocks) {
+            assert_eq!(rt; block, [byte; IMAGE_SIZE].as_slice(), "from {first} on");
+        }
+        Ok(blocks)
+    }
 }
 
 // The store that the disk holds.
@@ -249,6 +264,19 @@ fn reads_are_counted(rt: HostRuntime) -> Result<(), Fail> {
     let mut rig = checkpointed(&rt, rt.alloc())?;
     for (block, byte, calls) in [(1, 9, 41), (0, 7, 42), (7, 0, 43)] {
         assert_eq!(rt; (rig.read(&rt, block)?, rig.disk.calls()), (byte, calls));
+    }
+    Ok(())
+}
+
+// Runs with a pending block inside, with one in front, and with none.
+#[test]
+fn runs_are_counted(rt: HostRuntime) -> Result<(), Fail> {
+    let mut rig = checkpointed(&rt, rt.alloc())?;
+    for (first, bytes, calls) in [(0, [7, 9, 0], 42), (1, [9, 0, 0], 43), (5, [0; 3], 44)] {
+        assert_eq!(rt;
+            (rig.read_three(&rt, first)?, rig.disk.calls()),
+            (bytes, calls)
+        );
     }
     Ok(())
 }
