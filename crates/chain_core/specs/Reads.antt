@@ -1,5 +1,5 @@
 -- What a call that reads leaves of the store.
-use Rattle.std.specs.Prelude.{◌≡◌, ◌≢◌, ◌⊎◌, ℕ, ◌<◌, true, List, [], ◌∷◌, filter, fold, length, map, not, Some, None}
+use Rattle.std.specs.Prelude.{◌≡◌, ◌≢◌, ◌⊎◌, ℕ, ◌%◌, ◌<◌, ◌≤◌, true, List, [], ◌∷◌, filter, fold, length, map, not, Some, None}
 use Rattle.disk_model.specs.Disk.{LeavesOnly}
 use Rattle.disk_model.specs.Error.{MayTell}
 use Rattle.disk_model.specs.declared.error.DiskError.{DiskError}
@@ -40,6 +40,10 @@ pub record IsBaseOf (volume : List ℕ) (writes : List Placed) (block : ℕ) (by
   pub as_long : length under ≡ length volume
   pub is : bytes ≡ block_of under block
   pub same : block_of (fold patched under writes) block ≡ block_of (fold patched volume writes) block
+
+-- the range is of whole blocks, at least two
+abbrev pub AreBlocks : ℕ → ℕ → Type 0
+AreBlocks offset len = (offset % 4096 ≡ 0) × (len % 4096 ≡ 0) × (8192 ≤ len)
 
 -- why ranges weren't read: memory ran out, or the device refused a read
 abbrev pub AreUnread : {S : Type 0} → (S → About) → (S → ℕ) → (OnlyRead : Type 0) → S → S → Unread → Type 0

@@ -1,13 +1,13 @@
 //! Ranges of the volume, from the store and the table.
-ghost use Rattle.std.specs.Prelude.{◌≡◌, ◌+◌, ◌<◌, ◌≤◌, [], List, ℕ, false, All, IfErr, IfOk, OnOk, fold, length, map, vec_capacity};
+ghost use Rattle.std.specs.Prelude.{◌≡◌, ◌+◌, ◌*◌, ◌<◌, ◌≤◌, ◌↔◌, IsTrue, [], List, ℕ, false, All, IfErr, IfOk, OnOk, fold, length, map, vec_capacity};
 ghost use Rattle.disk_model.specs.Disk.{LeavesOnly};
 ghost use Rattle.local_store.specs.About.{meaning_with};
 ghost use Rattle.local_store.specs.Meaning.{Means};
-ghost use Rattle.version_table.specs.Held.{applied_of, writes_upto};
+ghost use Rattle.version_table.specs.Held.{IsClean, applied_of, writes_upto};
 ghost use Rattle.volume.specs.Writes.{Fits, block_of, patched};
 ghost use Rattle.chain_steps.specs.Steps.{range_of};
 ghost use Rattle.chain_core.specs.Node.{size_of};
-ghost use Rattle.chain_core.specs.Reads.{AreUnread, HasFailed, HasOnlyRead, IsBaseOf, IsUnread};
+ghost use Rattle.chain_core.specs.Reads.{AreBlocks, AreUnread, HasFailed, HasOnlyRead, IsBaseOf, IsUnread};
 
 use disk_model::DiskError;
 use local_store::{Refusal, StoreLike};
@@ -59,6 +59,86 @@ pub(crate) fn read_range<S: StoreLike>(
 
 /// Reads such a range into an empty list that has room for it.
 fn read_into<S: StoreLike>(
+    store: &mut S,
+    table: &Table,
+    offset: u64,
+    len: u32,
+    front: u64,
+    bytes: &mut Vec<u8>,
+) -> Result<(), DiskError>
+    requires runs { (S.about store.old).broken ≡ false }
+    requires few { (S.about store.old).geometry.blocks ≤ 65536 }
+    requires within { offset + len ≤ size_of (S.about store.old) }
+    requires inside { All (λ k. Fits (size_of (S.about store.old)) k.write) table.now.kept }
+    requires kept { table.now.forgotten ≤ front }
+    requires applied { front ≤ applied_of table.now }
+    requires empty { bytes.old.items ≡ [] }
+    requires room { len ≤ vec_capacity bytes.old }
+    ensures read { S.keeps_model → (volume : List ℕ) → S.keeps store.old volume → length volume ≡ size_of (S.about store.old)
+        → OnOk result (bytes.new.items ≡ range_of (fold patched volume (writes_upto table.now front)) offset len) }
+    ensures kept { S.keeps_model → (volume : List ℕ) → S.keeps store.old volume → OnOk result (S.keeps store.new volume) }
+    ensures any_moment { S.keeps_model → (volume : List ℕ) → S.keeps store.old volume → LeavesOnly S.moment S.may_have_left_since store.old store.new (Means (meaning_with (S.about store.old) volume)) }
+    ensures about { OnOk result (S.about store.new ≡ S.about store.old) }
+    ensures failures { OnOk result (S.failures store.new ≡ S.failures store.old) }
+    ensures failed { IfErr result (HasFailed S.about S.failures store.old store.new) }
+{
+    if is_run(table, offset, len) {
+        read_run(store, offset, len, bytes)
+    } else {
+        read_pieces(store, table, offset, len, front, bytes)
+    }
+}
+
+/// Whether the range is of whole blocks, at least two.
+fn are_blocks(offset: u64, len: u32) -> bool
+    ensures { IsTrue result ↔ AreBlocks offset len }
+{
+    let len = u64::from(len);
+    offset % BLOCK_SIZE == 0 && len % BLOCK_SIZE == 0 && len >= 2 * BLOCK_SIZE
+}
+
+/// Whether it is, and no kept write touches them: then the store alone has its bytes.
+fn is_run(table: &Table, offset: u64, len: u32) -> bool
+    requires inside { offset + len ≤ 4096 * 65536 }
+    ensures { IsTrue result ↔ (AreBlocks offset len × IsClean table.now offset len table.now.forgotten) }
+{
+    are_blocks(offset, len) && table.is_clean(offset, len, table.forgotten())
+}
+
+/// Reads whole blocks of the store into an empty list that has room for them, by one call.
+fn read_run<S: StoreLike>(
+    store: &mut S,
+    offset: u64,
+    len: u32,
+    bytes: &mut Vec<u8>,
+) -> Result<(), DiskError>
+    requires runs { (S.about store.old).broken ≡ false }
+    requires few { (S.about store.old).geometry.blocks ≤ 65536 }
+    requires within { offset + len ≤ size_of (S.about store.old) }
+    requires blocks { AreBlocks offset len }
+    requires empty { bytes.old.items ≡ [] }
+    requires room { len ≤ vec_capacity bytes.old }
+    ensures read { S.keeps_model → (volume : List ℕ) → S.keeps store.old volume → OnOk result (bytes.new.items ≡ range_of volume offset len) }
+    ensures kept { S.keeps_model → (volume : List ℕ) → S.keeps store.old volume → OnOk result (S.keeps store.new volume) }
+    ensures any_moment { S.keeps_model → (volume : List ℕ) → S.keeps store.old volume → LeavesOnly S.moment S.may_have_left_since store.old store.new (Means (meaning_with (S.about store.old) volume)) }
+    ensures about { OnOk result (S.about store.new ≡ S.about store.old) }
+    ensures failures { OnOk result (S.failures store.new ≡ S.failures store.old) }
+    ensures failed { IfErr result (HasFailed S.about S.failures store.old store.new) }
+{
+    let Ok(()) = bytes.resize(len as usize, 0) else {
+        unreachable!();
+    };
+    let first = (offset / BLOCK_SIZE) as u32;
+    let count = len / BLOCK_SIZE as u32;
+    match store.read_blocks(first, count, bytes) {
+        Ok(()) => Ok(()),
+        Err(Refusal::Device(error)) => Err(error),
+        Err(_) => unreachable!(),
+    }
+}
+
+/// Reads such a range block by block.
+fn read_pieces<S: StoreLike>(
     store: &mut S,
     table: &Table,
     offset: u64,

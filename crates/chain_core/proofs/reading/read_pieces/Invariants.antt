@@ -7,7 +7,7 @@ use Rattle.volume.specs.Writes.{patched}
 use Rattle.chain_core.specs.Node.{size_of}
 use Rattle.chain_core.proofs.Ranges.{piece_read}
 use Rattle.chain_core.specs.Reads.{HasOnlyRead}
-use Rattle.chain_core.proofs.reading.read_into.Given as goal
+use Rattle.chain_core.proofs.reading.read_pieces.Given as goal
 
 -- the bytes of the pieces so far, from a store that was only read
 abbrev pub invariant-loop-piece : goal.invariant-loop-piece
