@@ -117,7 +117,8 @@ pub(crate) fn encoded_behind_gate(
     ensures len { IfOk result (λ bytes. length bytes.items ≡ batch_size (length images.now)) }
     ensures whole { OnOk result (All IsWhole images.now) }
 {
-    let mut bytes = Vec::new(alloc);
+    let size = BATCH_HEADER + IMAGE_RECORD * images.len() as u64;
+    let mut bytes = Vec::with_capacity(alloc, size as usize)?;
     bytes.extend_from_slice(&front.to_be_bytes())?;
     bytes.extend_from_slice(&(images.len() as u32).to_be_bytes())?;
     for image in images {
