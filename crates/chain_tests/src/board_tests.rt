@@ -1,6 +1,7 @@
 //! Worked numbers of the board, and threads that step on it.
 ghost use Rattle.std.specs.Prelude.{◌≡◌, ◌<◌, All, IfSome, length, slice_get, true};
 
+use crate::comparing::{same, same_at};
 use board::{Board, Floor, Refusal, Seat};
 use disk_model::{MemDisk, Part, Script};
 use gate_journal::{IMAGE_SIZE, Image, Journal, Slot, Synced};
@@ -56,24 +57,24 @@ fn receipt(rt: &impl Abort, alloc: Global, slot: Slot, front: u64) -> Result<Syn
 #[test]
 fn a_board_answers_its_words(rt: HostRuntime) -> Result<(), Fail> {
     let (board, mut seats) = Board::new(rt.alloc(), 3, 1, [3, 0, 0, 0, 0, 0, 0, 0], 1)?;
-    assert_eq!(rt; seats.len(), 1);
+    same(&rt, seats.len(), 1);
     let seat = &mut seats[0];
-    assert_eq!(rt; board.look(seat).number(), 3);
-    assert_eq!(rt; board.raise(seat, 5).number(), 5);
-    assert_eq!(rt; board.raise(seat, 4).number(), 5);
+    same(&rt, board.look(seat).number(), 3);
+    same(&rt, board.raise(seat, 5).number(), 5);
+    same(&rt, board.raise(seat, 4).number(), 5);
     let front = board.look(seat);
-    assert_eq!(rt; front.number(), 5);
+    same(&rt, front.number(), 5);
     let crew = board.crew(seat, front);
-    assert_eq!(rt; (crew.mask(), crew.front().number()), (1, 5));
+    same(&rt, (crew.mask(), crew.front().number()), (1, 5));
     let slot = Slot::new(0).ok_or("slot 0")?;
     let gauge = board.gauge(seat, &crew, slot);
-    assert_eq!(rt; (gauge.slot().number(), gauge.front()), (0, 3));
+    same(&rt, (gauge.slot().number(), gauge.front()), (0, 3));
     board.count_in(seat, Slot::new(2).ok_or("slot 2")?);
     let front = board.look(seat);
-    assert_eq!(rt; board.crew(seat, front).mask(), 5);
+    same(&rt, board.crew(seat, front).mask(), 5);
     board.count_out(seat, slot);
     let front = board.look(seat);
-    assert_eq!(rt; board.crew(seat, front).mask(), 4);
+    same(&rt, board.crew(seat, front).mask(), 4);
     Ok(())
 }
 
@@ -104,7 +105,7 @@ fn two_threads_raise_one_front(rt: HostRuntime) -> Result<(), Fail> {
     let first = take_seat(&board, &mut seats).ok_or("a seat")?;
     let (first, second) = join(&rt, || climb(&board, first), || climb(&board, second));
     assert!(rt; first.is_some() && second.is_some());
-    assert_eq!(rt; board.look(&mut last).number(), TOP);
+    same(&rt, board.look(&mut last).number(), TOP);
     Ok(())
 }
 
@@ -124,7 +125,7 @@ fn post_all(
         let front = board.look(seat);
         let crew = board.crew(seat, front);
         let floor = Floor::read(board, seat, crew);
-        assert_eq!(rt; floor.front(), wanted, "posted {posted}");
+        same_at(rt, floor.front(), wanted, posted);
     }
     Ok(())
 }
@@ -198,10 +199,7 @@ fn floors_are_covered_while_slots_come_and_go(rt: HostRuntime) -> Result<(), Fai
 
 #[test]
 fn a_refusal_has_its_number_and_name(rt: HostRuntime) -> Result<(), Fail> {
-    assert_eq!(rt; Refusal::Memory.number(), 100);
-    assert_eq!(rt;
-        format!(in rt.alloc(); "{}", Refusal::Memory)?.as_str(),
-        "100 Memory"
-    );
+    same(&rt, Refusal::Memory.number(), 100);
+    same(&rt, format!(in rt.alloc(); "{}", Refusal::Memory)?.as_str(), "100 Memory");
     Ok(())
 }

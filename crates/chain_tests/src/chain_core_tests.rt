@@ -3,6 +3,7 @@ ghost use Rattle.std.specs.Prelude.{◌≡◌, IsTrue};
 ghost use Rattle.chain_core.specs.Node.{IsInside, size_of};
 ghost use Rattle.chain_steps.specs.Waiting.{board_of};
 
+use crate::comparing::same;
 use board::{Board, Floor, Seat};
 use bytes::Bytes;
 use chain_core::{Node, Out, Refused, Served};
@@ -64,9 +65,9 @@ fn is_inside(node: &Node<PlainStore>, message: &Message) -> bool
 fn pass(rt: &impl Abort, from: u8, node: &mut Node<PlainStore>, mut sent: Vec<Sent>) -> Out
     ensures { node.new.state.board ≡ node.old.state.board }
 {
-    assert_eq!(rt; sent.len(), 1);
+    same(rt, sent.len(), 1);
     let Sent { to, envelope } = sent.pop().expect(rt, "a message");
-    assert_eq!(rt; to, node.store().slot());
+    same(rt, to, node.store().slot());
     assert!(rt; is_inside(node, &envelope.message));
     let from = Slot::new(from).expect(rt, "a slot");
     node.deliver(from, &envelope)
@@ -136,7 +137,7 @@ fn flush(rt: &impl Abort, board: &Board, node: &mut Node<PlainStore>, cookie: u6
 {
     let token = OwedFlush::new(&BoardName::of(board), SessionId(4), cookie);
     match node.flush(token) {
-        Ok(out) => assert_eq!(rt; (out.messages.len(), out.replies.len()), (0, 0)),
+        Ok(out) => same(rt, (out.messages.len(), out.replies.len()), (0, 0)),
         Err(
             Refused {
                 token,
@@ -163,7 +164,7 @@ fn raise(
     ensures of_board { tail.new.state.board ≡ board.now }
     ensures of_seat { seat.new.board ≡ board.now }
 {
-    assert_eq!(rt; tail.raise(board, seat), number);
+    same(rt, tail.raise(board, seat), number);
     tail.raised()
 }
 
@@ -180,7 +181,7 @@ fn look(
     ensures of_board { node.new.state.board ≡ board.now }
     ensures of_seat { seat.new.board ≡ board.now }
 {
-    assert_eq!(rt; node.look(board, seat), number);
+    same(rt, node.look(board, seat), number);
     assert!(rt; node.stopped().is_none());
     node.answer_front().replies
 }
@@ -192,9 +193,9 @@ fn commit_next(rt: &impl Abort, node: &mut Node<PlainStore>) -> Synced
     let Ok(begun) = node.begin_commit() else {
         panic!(rt; "a commit that doesn't begin")
     };
-    assert_eq!(rt; begun.replies.len(), 0);
+    same(rt, begun.replies.len(), 0);
     let (ended, receipt) = node.end_commit();
-    assert_eq!(rt; ended.replies.len(), 0);
+    same(rt, ended.replies.len(), 0);
     receipt.expect(rt, "a receipt")
 }
 
@@ -213,13 +214,13 @@ fn pay(board: &Board, seat: &mut Seat, node: &mut Node<PlainStore>) -> Vec<Serve
 
 // The one reply, of this cookie and with these bytes.
 fn check(rt: &impl Abort, replies: Vec<Served>, cookie: u64, bytes: &[u8]) {
-    assert_eq!(rt; replies.len(), 1);
+    same(rt, replies.len(), 1);
     for served in replies {
         let reply = served.reply();
-        assert_eq!(rt; reply.session(), SessionId(4));
-        assert_eq!(rt; reply.cookie(), cookie);
-        assert_eq!(rt; reply.error(), None);
-        assert_eq!(rt; reply.payload(), bytes);
+        same(rt, reply.session(), SessionId(4));
+        same(rt, reply.cookie(), cookie);
+        same(rt, reply.error(), None);
+        same(rt, reply.payload(), bytes);
     }
 }
 
@@ -241,7 +242,7 @@ fn write_down(
     let token = WriteToken::Plain(OwedWrite::new(&BoardName::of(board), SessionId(4), 1));
     let submitted = submit(rt, alloc, head, token, 1, &[5, 6]);
     let numbered = pass(rt, 0, head, submitted);
-    assert_eq!(rt; pass(rt, 0, tail, numbered.messages).messages.len(), 0);
+    same(rt, pass(rt, 0, tail, numbered.messages).messages.len(), 0);
     raise(rt, board, seat, tail, 1).messages
 }
 
@@ -256,12 +257,12 @@ fn a_write_goes_down_and_its_ack_comes_back(rt: HostRuntime) {
     let token = WriteToken::Plain(OwedWrite::new(&BoardName::of(&board), SessionId(4), 9));
     let submitted = submit(&rt, alloc, &mut middle, token, 4_095, &[1, 2, 3]);
     let numbered = pass(&rt, 1, &mut head, submitted);
-    assert_eq!(&rt; head.applied(), 1);
+    same(&rt, head.applied(), 1);
     let applied = pass(&rt, 0, &mut middle, numbered.messages);
-    assert_eq!(&rt; pass(&rt, 1, &mut tail, applied.messages).messages.len(), 0);
+    same(&rt, pass(&rt, 1, &mut tail, applied.messages).messages.len(), 0);
     let committed = raise(&rt, &board, &mut seat, &mut tail, 1);
     let acked = pass(&rt, 2, &mut middle, committed.messages);
-    assert_eq!(&rt; pass(&rt, 1, &mut head, acked.messages).replies.len(), 0);
+    same(&rt, pass(&rt, 1, &mut head, acked.messages).replies.len(), 0);
     check(&rt, acked.replies, 9, b"");
     drop(head.abandon());
     drop(middle.abandon());
@@ -276,12 +277,12 @@ fn a_write_with_fua_is_paid_by_its_receipt(rt: HostRuntime) {
     let mut node = member(&rt, alloc, &board, chain(&rt, alloc, 1), 0);
     let token = WriteToken::Fua(OwedFua::new(&BoardName::of(&board), SessionId(4), 9));
     let submitted = submit(&rt, alloc, &mut node, token, 100, &[1, 2, 3]);
-    assert_eq!(&rt; pass(&rt, 0, &mut node, submitted).messages.len(), 0);
+    same(&rt, pass(&rt, 0, &mut node, submitted).messages.len(), 0);
     let known = raise(&rt, &board, &mut seat, &mut node, 1);
-    assert_eq!(&rt; (known.messages.len(), known.replies.len()), (0, 0));
+    same(&rt, (known.messages.len(), known.replies.len()), (0, 0));
     let receipt = commit_next(&rt, &mut node);
-    assert_eq!(&rt; receipt.front(), 1);
-    assert_eq!(&rt; pay(&board, &mut seat, &mut node).len(), 0);
+    same(&rt, receipt.front(), 1);
+    same(&rt, pay(&board, &mut seat, &mut node).len(), 0);
     board.post(&mut seat, receipt);
     check(&rt, pay(&board, &mut seat, &mut node), 9, b"");
     drop(node.abandon());
@@ -295,7 +296,7 @@ fn a_dirty_read_waits_for_a_front(rt: HostRuntime) {
     let mut head = member(&rt, alloc, &board, chain(&rt, alloc, 2), 0);
     let mut tail = member(&rt, alloc, &board, chain(&rt, alloc, 2), 1);
     let ack = write_down(&rt, alloc, &board, &mut seat, &mut head, &mut tail);
-    assert_eq!(&rt; read(&rt, &board, &mut head, 2, 0).len(), 0);
+    same(&rt, read(&rt, &board, &mut head, 2, 0).len(), 0);
     check(&rt, read(&rt, &board, &mut head, 3, 4_096), 3, &[0, 0, 0]);
     check(
         &rt,
@@ -319,10 +320,10 @@ fn a_flush_is_paid_by_both_receipts(rt: HostRuntime) {
     let ack = write_down(&rt, alloc, &board, &mut seat, &mut head, &mut tail);
     check(&rt, pass(&rt, 1, &mut head, ack).replies, 1, b"");
     flush(&rt, &board, &mut head, 2);
-    assert_eq!(&rt; look(&rt, &board, &mut seat, &mut head, 1).len(), 0);
+    same(&rt, look(&rt, &board, &mut seat, &mut head, 1).len(), 0);
     let (first, second) = (commit_next(&rt, &mut head), commit_next(&rt, &mut tail));
     board.post(&mut seat, first);
-    assert_eq!(&rt; pay(&board, &mut seat, &mut head).len(), 0);
+    same(&rt, pay(&board, &mut seat, &mut head).len(), 0);
     board.post(&mut seat, second);
     check(&rt, pay(&board, &mut seat, &mut head), 2, b"");
     drop(head.abandon());

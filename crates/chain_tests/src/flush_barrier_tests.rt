@@ -2,6 +2,7 @@
 ghost use Rattle.std.specs.Prelude.{◌≡◌, ◌≤◌, IfOk};
 ghost use Rattle.board.specs.declared.evidence.TheConstants.Front.{GREATEST};
 
+use crate::comparing::same;
 use board::{Board, Floor, Seat};
 use bytes::Bytes;
 use flush_barrier::{
@@ -38,10 +39,10 @@ fn floor_of(board: &Board, seat: &mut Seat) -> Floor
 }
 
 fn assert_reply(rt: &impl Abort, reply: &Reply, error: Option<u32>, payload: &[u8]) {
-    assert_eq!(rt; reply.session(), SESSION);
-    assert_eq!(rt; reply.cookie(), COOKIE);
-    assert_eq!(rt; reply.error().map(|code| code.number()), error);
-    assert_eq!(rt; reply.payload(), payload);
+    same(rt, reply.session(), SESSION);
+    same(rt, reply.cookie(), COOKIE);
+    same(rt, reply.error().map(|code| code.number()), error);
+    same(rt, reply.payload(), payload);
 }
 
 #[test]
@@ -72,12 +73,12 @@ fn a_fua_write_waits_for_its_floor(rt: HostRuntime) -> Result<(), Fail> {
     let (board, mut seat) = opened(alloc, 5, 4)?;
     let name = BoardName::of(&board);
     let floor = floor_of(&board, &mut seat);
-    assert_eq!(rt; floor.front(), 4);
+    same(&rt, floor.front(), 4);
     let mut token = OwedFua::new(&name, SESSION, COOKIE);
-    assert_eq!(rt; (token.session(), token.cookie()), (SESSION, COOKIE));
+    same(&rt, (token.session(), token.cookie()), (SESSION, COOKIE));
     assert!(rt; !token.is_paid_by(&floor));
     token.number(4);
-    assert_eq!(rt; token.numbered(), Some(4));
+    same(&rt, token.numbered(), Some(4));
     if token.is_paid_by(&floor) {
         assert_reply(&rt, &token.settle(alloc, &floor), None, &[]);
     } else {
@@ -97,11 +98,11 @@ fn a_flush_waits_for_its_floor(rt: HostRuntime) -> Result<(), Fail> {
     let (board, mut seat) = opened(alloc, 3, 3)?;
     let name = BoardName::of(&board);
     let mut token = OwedFlush::new(&name, SESSION, COOKIE);
-    assert_eq!(rt; (token.session(), token.cookie()), (SESSION, COOKIE));
+    same(&rt, (token.session(), token.cookie()), (SESSION, COOKIE));
     let floor = floor_of(&board, &mut seat);
     assert!(rt; !token.is_paid_by(&floor));
     token.bind(&board.look(&mut seat));
-    assert_eq!(rt; token.numbered(), Some(3));
+    same(&rt, token.numbered(), Some(3));
     if token.is_paid_by(&floor) {
         assert_reply(&rt, &token.settle(alloc, &floor), None, &[]);
     } else {

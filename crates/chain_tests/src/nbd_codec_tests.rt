@@ -1,3 +1,4 @@
+use crate::comparing::{same, same_at};
 use bytes::BytesMut;
 use nbd_codec::constants::REQUEST_HEADER;
 use nbd_codec::{
@@ -54,33 +55,27 @@ const LONG_WRITE: &[u8] =
 
 #[test]
 fn handshake(rt: HostRuntime) {
-    assert_eq!(rt; greeting().as_slice(), b"NBDMAGICIHAVEOPT\0\x03".as_slice());
+    same(&rt, greeting().as_slice(), b"NBDMAGICIHAVEOPT\0\x03".as_slice());
     let plain = ClientFlags { no_zeroes: false };
     let no_zeroes = ClientFlags { no_zeroes: true };
-    assert_eq!(rt; read_client_flags(b"\0\0\0\x01"), Reading::Value(plain, 4));
-    assert_eq!(rt;
-        read_client_flags(b"\0\0\0\x03I"),
-        Reading::Value(no_zeroes, 4)
-    );
-    assert_eq!(rt; read_client_flags(b"\0\0\0"), Reading::More);
+    same(&rt, read_client_flags(b"\0\0\0\x01"), Reading::Value(plain, 4));
+    same(&rt, read_client_flags(b"\0\0\0\x03I"), Reading::Value(no_zeroes, 4));
+    same(&rt, read_client_flags(b"\0\0\0"), Reading::More);
     for wrong in [
         b"\0\0\0\x02".as_slice(),
         b"\0\0\0\x07",
         b"\0\0\x01",
         b"\x01",
     ] {
-        assert_eq!(rt;
-            read_client_flags(wrong),
-            Reading::Fault(Fault::ClientFlags)
-        );
+        same(&rt, read_client_flags(wrong), Reading::Fault(Fault::ClientFlags));
     }
 }
 
 // The option is read from its whole text, and more is needed wherever that is cut.
 fn option_is(rt: &impl Abort, text: &[u8], want: ClientOption) {
-    assert_eq!(rt; read_option(text), Reading::Value(want, text.len()));
+    same(rt, read_option(text), Reading::Value(want, text.len()));
     for len in 0..text.len() {
-        assert_eq!(rt; read_option(&text[..len]), Reading::More, "cut at {len}");
+        same_at(rt, read_option(&text[..len]), Reading::More, len);
     }
 }
 
@@ -118,10 +113,7 @@ fn options(rt: HostRuntime) {
     ] {
         option_is(&rt, text, want);
     }
-    assert_eq!(rt;
-        read_option(b"IHAVEOPX"),
-        Reading::Fault(Fault::OptionMagic)
-    );
+    same(&rt, read_option(b"IHAVEOPX"), Reading::Fault(Fault::OptionMagic));
 }
 
 // The first byte of the name's length that isn't 0 ends the session, and before it more is needed.
@@ -139,7 +131,7 @@ fn other_exports(rt: HostRuntime) {
             } else {
                 Reading::Fault(Fault::ExportName)
             };
-            assert_eq!(rt; read_option(&text[..len]), want, "{len} bytes of {text:?}");
+            same_at(&rt, read_option(&text[..len]), want, (len, text));
         }
     }
 }
@@ -158,7 +150,7 @@ fn reply_is(
     write_option_reply(&mut out, option, reply)?;
     assert!(rt; out.starts_with(front), "{reply:?}");
     assert!(rt; out.ends_with(want), "{reply:?}");
-    assert_eq!(rt; out.len(), front.len() + want.len());
+    same(rt, out.len(), front.len() + want.len());
     Ok(())
 }
 
@@ -220,9 +212,9 @@ fn exports(rt: HostRuntime) -> Result<(), Fail> {
     let export = b"\0\0\0\0\0\0\x80\0\x01\x0d";
     let mut out = BytesMut::new(rt.alloc());
     write_export(&mut out, SIZE, true)?;
-    assert_eq!(rt; out.as_slice(), export.as_slice());
+    same(&rt, out.as_slice(), export.as_slice());
     write_export(&mut out, SIZE, false)?;
-    assert_eq!(rt; out.len(), 144);
+    same(&rt, out.len(), 144);
     assert!(rt; out[10..].starts_with(export));
     assert!(rt; out[20..].iter().all(|b| *b == 0));
     Ok(())
@@ -230,13 +222,10 @@ fn exports(rt: HostRuntime) -> Result<(), Fail> {
 
 // The request is read from its whole text, and more is needed wherever that is cut.
 fn request_is(rt: &impl Abort, text: &[u8], want: Request) {
-    assert_eq!(rt;
-        read_request(text, MAX_PAYLOAD),
-        Reading::Value(want, text.len())
-    );
+    same(rt, read_request(text, MAX_PAYLOAD), Reading::Value(want, text.len()));
     for len in 0..text.len() {
         let cut = read_request(&text[..len], MAX_PAYLOAD);
-        assert_eq!(rt; cut, Reading::More, "cut at {len}");
+        same_at(rt, cut, Reading::More, len);
     }
 }
 
@@ -293,20 +282,20 @@ fn requests(rt: HostRuntime) {
     ] {
         request_is(&rt, text, want);
     }
-    assert_eq!(rt; &WRITE[REQUEST_HEADER..], b"ABC".as_slice());
-    assert_eq!(rt; write_of(1, 4095, b"ABC").cookie(), 1);
+    same(&rt, &WRITE[REQUEST_HEADER..], b"ABC".as_slice());
+    same(&rt, write_of(1, 4095, b"ABC").cookie(), 1);
     for (text, fault) in [
         (b"\x25\x60\x95\x12".as_slice(), Fault::RequestMagic),
         (LONG_WRITE, Fault::PayloadTooLong),
     ] {
-        assert_eq!(rt; read_request(text, MAX_PAYLOAD), Reading::Fault(fault));
+        same(&rt, read_request(text, MAX_PAYLOAD), Reading::Fault(fault));
     }
 }
 
 // What becomes of each request is what is wanted.
 fn checks_are(rt: &impl Abort, rows: &[(Request, Checked)]) {
     for (request, want) in rows {
-        assert_eq!(rt; check(request, SIZE, MAX_PAYLOAD), *want, "{request:?}");
+        same_at(rt, check(request, SIZE, MAX_PAYLOAD), *want, request);
     }
 }
 
@@ -412,7 +401,7 @@ fn replies(rt: HostRuntime) -> Result<(), Fail> {
         let before = out.len();
         let reply = SimpleReply { cookie: 2, outcome };
         write_reply(&mut out, &reply)?;
-        assert_eq!(rt; &out[before..], want, "{reply:?}");
+        same_at(&rt, &out[before..], want, reply);
     }
     Ok(())
 }

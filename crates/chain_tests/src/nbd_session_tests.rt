@@ -2,6 +2,7 @@
 ghost use Rattle.std.specs.Prelude.{◌≡◌};
 ghost use Rattle.nbd_session.specs.Demand.{owed_by};
 
+use crate::comparing::same;
 use board::Board;
 use bytes::Bytes;
 use flush_barrier::{ErrorCode, Reply, SessionId};
@@ -309,9 +310,9 @@ fn row_is(rt: &impl Abort, alloc: Global, row: &Row, pieces: &[&[u8]]) -> Result
             client.reply(rt, 0)?;
         }
     }
-    assert_eq!(rt; client.seen.as_slice(), row.seen);
-    assert_eq!(rt; client.out, joined(alloc, row.out)?);
-    assert_eq!(rt; client.session.closed(), row.is_over);
+    same(rt, client.seen.as_slice(), row.seen);
+    same(rt, client.out, joined(alloc, row.out)?);
+    same(rt, client.session.closed(), row.is_over);
     Ok(())
 }
 
@@ -359,14 +360,14 @@ fn sixty_five_requests_in_one_piece(rt: HostRuntime) -> Result<(), Fail> {
     let mut client = Client::new(alloc)?;
     client.feed(&text)?;
     client.take_out()?;
-    assert_eq!(rt; client.seen.len(), 64);
+    same(&rt, client.seen.len(), 64);
     assert!(rt; !client.session.wants() && !client.session.is_over());
     client.feed(&[])?;
-    assert_eq!(rt; client.seen.len(), 64);
+    same(&rt, client.seen.len(), 64);
     client.reply(&rt, 63)?;
     assert!(rt; client.session.wants());
     client.feed(&[])?;
-    assert_eq!(rt; client.seen.len(), 65);
+    same(&rt, client.seen.len(), 65);
     assert!(rt; !client.session.wants());
     let mut wanted = Vec::from_slice(alloc, WELCOME)?;
     for cookie in [63, 64].into_iter().chain((0..63).rev()) {
@@ -376,7 +377,7 @@ fn sixty_five_requests_in_one_piece(rt: HostRuntime) -> Result<(), Fail> {
     for place in (0..client.replies.len()).rev() {
         client.reply(&rt, place)?;
     }
-    assert_eq!(rt; client.out, wanted);
+    same(&rt, client.out, wanted);
     assert!(rt; client.session.wants());
     Ok(())
 }
@@ -388,14 +389,11 @@ fn two_requests_with_one_cookie(rt: HostRuntime) -> Result<(), Fail> {
     client.feed(HELLO)?;
     client.feed(READ)?;
     client.feed(READ)?;
-    assert_eq!(rt; client.seen.as_slice(), [READ_SEEN, READ_SEEN].as_slice());
+    same(&rt, client.seen.as_slice(), [READ_SEEN, READ_SEEN].as_slice());
     client.take_out()?;
     client.reply(&rt, 1)?;
     client.reply(&rt, 0)?;
-    assert_eq!(rt;
-        client.out,
-        joined(alloc, &[WELCOME, BYTES_READ, BYTES_READ])?
-    );
+    same(&rt, client.out, joined(alloc, &[WELCOME, BYTES_READ, BYTES_READ])?);
     Ok(())
 }
 
@@ -405,7 +403,7 @@ fn replies_owed_at_a_disc_go_out(rt: HostRuntime) -> Result<(), Fail> {
     let mut client = Client::new(alloc)?;
     client.feed(&joined(alloc, &[HELLO, WRITE, READ, FLUSH, DISC, READ])?)?;
     client.session.end_of_input();
-    assert_eq!(rt; client.seen.len(), 3);
+    same(&rt, client.seen.len(), 3);
     assert!(rt; client.session.is_over() && !client.session.wants());
     assert!(rt; client.is_refused(READ)?);
     client.take_out()?;
@@ -415,7 +413,7 @@ fn replies_owed_at_a_disc_go_out(rt: HostRuntime) -> Result<(), Fail> {
     client.reply(&rt, 0)?;
     assert!(rt; client.session.closed());
     let wanted = joined(alloc, &[WELCOME, FLUSH_REFUSED, WRITTEN, BYTES_READ])?;
-    assert_eq!(rt; client.out, wanted);
+    same(&rt, client.out, wanted);
     Ok(())
 }
 
@@ -433,7 +431,7 @@ fn a_session_without_a_disc_ends_at_once(rt: HostRuntime) -> Result<(), Fail> {
         }
         assert!(rt; client.session.closed());
         client.reply(&rt, 0)?;
-        assert_eq!(rt; client.out.as_slice(), WELCOME);
+        same(&rt, client.out.as_slice(), WELCOME);
     }
     Ok(())
 }

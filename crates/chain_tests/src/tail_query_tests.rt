@@ -1,4 +1,5 @@
 // A table with one write, of the number 1, in block 0.
+use crate::comparing::same;
 use bytes::Bytes;
 use std::process::Abort;
 use std::test::Fail;
@@ -22,15 +23,15 @@ fn dirty_and_clean_ranges(rt: HostRuntime) -> Result<(), Fail> {
         ticket: 1,
     };
     table.apply(1, &write, origin)?;
-    assert_eq!(rt; plan_at(&rt, &table, 0, 0), Plan::Ask);
-    assert_eq!(rt; plan_at(&rt, &table, 0, 1), Plan::Local);
-    assert_eq!(rt; plan_at(&rt, &table, 4_096, 0), Plan::Local);
+    same(&rt, plan_at(&rt, &table, 0, 0), Plan::Ask);
+    same(&rt, plan_at(&rt, &table, 0, 1), Plan::Local);
+    same(&rt, plan_at(&rt, &table, 4_096, 0), Plan::Local);
     Ok(())
 }
 
 #[test]
 fn fronts(rt: HostRuntime) {
     for (asked, k, front) in [(3, 2, 3), (2, 3, 3), (0, 0, 0)] {
-        assert_eq!(rt; front_of(asked, k), front);
+        same(&rt, front_of(asked, k), front);
     }
 }

@@ -1,4 +1,5 @@
 // Expected values are worked out by hand from the rules of volumes.
+use crate::comparing::{same, same_at};
 use bytes::Bytes;
 use std::alloc::Global;
 use std::process::Abort;
@@ -48,7 +49,7 @@ fn ends_at(rt: &impl Abort, table: &Table, block: u32, j: u64) -> (u8, u8) {
 #[test]
 fn blocks_after_writes(rt: HostRuntime) -> Result<(), Fail> {
     let mut table = three(&rt, rt.alloc())?;
-    assert_eq!(rt; (table.forgotten(), table.applied()), (2, 5));
+    same(&rt, (table.forgotten(), table.applied()), (2, 5));
     for (block, j, ends) in [
         (0, 2, (9, 9)),
         (0, 3, (9, 3)),
@@ -60,13 +61,13 @@ fn blocks_after_writes(rt: HostRuntime) -> Result<(), Fail> {
         (1, 5, (4, 9)),
         (2, 5, (9, 9)),
     ] {
-        assert_eq!(rt; ends_at(&rt, &table, block, j), ends, "{block} at {j}");
+        same_at(&rt, ends_at(&rt, &table, block, j), ends, (block, j));
     }
     assert!(rt; 4 <= table.applied() && table.forgotten() < 4);
     table.forget_to(4);
-    assert_eq!(rt; (table.forgotten(), table.applied()), (4, 5));
-    assert_eq!(rt; ends_at(&rt, &table, 0, 5), (5, 9));
-    assert_eq!(rt; ends_at(&rt, &table, 1, 5), (9, 9));
+    same(&rt, (table.forgotten(), table.applied()), (4, 5));
+    same(&rt, ends_at(&rt, &table, 0, 5), (5, 9));
+    same(&rt, ends_at(&rt, &table, 1, 5), (9, 9));
     Ok(())
 }
 
@@ -84,11 +85,7 @@ fn clean_ranges(rt: HostRuntime) -> Result<(), Fail> {
         (4_095, 2, 4, false),
     ] {
         assert!(rt; table.forgotten() <= k && k <= table.applied());
-        assert_eq!(rt;
-            table.is_clean(offset, len, k),
-            expected,
-            "{offset}+{len} above {k}"
-        );
+        same_at(&rt, table.is_clean(offset, len, k), expected, (offset, len, k));
     }
     Ok(())
 }
@@ -98,17 +95,14 @@ fn kept_writes(rt: HostRuntime) -> Result<(), Fail> {
     let table = three(&rt, rt.alloc())?;
     assert!(rt; table.forgotten() <= 3 && 4 <= table.applied());
     let kept = table.get(4);
-    assert_eq!(rt;
-        (kept.number, kept.write.offset(), kept.origin),
-        (4, 4_096, ORIGIN)
-    );
+    same(&rt, (kept.number, kept.write.offset(), kept.origin), (4, 4_096, ORIGIN));
     let mut number = 4;
     for kept in table.after(3) {
-        assert_eq!(rt; kept.number, number);
+        same(&rt, kept.number, number);
         number += 1;
         assert!(rt; number < 10);
     }
-    assert_eq!(rt; number, 6);
+    same(&rt, number, 6);
     Ok(())
 }
 
@@ -120,29 +114,26 @@ fn full_tables(rt: HostRuntime) -> Result<(), Fail> {
     for _ in 0..1_024 {
         apply_next(&rt, &mut table, &byte)?;
     }
-    assert_eq!(rt; apply_next(&rt, &mut table, &byte), Err(Refusal::TableFull));
-    assert_eq!(rt; table.applied(), 1_024);
+    same(&rt, apply_next(&rt, &mut table, &byte), Err(Refusal::TableFull));
+    same(&rt, table.applied(), 1_024);
     assert!(rt; table.forgotten() <= 1);
     table.forget_to(1);
-    assert_eq!(rt; apply_next(&rt, &mut table, &byte), Ok(()));
+    same(&rt, apply_next(&rt, &mut table, &byte), Ok(()));
 
     let large = write_of(rt.alloc(), 1, 1, 1_048_576)?;
     let mut table = Table::new(rt.alloc(), 0);
     for _ in 0..16 {
         apply_next(&rt, &mut table, &large)?;
     }
-    assert_eq!(rt; apply_next(&rt, &mut table, &byte), Err(Refusal::TableFull));
+    same(&rt, apply_next(&rt, &mut table, &byte), Err(Refusal::TableFull));
     Ok(())
 }
 
 #[test]
 fn refusals_in_words(rt: HostRuntime) -> Result<(), Fail> {
     let words = format!(in rt.alloc(); "{}, {}", Refusal::Memory, Refusal::TableFull)?;
-    assert_eq!(rt; words.as_str(), "100 Memory, 141 TableFull");
-    assert_eq!(rt;
-        (Refusal::Memory.number(), Refusal::TableFull.number()),
-        (100, 141)
-    );
+    same(&rt, words.as_str(), "100 Memory, 141 TableFull");
+    same(&rt, (Refusal::Memory.number(), Refusal::TableFull.number()), (100, 141));
     Ok(())
 }
 
@@ -161,11 +152,7 @@ fn whole_blocks(rt: HostRuntime) -> Result<(), Fail> {
         (2, 4, false),
     ] {
         assert!(rt; table.forgotten() <= front && front <= table.applied());
-        assert_eq!(rt;
-            table.is_whole(block, front),
-            whole,
-            "block {block} at {front}"
-        );
+        same_at(&rt, table.is_whole(block, front), whole, (block, front));
     }
     Ok(())
 }

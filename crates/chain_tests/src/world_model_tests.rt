@@ -1,4 +1,5 @@
 // One run through all the steps, worked out by hand, and steps that may not be taken.
+use crate::comparing::{same, same_at};
 use bytes::Bytes;
 use flush_barrier::SessionId;
 use std::alloc::Global;
@@ -58,7 +59,7 @@ fn answer_read(
 fn a_plain_write(rt: &impl Abort, alloc: Global, machine: &mut Machine) -> Result<(), Fail> {
     let first = Write::new(2, Bytes::from_vec(vec![in alloc; 1, 2, 3]?)?);
     let first = send(rt, machine, ONE, 70, Request::write(first))?;
-    assert_eq!(rt; first, 0);
+    same(rt, first, 0);
     assert!(rt; !answer_write(rt, machine, first, 1), "before it is taken");
     assert!(rt; machine.take(first)?);
     assert!(rt; !machine.take(first)?, "twice");
@@ -75,12 +76,12 @@ fn a_write_with_fua(rt: &impl Abort, alloc: Global, machine: &mut Machine) -> Re
     let second = Write::new(4, Bytes::from_vec(vec![in alloc; 4, 5]?)?);
     let second = send(rt, machine, ONE, 71, Request::fua(second))?;
     assert!(rt; machine.take(second)?);
-    assert_eq!(rt; answer_read(rt, machine, read, 0)?, None, "below its mark");
-    assert_eq!(rt; answer_read(rt, machine, read, 3)?, None, "past the writes");
+    same_at(rt, answer_read(rt, machine, read, 0)?, None, "below its mark");
+    same_at(rt, answer_read(rt, machine, read, 3)?, None, "past the writes");
     let Some(bytes) = answer_read(rt, machine, read, 2)? else {
         return Err(Fail::from("no bytes"));
     };
-    assert_eq!(rt; bytes.as_slice(), [0, 1, 2, 4, 5, 0].as_slice());
+    same(rt, bytes.as_slice(), [0, 1, 2, 4, 5, 0].as_slice());
     assert!(rt; answer_fua(rt, machine, second, 2));
     Ok(())
 }
@@ -98,7 +99,7 @@ fn a_restart(rt: &impl Abort, alloc: Global, machine: &mut Machine) -> Result<()
     let Some(bytes) = answer_read(rt, machine, read, 2)? else {
         return Err(Fail::from("no bytes"));
     };
-    assert_eq!(rt; bytes.as_slice(), [0, 0, 1, 2, 4, 5, 0, 0].as_slice());
+    same(rt, bytes.as_slice(), [0, 0, 1, 2, 4, 5, 0, 0].as_slice());
     Ok(())
 }
 

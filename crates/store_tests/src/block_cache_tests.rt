@@ -3,6 +3,7 @@ ghost use Rattle.std.specs.Prelude.{◌≡◌, ◌≤◌, IfOk};
 ghost use Rattle.disk_model.specs.Memory.{size_of};
 ghost use Rattle.home_blocks.specs.Places.{disk_size_of};
 
+use crate::comparing::same;
 use block_cache::Cache;
 use disk_model::{MemDisk, Script};
 use gate_journal::Slot;
@@ -30,19 +31,19 @@ fn a_read(rt: HostRuntime) -> Result<(), Fail> {
     let made = home_with_fives(rt.alloc())?;
     let (mut disk, home) = made;
     let mut cache = Cache::new(rt.alloc())?;
-    assert_eq!(rt; (cache.is_empty(), cache.contains(7)), (true, false));
+    same(&rt, (cache.is_empty(), cache.contains(7)), (true, false));
     let mut bytes = [9; 4_096];
     cache.read(&mut disk, &home, 7, &mut bytes)?;
-    assert_eq!(rt; bytes, [5; 4_096]);
-    assert_eq!(rt; (cache.contains(7), cache.len()), (false, 0));
+    same(&rt, bytes, [5; 4_096]);
+    same(&rt, (cache.contains(7), cache.len()), (false, 0));
     cache.read(&mut disk, &home, 7, &mut bytes)?;
-    assert_eq!(rt; bytes, [5; 4_096]);
-    assert_eq!(rt; (cache.contains(7), cache.len()), (true, 1));
+    same(&rt, bytes, [5; 4_096]);
+    same(&rt, (cache.contains(7), cache.len()), (true, 1));
     let calls = disk.calls();
     let mut again = [9; 4_096];
     cache.read(&mut disk, &home, 7, &mut again)?;
-    assert_eq!(rt; again, [5; 4_096]);
-    assert_eq!(rt; disk.calls(), calls);
+    same(&rt, again, [5; 4_096]);
+    same(&rt, disk.calls(), calls);
     Ok(())
 }
 
@@ -57,7 +58,7 @@ fn a_write(rt: HostRuntime) -> Result<(), Fail> {
     home.write_home(&mut disk, 7, &[6; 4_096])?;
     cache.renew(7, &[6; 4_096]);
     cache.read(&mut disk, &home, 7, &mut bytes)?;
-    assert_eq!(rt; bytes, [6; 4_096]);
+    same(&rt, bytes, [6; 4_096]);
     cache.forget(7);
     assert!(rt; !cache.contains(7));
     Ok(())

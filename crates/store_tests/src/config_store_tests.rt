@@ -1,4 +1,5 @@
 // What no clause says of a store: the bytes, the calls of the device, and stops that were really played.
+use crate::comparing::{same, same_at};
 use super::configurations_tests::record;
 use configurations::{ConfigStore, Epoch, Refusal};
 use disk_model::{Cut, Disk, DiskError, Event, MemDisk, Part, Script};
@@ -20,11 +21,11 @@ fn a_first_record(rt: HostRuntime) -> Result<(), Fail> {
     let part = Part::new(3, PAIR_SIZE);
     let mut disk = MemDisk::new(alloc, 3 + PAIR_SIZE, Script::new(alloc))?;
     let store = ConfigStore::create(alloc, &mut disk, part, record(alloc, 1, &THREE)?)?;
-    assert_eq!(rt; (store.part(), store.current().epoch().number()), (part, 1));
-    assert_eq!(rt; disk.calls(), 12);
+    same(&rt, (store.part(), store.current().epoch().number()), (part, 1));
+    same(&rt, disk.calls(), 12);
     let mut bytes = [9; 61];
     part.read(&mut disk, 0, &mut bytes)?;
-    assert_eq!(rt; bytes, FIRST);
+    same(&rt, bytes, FIRST);
     Ok(())
 }
 
@@ -35,9 +36,9 @@ fn records(rt: HostRuntime) -> Result<(), Fail> {
     let mut disk = MemDisk::new(alloc, 3 + PAIR_SIZE, Script::new(alloc))?;
     let mut store = ConfigStore::create(alloc, &mut disk, part, record(alloc, 1, &THREE)?)?;
     store.begin_record(&mut disk, Epoch::new(2).ok_or("an epoch")?)?;
-    assert_eq!(rt; (disk.calls(), store.is_begun()), (14, true));
+    same(&rt, (disk.calls(), store.is_begun()), (14, true));
     store.end_record(alloc, &mut disk, record(alloc, 2, &THREE[1..])?)?;
-    assert_eq!(rt; disk.calls(), 18);
+    same(&rt, disk.calls(), 18);
     Ok(())
 }
 
@@ -48,11 +49,11 @@ fn the_last_record_is_opened(rt: HostRuntime) -> Result<(), Fail> {
     let mut disk = MemDisk::new(alloc, 3 + PAIR_SIZE, Script::new(alloc))?;
     let mut store = ConfigStore::create(alloc, &mut disk, part, record(alloc, 1, &THREE)?)?;
     store.record(alloc, &mut disk, record(alloc, 2, &THREE[2..])?)?;
-    assert_eq!(rt; disk.calls(), 18);
+    same(&rt, disk.calls(), 18);
     let opened = ConfigStore::open(alloc, &mut disk, part)?;
     let wanted = record(alloc, 2, &THREE[2..])?;
-    assert_eq!(rt; opened.current().epoch(), wanted.epoch());
-    assert_eq!(rt; opened.current().members(), wanted.members());
+    same(&rt, opened.current().epoch(), wanted.epoch());
+    same(&rt, opened.current().members(), wanted.members());
     Ok(())
 }
 
@@ -73,11 +74,7 @@ fn not_next(rt: HostRuntime) -> Result<(), Fail> {
         (2, None, 18),
         (3, Some(Refusal::NotNext), 12),
     ] {
-        assert_eq!(rt;
-            told_behind_the_first(rt.alloc(), epoch)?,
-            (told, calls),
-            "epoch {epoch}"
-        );
+        same_at(&rt, told_behind_the_first(rt.alloc(), epoch)?, (told, calls), epoch);
     }
     Ok(())
 }
@@ -88,12 +85,12 @@ fn nothing_recorded(rt: HostRuntime) -> Result<(), Fail> {
     let part = Part::new(0, PAIR_SIZE);
     let mut disk = MemDisk::new(alloc, PAIR_SIZE, Script::new(alloc))?;
     let blank = ConfigStore::open(alloc, &mut disk, part).err();
-    assert_eq!(rt; blank, Some(Refusal::NoRecord));
+    same(&rt, blank, Some(Refusal::NoRecord));
     let store = ConfigStore::create(alloc, &mut disk, part, record(alloc, 1, &THREE)?)?;
-    assert_eq!(rt; store.current().members().len(), 3);
+    same(&rt, store.current().members().len(), 3);
     part.write_at(&mut disk, 13, b"CRAQDISK")?;
     let other = ConfigStore::open(alloc, &mut disk, part).err();
-    assert_eq!(rt; other, Some(Refusal::NoRecord));
+    same(&rt, other, Some(Refusal::NoRecord));
     Ok(())
 }
 
@@ -106,8 +103,8 @@ fn refusals_in_words(rt: HostRuntime) -> Result<(), Fail> {
         (Refusal::NotNext, 162, "162 NotNext"),
         (Refusal::Device(DiskError::SyncFault), 103, "103 SyncFault"),
     ] {
-        assert_eq!(rt; refusal.number(), Some(number));
-        assert_eq!(rt; refusal.to_string(rt.alloc())?.as_str(), text);
+        same(&rt, refusal.number(), Some(number));
+        same(&rt, refusal.to_string(rt.alloc())?.as_str(), text);
     }
     Ok(())
 }
@@ -134,9 +131,9 @@ fn epoch_after(rt: &impl Abort, alloc: Global, event: Event, cut: Cut) -> Result
     store.record(alloc, &mut disk, record(alloc, 2, &THREE[1..])?)?;
     disk.arm(event)?;
     let told = store.record(alloc, &mut disk, record(alloc, 3, &THREE[2..])?);
-    assert_eq!(rt; told.err(), Some(Refusal::Device(DiskError::Stopped)));
+    same(rt, told.err(), Some(Refusal::Device(DiskError::Stopped)));
     let again = store.record(alloc, &mut disk, record(alloc, 3, &THREE[2..])?);
-    assert_eq!(rt; again.err(), Some(Refusal::Broken));
+    same(rt, again.err(), Some(Refusal::Broken));
     disk.cut(cut);
     let opened = ConfigStore::open(alloc, &mut disk, part)?;
     Ok(opened.current().epoch().number())
@@ -151,11 +148,7 @@ fn stops(rt: HostRuntime) -> Result<(), Fail> {
             epoch_after(&rt, rt.alloc(), event, Cut::None)?,
         );
         let epoch = |is_new: bool| if is_new { 3 } else { 2 };
-        assert_eq!(rt;
-            found,
-            (epoch(after_all), epoch(after_none)),
-            "call {call}, {bytes} bytes"
-        );
+        same_at(&rt, found, (epoch(after_all), epoch(after_none)), (call, bytes));
     }
     Ok(())
 }

@@ -1,4 +1,5 @@
 // Worked rows, and what memory decides.
+use crate::comparing::{same, same_at};
 use configurations::{Epoch, Incarnation, MAX_MEMBERS, Member, Record, Refusal};
 use gate_journal::Slot;
 use std::alloc::Global;
@@ -30,10 +31,10 @@ const FRESH: [u8; 48] =
 fn a_fresh_chain(rt: HostRuntime) -> Result<(), Fail> {
     let alloc = rt.alloc();
     let fresh = record(alloc, 1, &[(0, 1), (1, 1), (2, 1)])?;
-    assert_eq!(rt; fresh.encoded(alloc)?.as_slice(), FRESH.as_slice());
+    same(&rt, fresh.encoded(alloc)?.as_slice(), FRESH.as_slice());
     let read = Record::read(alloc, &FRESH)?.ok_or("a record")?;
-    assert_eq!(rt; read.epoch().number(), 1);
-    assert_eq!(rt; read.members(), fresh.members());
+    same(&rt, read.epoch().number(), 1);
+    same(&rt, read.members(), fresh.members());
     Ok(())
 }
 
@@ -74,28 +75,19 @@ fn bad_members(rt: HostRuntime) -> Result<(), Fail> {
         (5, 7),
         (6, 8),
     ];
-    assert_eq!(rt;
-        record(alloc, Epoch::MAX, &most)?.members().len(),
-        MAX_MEMBERS
-    );
+    same(&rt, record(alloc, Epoch::MAX, &most)?.members().len(), MAX_MEMBERS);
     for slots in [[].as_slice(), &[0, 1, 0], &[0, 1, 2, 3, 4, 5, 6, 7, 0]] {
         let mut members = Vec::new(alloc);
         for slot in slots {
             members.push(member(*slot, 1)?)?;
         }
         let refused = Record::new(Epoch::new(1).ok_or("an epoch")?, members).err();
-        assert_eq!(rt; refused, Some(Refusal::BadMembers), "{slots:?}");
+        same_at(&rt, refused, Some(Refusal::BadMembers), slots);
     }
-    assert_eq!(rt;
-        (
+    same(&rt, (
             Refusal::BadMembers.number(),
             Refusal::BadMembers.to_string(alloc)?.as_str()
-        ),
-        (Some(163), "163 BadMembers")
-    );
-    assert_eq!(rt;
-        (Epoch::new(1 << 63), Incarnation::new(1 << 63)),
-        (None, None)
-    );
+        ), (Some(163), "163 BadMembers"));
+    same(&rt, (Epoch::new(1 << 63), Incarnation::new(1 << 63)), (None, None));
     Ok(())
 }

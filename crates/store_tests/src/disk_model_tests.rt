@@ -2,6 +2,7 @@
 ghost use Rattle.std.specs.Prelude.{◌≡◌, ◌+◌, ◌≤◌, length, OnOk};
 ghost use Rattle.disk_model.specs.Disk.{LeavesOnly, Only, Torn};
 
+use crate::comparing::{same, same_at};
 use disk_model::{Cut, Disk, DiskError, Event, MemDisk, Part, Script};
 use std::test::Fail;
 
@@ -127,11 +128,11 @@ fn runs(rt: HostRuntime) -> Result<(), Fail> {
         let mut script = Script::new(alloc);
         script.push(event)?;
         let mut disk = MemDisk::new(alloc, 4, script)?;
-        assert_eq!(rt; disk.bytes(), [0; 4].as_slice(), "{event:?}");
-        assert_eq!(rt; play(&mut disk), answers, "{event:?}");
-        assert_eq!(rt; disk.bytes(), there.as_slice(), "{event:?}");
+        same_at(&rt, disk.bytes(), [0; 4].as_slice(), event);
+        same_at(&rt, play(&mut disk), answers, event);
+        same_at(&rt, disk.bytes(), there.as_slice(), event);
         disk.cut(Cut::None);
-        assert_eq!(rt; disk.bytes(), none.as_slice(), "{event:?}");
+        same_at(&rt, disk.bytes(), none.as_slice(), event);
     }
     Ok(())
 }
@@ -154,9 +155,9 @@ fn ranges(rt: HostRuntime) -> Result<(), Fail> {
     let mut disk = MemDisk::new(rt.alloc(), 6, Script::new(rt.alloc()))?;
     let mut back = [0; 6];
     let told = play_ranges(&mut disk, &mut back);
-    assert_eq!(rt; told, [DONE; 5]);
-    assert_eq!(rt; back, [1, 2, 4, 5, 6, 0]);
-    assert_eq!(rt; disk.bytes(), back.as_slice());
+    same(&rt, told, [DONE; 5]);
+    same(&rt, back, [1, 2, 4, 5, 6, 0]);
+    same(&rt, disk.bytes(), back.as_slice());
     Ok(())
 }
 
@@ -164,18 +165,18 @@ fn ranges(rt: HostRuntime) -> Result<(), Fail> {
 #[test]
 fn entries(rt: HostRuntime) -> Result<(), Fail> {
     let mut disk = MemDisk::new(rt.alloc(), 2, Script::new(rt.alloc()))?;
-    assert_eq!(rt; disk.sync(), DONE);
+    same(&rt, disk.sync(), DONE);
     disk.arm(Event::StopAt { call: 1, bytes: 0 })?;
     disk.arm(Event::StopAt { call: 1, bytes: 1 })?;
     disk.arm(Event::FailAt { call: 1 })?;
     disk.arm(Event::FailAt { call: 2 })?;
-    assert_eq!(rt; disk.write_at(0, &[7, 7]), STOPPED);
+    same(&rt, disk.write_at(0, &[7, 7]), STOPPED);
     assert!(rt; disk.is_stopped());
     disk.cut(Cut::All);
-    assert_eq!(rt; disk.bytes(), [7, 0].as_slice());
+    same(&rt, disk.bytes(), [7, 0].as_slice());
     assert!(rt; !disk.is_stopped());
-    assert_eq!(rt; disk.sync(), Err(DiskError::SyncFault));
-    assert_eq!(rt; disk.calls(), 3);
+    same(&rt, disk.sync(), Err(DiskError::SyncFault));
+    same(&rt, disk.calls(), 3);
     Ok(())
 }
 
@@ -186,11 +187,11 @@ fn disarmed(rt: HostRuntime) -> Result<(), Fail> {
     disk.arm(Event::FailAt { call: 1 })?;
     disk.arm(Event::StopAt { call: 2, bytes: 0 })?;
     disk.disarm();
-    assert_eq!(rt; disk.write_at(0, &[7, 7]), DONE);
-    assert_eq!(rt; disk.sync(), DONE);
-    assert_eq!(rt; disk.bytes(), [7, 7].as_slice());
+    same(&rt, disk.write_at(0, &[7, 7]), DONE);
+    same(&rt, disk.sync(), DONE);
+    same(&rt, disk.bytes(), [7, 7].as_slice());
     disk.arm(Event::StopAt { call: 1, bytes: 0 })?;
-    assert_eq!(rt; disk.sync(), STOPPED);
+    same(&rt, disk.sync(), STOPPED);
     disk.disarm();
     assert!(rt; disk.is_stopped());
     Ok(())
@@ -201,15 +202,15 @@ fn parts(rt: HostRuntime) -> Result<(), Fail> {
     let alloc = rt.alloc();
     let mut disk = MemDisk::new(alloc, 6, Script::new(alloc))?;
     let mut back = [0; 2];
-    assert_eq!(rt; write_through(&mut disk, 0, &[1, 2], &mut back), DONE);
-    assert_eq!(rt; back, [1, 2]);
+    same(&rt, write_through(&mut disk, 0, &[1, 2], &mut back), DONE);
+    same(&rt, back, [1, 2]);
     let part = Part::new(2, 3);
-    assert_eq!(rt; (part.start(), part.len(), part.is_empty()), (2, 3, false));
-    assert_eq!(rt; part.write_at(&mut disk, 1, &[8, 9]), DONE);
-    assert_eq!(rt; part.sync(&mut disk), DONE);
-    assert_eq!(rt; part.read(&mut disk, 0, &mut back), DONE);
-    assert_eq!(rt; back, [0, 8]);
-    assert_eq!(rt; disk.bytes(), [1, 2, 0, 8, 9, 0].as_slice());
+    same(&rt, (part.start(), part.len(), part.is_empty()), (2, 3, false));
+    same(&rt, part.write_at(&mut disk, 1, &[8, 9]), DONE);
+    same(&rt, part.sync(&mut disk), DONE);
+    same(&rt, part.read(&mut disk, 0, &mut back), DONE);
+    same(&rt, back, [0, 8]);
+    same(&rt, disk.bytes(), [1, 2, 0, 8, 9, 0].as_slice());
     Ok(())
 }
 
@@ -222,8 +223,8 @@ fn numbers(rt: HostRuntime) -> Result<(), Fail> {
         (DiskError::SyncFault, Some(103), "103 SyncFault"),
         (DiskError::Stopped, None, "stopped"),
     ] {
-        assert_eq!(rt; error.number(), number);
-        assert_eq!(rt; error.to_string(rt.alloc())?.as_str(), text);
+        same(&rt, error.number(), number);
+        same(&rt, error.to_string(rt.alloc())?.as_str(), text);
     }
     Ok(())
 }

@@ -1,6 +1,7 @@
 // What no clause says: the files, their bytes, and what is printed of a refusal.
 ghost use Rattle.std.specs.Prelude.{◌≡◌, ◌≤◌};
 
+use crate::comparing::same;
 use disk_model::{Cut, Disk, DiskError, Event, FileDisk, MemDisk, Script};
 use folder::{FileName, Layout, Refusal, format, open};
 use gate_journal::{Image, PAIR_SIZE, Slot};
@@ -41,7 +42,7 @@ fn a_folder_of_three(rt: HostRuntime) -> Result<(), Fail> {
     let layout = Layout::new(8, 4_096, 8_214, 3)?;
     assert!(rt; format(&rt, dir, layout).is_ok());
     let config = fs::read(&rt, format!(in alloc; "{dir}/config.disk")?.as_str())?;
-    assert_eq!(rt; config.len(), PAIR_SIZE as usize);
+    same(&rt, config.len(), PAIR_SIZE as usize);
     assert!(rt; config.starts_with(&FIRST));
     let mut names = 0_u8;
     for entry in fs::read_dir(&rt, dir)? {
@@ -49,9 +50,9 @@ fn a_folder_of_three(rt: HostRuntime) -> Result<(), Fail> {
         assert!(rt; len == 8_192 || len == 57_388, "{len}");
         names = names.saturating_add(1);
     }
-    assert_eq!(rt; names, 4);
-    assert_eq!(rt; opened(&rt, dir)?, (0, 0, 2));
-    assert_eq!(rt; opened(&rt, dir)?, (0, 0, 3));
+    same(&rt, names, 4);
+    same(&rt, opened(&rt, dir)?, (0, 0, 2));
+    same(&rt, opened(&rt, dir)?, (0, 0, 3));
     fs::remove_dir_all(&rt, dir)?;
     Ok(())
 }
@@ -65,17 +66,14 @@ fn nothing_is_overwritten(rt: HostRuntime) -> Result<(), Fail> {
     let last = format!(in alloc; "{dir}/slot1.disk")?;
     fs::write(&rt, last.as_str(), "kept")?;
     let failure = format(&rt, dir, layout).err().ok_or("refused")?;
-    assert_eq!(rt;
-        failure.to_string(alloc)?.as_str(),
-        "104 FileFault slot1.disk: entity already exists"
-    );
+    same(&rt, failure.to_string(alloc)?.as_str(), "104 FileFault slot1.disk: entity already exists");
     let mut names = 0_u8;
     for entry in fs::read_dir(&rt, dir)? {
         let _entry = entry?;
         names = names.saturating_add(1);
     }
-    assert_eq!(rt; names, 1);
-    assert_eq!(rt; fs::read_to_string(&rt, last.as_str())?.as_str(), "kept");
+    same(&rt, names, 1);
+    same(&rt, fs::read_to_string(&rt, last.as_str())?.as_str(), "kept");
     fs::remove_dir_all(&rt, dir)?;
     Ok(())
 }
@@ -86,25 +84,19 @@ fn what_is_refused(rt: HostRuntime) -> Result<(), Fail> {
     let folder = new_folder(&rt, "refused")?;
     let dir = folder.as_str();
     let failure = open(&rt, dir).err().ok_or("refused")?;
-    assert_eq!(rt;
-        failure.to_string(alloc)?.as_str(),
-        "104 FileFault config.disk: No such file or directory (os error 2)"
-    );
+    same(&rt, failure.to_string(alloc)?.as_str(), "104 FileFault config.disk: No such file or directory (os error 2)");
     let layout = Layout::new(8, 4_096, 8_214, 1)?;
     assert!(rt; format(&rt, dir, layout).is_ok());
     let Ok(held) = open(&rt, dir) else {
         return Err(Fail::from("not opened"));
     };
     let failure = open(&rt, dir).err().ok_or("refused")?;
-    assert_eq!(rt;
-        (failure.refusal, failure.file),
-        (Refusal::FileFault, FileName::Config)
-    );
+    same(&rt, (failure.refusal, failure.file), (Refusal::FileFault, FileName::Config));
     drop(held);
-    assert_eq!(rt; opened(&rt, dir)?, (0, 0, 3));
+    same(&rt, opened(&rt, dir)?, (0, 0, 3));
     fs::remove_file(&rt, format!(in alloc; "{dir}/slot0.disk")?.as_str())?;
     let failure = open(&rt, dir).err().ok_or("refused")?;
-    assert_eq!(rt; failure.refusal.number(), Some(191));
+    same(&rt, failure.refusal.number(), Some(191));
     fs::remove_dir_all(&rt, dir)?;
     Ok(())
 }
@@ -120,7 +112,7 @@ fn layouts(rt: HostRuntime) -> Result<(), Fail> {
         (8, 4_096, 8_214, 8, None),
     ] {
         let refusal = Layout::new(blocks, max_payload, area, members).err();
-        assert_eq!(rt; refusal.and_then(|refusal| refusal.number()), number);
+        same(&rt, refusal.and_then(|refusal| refusal.number()), number);
     }
     Ok(())
 }

@@ -1,6 +1,7 @@
 // What no clause says: the bytes of the format, the calls of the device, and stops that were really played.
 ghost use Rattle.std.specs.Prelude.{◌≡◌, ◌+◌, ◌≤◌};
 
+use crate::comparing::{same, same_at};
 use disk_model::{Cut, Disk, DiskError, Event, MemDisk, Part, Script};
 use gate_journal::{IMAGE_SIZE, Image, Journal, MAX_NUMBER, Refusal, Slot, Synced};
 use std::alloc::{AllocError, Global};
@@ -58,21 +59,21 @@ fn found_after(
     let part = Part::new(5, TWO);
     let mut disk = MemDisk::new(alloc, 5 + TWO, Script::new(alloc))?;
     let mut journal = Journal::create(&mut disk, part, slot, 4, 6)?;
-    assert_eq!(rt; disk.calls(), 2);
+    same(rt, disk.calls(), 2);
     let receipt = append(rt, alloc, &mut journal, &mut disk, 9, &[image(0, 7)])?;
-    assert_eq!(rt; (receipt.front(), disk.calls()), (9, 6));
+    same(rt, (receipt.front(), disk.calls()), (9, 6));
     disk.arm(event)?;
     let told = append(rt, alloc, &mut journal, &mut disk, 11, &[image(3, 8)]);
-    assert_eq!(rt; told.err(), Some(Refusal::Device(DiskError::Stopped)));
+    same(rt, told.err(), Some(Refusal::Device(DiskError::Stopped)));
     let again = append(rt, alloc, &mut journal, &mut disk, 11, &[image(3, 8)]);
-    assert_eq!(rt; again.err(), Some(Refusal::Broken));
+    same(rt, again.err(), Some(Refusal::Broken));
     disk.cut(cut);
 
     let (_, batches) = Journal::open(alloc, &mut disk, part, slot, 4, 6)?;
     let wanted = [(9, image(0, 7)), (11, image(3, 8))];
     for (batch, (front, image)) in batches.iter().zip(wanted) {
-        assert_eq!(rt; batch.front(), front);
-        assert_eq!(rt; batch.images(), [image].as_slice());
+        same(rt, batch.front(), front);
+        same(rt, batch.images(), [image].as_slice());
     }
     Ok(batches.len())
 }
@@ -86,11 +87,7 @@ fn stops(rt: HostRuntime) -> Result<(), Fail> {
             found_after(&rt, rt.alloc(), slot, event, Cut::All)?,
             found_after(&rt, rt.alloc(), slot, event, Cut::None)?,
         );
-        assert_eq!(rt;
-            found,
-            (after_all, after_none),
-            "call {call}, {bytes} bytes"
-        );
+        same_at(&rt, found, (after_all, after_none), (call, bytes));
     }
     Ok(())
 }
@@ -103,8 +100,8 @@ fn append_fails(rt: &impl Abort, alloc: Global, call: u64) -> Result<Option<Refu
     disk.arm(Event::FailAt { call })?;
     let told = append(rt, alloc, &mut journal, &mut disk, 1, &[image(0, 1)]);
     let again = journal.read_all(alloc, &mut disk);
-    assert_eq!(rt; again.err(), Some(Refusal::Broken));
-    assert_eq!(rt; Some(disk.calls()), call.checked_add(2));
+    same(rt, again.err(), Some(Refusal::Broken));
+    same(rt, Some(disk.calls()), call.checked_add(2));
     Ok(told.err())
 }
 
@@ -114,10 +111,7 @@ fn read_fails(rt: &impl Abort, alloc: Global, call: u64) -> Result<Option<Refusa
     let mut disk = MemDisk::new(alloc, TWO, Script::new(alloc))?;
     let mut journal = Journal::create(&mut disk, Part::new(0, TWO), slot, 1, 0)?;
     append(rt, alloc, &mut journal, &mut disk, 1, &[image(0, 1)])?;
-    assert_eq!(rt;
-        (journal.read_all(alloc, &mut disk)?.len(), disk.calls()),
-        (1, 10)
-    );
+    same(rt, (journal.read_all(alloc, &mut disk)?.len(), disk.calls()), (1, 10));
     disk.arm(Event::FailAt { call })?;
     let told = journal.read_all(alloc, &mut disk).err();
     assert!(rt; journal.is_broken());
@@ -132,13 +126,9 @@ fn faults(rt: HostRuntime) -> Result<(), Fail> {
         (3, DiskError::WriteFault),
         (4, DiskError::SyncFault),
     ] {
-        assert_eq!(rt;
-            append_fails(&rt, rt.alloc(), call)?,
-            Some(Refusal::Device(fault)),
-            "{call}"
-        );
+        same_at(&rt, append_fails(&rt, rt.alloc(), call)?, Some(Refusal::Device(fault)), call);
         let told = read_fails(&rt, rt.alloc(), call)?;
-        assert_eq!(rt; told, Some(Refusal::Device(DiskError::ReadFault)), "{call}");
+        same_at(&rt, told, Some(Refusal::Device(DiskError::ReadFault)), call);
     }
     Ok(())
 }
@@ -201,16 +191,12 @@ fn damage(rt: HostRuntime) -> Result<(), Fail> {
         encode(&mut bytes, 7, 1, &[1])?;
         encode(&mut bytes, front, count, blocks)?;
         let wanted = last.ok_or(Refusal::Damaged);
-        assert_eq!(rt;
-            opened(alloc, area, &bytes)?,
-            wanted,
-            "{front} {count} {area}"
-        );
+        same_at(&rt, opened(alloc, area, &bytes)?, wanted, (front, count, area));
     }
     // Any byte but 1 closes a gate, and no byte is no gate.
-    assert_eq!(rt; opened(alloc, 1, &[0xff])?, Ok(6));
-    assert_eq!(rt; opened(alloc, 1, &[1])?, Err(Refusal::Damaged));
-    assert_eq!(rt; opened(alloc, 0, &[])?, Err(Refusal::Damaged));
+    same(&rt, opened(alloc, 1, &[0xff])?, Ok(6));
+    same(&rt, opened(alloc, 1, &[1])?, Err(Refusal::Damaged));
+    same(&rt, opened(alloc, 0, &[])?, Err(Refusal::Damaged));
     Ok(())
 }
 
@@ -227,7 +213,7 @@ fn full(rt: HostRuntime) -> Result<(), Fail> {
         let part = Part::new(0, area);
         let mut disk = MemDisk::new(alloc, area, Script::new(alloc))?;
         let mut journal = Journal::create(&mut disk, part, slot, 1, 0)?;
-        assert_eq!(rt; journal.room(), room, "{area}");
+        same_at(&rt, journal.room(), room, area);
         let first = append(
             &rt,
             alloc,
@@ -236,8 +222,8 @@ fn full(rt: HostRuntime) -> Result<(), Fail> {
             MAX_NUMBER,
             &[image(0, 1)],
         );
-        assert_eq!(rt; first.err(), told, "{area}");
-        assert_eq!(rt; journal.part(), part);
+        same_at(&rt, first.err(), told, area);
+        same(&rt, journal.part(), part);
     }
     Ok(())
 }
@@ -255,8 +241,8 @@ fn numbers(rt: HostRuntime) -> Result<(), Fail> {
             "103 SyncFault",
         ),
     ] {
-        assert_eq!(rt; refusal.number(), number);
-        assert_eq!(rt; refusal.to_string(rt.alloc())?.as_str(), text);
+        same(&rt, refusal.number(), number);
+        same(&rt, refusal.to_string(rt.alloc())?.as_str(), text);
     }
     Ok(())
 }

@@ -1,4 +1,5 @@
 // Worked rows, and each call once over a disk in memory.
+use crate::comparing::same;
 use disk_model::{MemDisk, Script};
 use gate_journal::{GatedPair, PAIR_SIZE, Slot};
 use home_blocks::{
@@ -21,37 +22,31 @@ fn superblock(progress: Progress) -> Result<Superblock, Fail> {
 #[test]
 fn a_superblock(rt: HostRuntime) -> Result<(), Fail> {
     let row = superblock(Progress::Whole)?;
-    assert_eq!(rt; row.encoded(), ROW);
-    assert_eq!(rt; Superblock::read(&ROW)?, row);
-    assert_eq!(rt;
-        (row.progress(), row.slot().number(), row.incarnation()),
-        (Progress::Whole, 2, 1)
-    );
-    assert_eq!(rt;
-        (row.front(), row.current(), row.current().other()),
-        (0, Area::First, Area::Second)
-    );
+    same(&rt, row.encoded(), ROW);
+    same(&rt, Superblock::read(&ROW)?, row);
+    same(&rt, (row.progress(), row.slot().number(), row.incarnation()), (Progress::Whole, 2, 1));
+    same(&rt, (row.front(), row.current(), row.current().other()), (0, Area::First, Area::Second));
     let mut other = ROW;
     other[11] = 2;
-    assert_eq!(rt; Superblock::read(&other).err(), Some(Refusal::OtherVersion));
+    same(&rt, Superblock::read(&other).err(), Some(Refusal::OtherVersion));
     other[7] = b'!';
-    assert_eq!(rt; Superblock::read(&other).err(), Some(Refusal::NotAVolume));
+    same(&rt, Superblock::read(&other).err(), Some(Refusal::NotAVolume));
     Ok(())
 }
 
 #[test]
 fn places(rt: HostRuntime) -> Result<(), Fail> {
     let geometry = superblock(Progress::Whole)?.geometry();
-    assert_eq!(rt; disk_size(geometry), 57_388);
+    same(&rt, disk_size(geometry), 57_388);
     let (superblock, home) = (superblock_part(), home_part(geometry));
-    assert_eq!(rt; (superblock.start(), superblock.len()), (0, 8_192));
-    assert_eq!(rt; (home.start(), home.len()), (8_192, 32_768));
+    same(&rt, (superblock.start(), superblock.len()), (0, 8_192));
+    same(&rt, (home.start(), home.len()), (8_192, 32_768));
     let (first, second) = (
         area_part(geometry, Area::First),
         area_part(geometry, Area::Second),
     );
-    assert_eq!(rt; (first.start(), first.len()), (40_960, 8_214));
-    assert_eq!(rt; (second.start(), second.len()), (49_174, 8_214));
+    same(&rt, (first.start(), first.len()), (40_960, 8_214));
+    same(&rt, (second.start(), second.len()), (49_174, 8_214));
     Ok(())
 }
 
@@ -61,25 +56,25 @@ fn a_home(rt: HostRuntime) -> Result<(), Fail> {
     let fresh = superblock(Progress::Installing)?;
     let mut disk = MemDisk::new(alloc, disk_size(fresh.geometry()), Script::new(alloc))?;
     let (mut home, receipt) = Home::create(&mut disk, fresh)?;
-    assert_eq!(rt; (receipt.slot(), receipt.front()), (fresh.slot(), 0));
-    assert_eq!(rt; (home.superblock(), home.is_broken()), (fresh, false));
-    assert_eq!(rt; home.superblock().geometry().blocks, 8);
+    same(&rt, (receipt.slot(), receipt.front()), (fresh.slot(), 0));
+    same(&rt, (home.superblock(), home.is_broken()), (fresh, false));
+    same(&rt, home.superblock().geometry().blocks, 8);
 
     home.write_home(&mut disk, 7, &[5; 4_096])?;
     home.sync_home(&mut disk)?;
     let receipt = home.mark(&mut disk, 9, Area::Second)?;
-    assert_eq!(rt; (receipt.slot(), receipt.front()), (fresh.slot(), 9));
+    same(&rt, (receipt.slot(), receipt.front()), (fresh.slot(), 9));
 
     let home = Home::open(alloc, &mut disk)?;
     let (slot, geometry) = (fresh.slot(), fresh.geometry());
     let marked = Superblock::new(Progress::Whole, slot, 1, geometry, 9, Area::Second);
-    assert_eq!(rt; home.superblock(), marked);
-    assert_eq!(rt; home.superblock().geometry().blocks, 8);
+    same(&rt, home.superblock(), marked);
+    same(&rt, home.superblock().geometry().blocks, 8);
     let mut bytes = [9; 4_096];
     home.read_home(&mut disk, 7, &mut bytes)?;
-    assert_eq!(rt; bytes, [5; 4_096]);
+    same(&rt, bytes, [5; 4_096]);
     home.read_home(&mut disk, 6, &mut bytes)?;
-    assert_eq!(rt; bytes, [0; 4_096]);
+    same(&rt, bytes, [0; 4_096]);
     Ok(())
 }
 
@@ -90,15 +85,15 @@ fn a_run(rt: HostRuntime) -> Result<(), Fail> {
     let fresh = superblock(Progress::Whole)?;
     let mut disk = MemDisk::new(alloc, disk_size(fresh.geometry()), Script::new(alloc))?;
     let (home, _) = Home::create(&mut disk, fresh)?;
-    assert_eq!(rt; home.superblock().geometry().blocks, 8);
+    same(&rt, home.superblock().geometry().blocks, 8);
     home.write_home(&mut disk, 5, &[5; 4_096])?;
     home.write_home(&mut disk, 6, &[6; 4_096])?;
     let before = disk.calls();
     let mut bytes = [9; 12_288];
     home.read_blocks(&mut disk, 5, &mut bytes)?;
-    assert_eq!(rt; disk.calls(), before.saturating_add(1));
+    same(&rt, disk.calls(), before.saturating_add(1));
     for (block, byte) in bytes.chunks(4_096).zip([5, 6, 0]) {
-        assert_eq!(rt; block, [byte; 4_096].as_slice());
+        same(&rt, block, [byte; 4_096].as_slice());
     }
     Ok(())
 }
@@ -107,10 +102,7 @@ fn a_run(rt: HostRuntime) -> Result<(), Fail> {
 fn no_room(rt: HostRuntime) -> Result<(), Fail> {
     let alloc = rt.alloc();
     let mut disk = MemDisk::new(alloc, PAIR_SIZE - 1, Script::new(alloc))?;
-    assert_eq!(rt;
-        Home::open(alloc, &mut disk).err(),
-        Some(Refusal::NotAVolume)
-    );
+    same(&rt, Home::open(alloc, &mut disk).err(), Some(Refusal::NotAVolume));
     Ok(())
 }
 
@@ -118,27 +110,15 @@ fn no_room(rt: HostRuntime) -> Result<(), Fail> {
 fn no_homes(rt: HostRuntime) -> Result<(), Fail> {
     let alloc = rt.alloc();
     let mut short = MemDisk::new(alloc, 57_387, Script::new(alloc))?;
-    assert_eq!(rt;
-        Home::open(alloc, &mut short).err(),
-        Some(Refusal::NotAVolume)
-    );
+    same(&rt, Home::open(alloc, &mut short).err(), Some(Refusal::NotAVolume));
     let slot = Slot::new(2).ok_or("a slot")?;
     let (mut pair, _) = GatedPair::create(&mut short, superblock_part(), &ROW, slot, 0)?;
-    assert_eq!(rt;
-        Home::open(alloc, &mut short).err(),
-        Some(Refusal::NotAVolume)
-    );
+    same(&rt, Home::open(alloc, &mut short).err(), Some(Refusal::NotAVolume));
     let _receipt = pair.store(&mut short, b"CRAQDISK\0\0\0\x02", slot, 0)?;
-    assert_eq!(rt;
-        Home::open(alloc, &mut short).err(),
-        Some(Refusal::OtherVersion)
-    );
-    assert_eq!(rt;
-        (
+    same(&rt, Home::open(alloc, &mut short).err(), Some(Refusal::OtherVersion));
+    same(&rt, (
             Refusal::OtherVersion.number(),
             Refusal::NotAVolume.to_string(alloc)?.as_str()
-        ),
-        (Some(132), "131 NotAVolume")
-    );
+        ), (Some(132), "131 NotAVolume"));
     Ok(())
 }

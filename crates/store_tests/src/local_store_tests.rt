@@ -5,6 +5,7 @@ ghost use Rattle.gate_journal.specs.Batch.{AreImages};
 ghost use Rattle.home_blocks.specs.Places.{disk_size_of};
 ghost use Rattle.local_store.specs.Store.{geometry_of};
 
+use crate::comparing::{same, same_at};
 use disk_model::{Cut, Disk, DiskError, Event, MemDisk, Script};
 use flusher::Plan;
 use gate_journal::{IMAGE_SIZE, Image, MAX_NUMBER, Slot, Synced};
@@ -124,7 +125,7 @@ impl Rig {
         fits(rt, &self.store, &self.disk);
         let mut bytes = [0xee; IMAGE_SIZE];
         self.store.read_block(&mut self.disk, block, &mut bytes)?;
-        assert_eq!(rt; bytes, [bytes[0]; IMAGE_SIZE], "block {block}");
+        same_at(rt, bytes, [bytes[0]; IMAGE_SIZE], block);
         Ok(bytes[0])
     }
 
@@ -138,7 +139,7 @@ impl Rig {
             .read_blocks(&mut self.disk, first, 3, &mut bytes)?;
         let blocks = [bytes[0], bytes[IMAGE_SIZE], bytes[2 * IMAGE_SIZE]];
         for (block, byte) in bytes.chunks(IMAGE_SIZE).zip(blocks) {
-            assert_eq!(rt; block, [byte; IMAGE_SIZE].as_slice(), "from {first} on");
+            same_at(rt, block, [byte; IMAGE_SIZE].as_slice(), first);
         }
         Ok(blocks)
     }
@@ -187,12 +188,9 @@ fn format_writes_the_row(rt: HostRuntime) -> Result<(), Fail> {
     let mut disk = used(alloc)?;
     let _store = format(&rt, alloc, &mut disk, LEAST)??;
     disk.cut(Cut::None);
-    assert_eq!(rt; stretch(&disk, 0, 56), FIRST.as_slice());
-    assert_eq!(rt;
-        (are_zeros(&disk, 4_096, 13), are_zeros(&disk, 8_192, 32_768)),
-        (true, true)
-    );
-    assert_eq!(rt; stretch(&disk, 40_960, 2), b"\0\xee".as_slice());
+    same(&rt, stretch(&disk, 0, 56), FIRST.as_slice());
+    same(&rt, (are_zeros(&disk, 4_096, 13), are_zeros(&disk, 8_192, 32_768)), (true, true));
+    same(&rt, stretch(&disk, 40_960, 2), b"\0\xee".as_slice());
     Ok(())
 }
 
@@ -203,12 +201,12 @@ fn a_formatted_disk_is_opened(rt: HostRuntime) -> Result<(), Fail> {
     let _store = format(&rt, alloc, &mut disk, LEAST)??;
     disk.cut(Cut::None);
     let mut rig = opened(alloc, disk)?;
-    assert_eq!(rt; rig.store.geometry(), Geometry::new(8, LEAST, 4_096)?);
+    same(&rt, rig.store.geometry(), Geometry::new(8, LEAST, 4_096)?);
     for block in 0..8 {
-        assert_eq!(rt; rig.read(&rt, block)?, 0);
+        same(&rt, rig.read(&rt, block)?, 0);
     }
     let receipt = rig.commit(&rt, MAX_NUMBER, &two(1, 2))?;
-    assert_eq!(rt; (receipt.slot().number(), receipt.front()), (0, MAX_NUMBER));
+    same(&rt, (receipt.slot().number(), receipt.front()), (0, MAX_NUMBER));
     Ok(())
 }
 
@@ -224,11 +222,11 @@ const BATCH: [(usize, &[u8]); 5] = [
 #[test]
 fn a_commit_writes_its_batch(rt: HostRuntime) -> Result<(), Fail> {
     let mut rig = formatted(&rt, rt.alloc(), LEAST)?;
-    assert_eq!(rt; rig.disk.calls(), 22);
+    same(&rt, rig.disk.calls(), 22);
     let _receipt = rig.commit(&rt, 1, &two(7, 8))?;
-    assert_eq!(rt; rig.disk.calls(), 26);
+    same(&rt, rig.disk.calls(), 26);
     for (at, bytes) in BATCH {
-        assert_eq!(rt; stretch(&rig.disk, at, bytes.len()), bytes, "at {at}");
+        same_at(&rt, stretch(&rig.disk, at, bytes.len()), bytes, at);
     }
     Ok(())
 }
@@ -238,13 +236,10 @@ fn a_checkpoint_writes_a_superblock(rt: HostRuntime) -> Result<(), Fail> {
     let mut rig = formatted(&rt, rt.alloc(), LEAST)?;
     let _receipt = rig.commit(&rt, 1, &two(7, 8))?;
     rig.checkpoint(&rt)?;
-    assert_eq!(rt; rig.disk.calls(), 37);
-    assert_eq!(rt; stretch(&rig.disk, 4_096, 56), SECOND.as_slice());
+    same(&rt, rig.disk.calls(), 37);
+    same(&rt, stretch(&rig.disk, 4_096, 56), SECOND.as_slice());
     let _receipt = rig.commit(&rt, 2, &one(9))?;
-    assert_eq!(rt;
-        stretch(&rig.disk, 49_174, 9),
-        b"\x01\0\0\0\0\0\0\0\x02".as_slice()
-    );
+    same(&rt, stretch(&rig.disk, 49_174, 9), b"\x01\0\0\0\0\0\0\0\x02".as_slice());
     Ok(())
 }
 
@@ -254,7 +249,7 @@ fn checkpointed(rt: &impl Abort, alloc: Global) -> Result<Rig, Fail> {
     let _receipt = rig.commit(rt, 1, &two(7, 8))?;
     rig.checkpoint(rt)?;
     let _receipt = rig.commit(rt, 2, &one(9))?;
-    assert_eq!(rt; rig.disk.calls(), 41);
+    same(rt, rig.disk.calls(), 41);
     Ok(rig)
 }
 
@@ -263,7 +258,7 @@ fn checkpointed(rt: &impl Abort, alloc: Global) -> Result<Rig, Fail> {
 fn reads_are_counted(rt: HostRuntime) -> Result<(), Fail> {
     let mut rig = checkpointed(&rt, rt.alloc())?;
     for (block, byte, calls) in [(1, 9, 41), (0, 7, 42), (7, 0, 43)] {
-        assert_eq!(rt; (rig.read(&rt, block)?, rig.disk.calls()), (byte, calls));
+        same(&rt, (rig.read(&rt, block)?, rig.disk.calls()), (byte, calls));
     }
     Ok(())
 }
@@ -273,10 +268,7 @@ fn reads_are_counted(rt: HostRuntime) -> Result<(), Fail> {
 fn runs_are_counted(rt: HostRuntime) -> Result<(), Fail> {
     let mut rig = checkpointed(&rt, rt.alloc())?;
     for (first, bytes, calls) in [(0, [7, 9, 0], 42), (1, [9, 0, 0], 43), (5, [0; 3], 44)] {
-        assert_eq!(rt;
-            (rig.read_three(&rt, first)?, rig.disk.calls()),
-            (bytes, calls)
-        );
+        same(&rt, (rig.read_three(&rt, first)?, rig.disk.calls()), (bytes, calls));
     }
     Ok(())
 }
@@ -285,11 +277,11 @@ fn runs_are_counted(rt: HostRuntime) -> Result<(), Fail> {
 fn ticks_are_counted(rt: HostRuntime) -> Result<(), Fail> {
     let mut rig = checkpointed(&rt, rt.alloc())?;
     for (given, calls) in [(Some(1), 42), (None, 42)] {
-        assert_eq!(rt; (rig.tick(&rt)?, rig.disk.calls()), (given, calls));
+        same(&rt, (rig.tick(&rt)?, rig.disk.calls()), (given, calls));
     }
-    assert_eq!(rt; (rig.read(&rt, 1)?, rig.disk.calls()), (9, 43));
+    same(&rt, (rig.read(&rt, 1)?, rig.disk.calls()), (9, 43));
     rig.checkpoint(&rt)?;
-    assert_eq!(rt; (rig.disk.calls(), rig.store.front()), (52, 2));
+    same(&rt, (rig.disk.calls(), rig.store.front()), (52, 2));
     Ok(())
 }
 
@@ -323,7 +315,7 @@ fn opens(rt: HostRuntime) -> Result<(), Fail> {
         assert!(rt; at <= 40_960 && bytes.len() <= 56);
         disk.write_at(at, bytes)?;
         let is = Contents::open(alloc, &mut disk).map(|store| store.front());
-        assert_eq!(rt; is, wanted, "at {at}: {bytes:?}");
+        same_at(&rt, is, wanted, (at, bytes));
     }
     Ok(())
 }
@@ -332,11 +324,7 @@ fn opens(rt: HostRuntime) -> Result<(), Fail> {
 fn are_refused(rt: &impl Abort, rig: &mut Rig, fronts: &[(u64, Refusal)]) {
     for (front, told) in fronts {
         assert!(rt; *front <= MAX_NUMBER);
-        assert_eq!(rt;
-            rig.commit(rt, *front, &one(9)).err(),
-            Some(*told),
-            "{front}"
-        );
+        same_at(rt, rig.commit(rt, *front, &one(9)).err(), Some(*told), front);
     }
 }
 
@@ -379,8 +367,8 @@ const TEXTS: [(Refusal, Option<u16>, &str); 9] = [
 #[test]
 fn refusals_in_words(rt: HostRuntime) -> Result<(), Fail> {
     for (refusal, number, text) in TEXTS {
-        assert_eq!(rt; refusal.number(), number);
-        assert_eq!(rt; refusal.to_string(rt.alloc())?.as_str(), text);
+        same(&rt, refusal.number(), number);
+        same(&rt, refusal.to_string(rt.alloc())?.as_str(), text);
     }
     Ok(())
 }
@@ -421,15 +409,11 @@ fn faults(rt: HostRuntime) -> Result<(), Fail> {
         let before = rig.disk.calls();
         rig.disk.arm(Event::FailAt { call })?;
         let told = refused(&rt, &mut rig, doing);
-        assert_eq!(rt; told, Some(Refusal::Device(fault)), "{doing:?} {call}");
+        same_at(&rt, told, Some(Refusal::Device(fault)), (doing, call));
         for again in ALL {
-            assert_eq!(rt;
-                refused(&rt, &mut rig, again),
-                Some(Refusal::Broken),
-                "{again:?}"
-            );
+            same_at(&rt, refused(&rt, &mut rig, again), Some(Refusal::Broken), again);
         }
-        assert_eq!(rt; rig.disk.calls(), before.saturating_add(call));
+        same(&rt, rig.disk.calls(), before.saturating_add(call));
     }
     Ok(())
 }
@@ -477,7 +461,7 @@ fn format_stopped(
     let mut disk = used(alloc)?;
     disk.arm(event)?;
     let told = format(rt, alloc, &mut disk, LEAST)?;
-    assert_eq!(rt; told.err(), Some(Refusal::Device(DiskError::Stopped)));
+    same(rt, told.err(), Some(Refusal::Device(DiskError::Stopped)));
     disk.cut(cut);
     found(rt, alloc, disk)
 }
@@ -494,9 +478,9 @@ fn format_stops(rt: HostRuntime) -> Result<(), Fail> {
                 Err(Refusal::NotAVolume)
             };
             let is = format_stopped(&rt, rt.alloc(), event, Cut::All)?;
-            assert_eq!(rt; is, wanted, "call {call}, {bytes} bytes");
+            same_at(&rt, is, wanted, (call, bytes));
             let is = format_stopped(&rt, rt.alloc(), event, Cut::None)?;
-            assert_eq!(rt; is, Err(Refusal::NotAVolume), "call {call}, {bytes} bytes");
+            same_at(&rt, is, Err(Refusal::NotAVolume), (call, bytes));
         }
     }
     Ok(())
@@ -514,7 +498,7 @@ fn stopped(
     let _receipt = rig.commit(rt, 1, &two(7, 8))?;
     rig.disk.arm(event)?;
     let told = refused(rt, &mut rig, doing);
-    assert_eq!(rt; told, Some(Refusal::Device(DiskError::Stopped)));
+    same(rt, told, Some(Refusal::Device(DiskError::Stopped)));
     rig.disk.cut(cut);
     found(rt, alloc, rig.disk)
 }
@@ -532,9 +516,9 @@ fn stops_at(
     let is_new = doing == Doing::Commit && (call == 4 || call == 3 && bytes > 0);
     let wanted = if is_new { new } else { old };
     let is = stopped(rt, alloc, doing, event, Cut::All)?;
-    assert_eq!(rt; is, Ok(wanted), "{doing:?} {call}, {bytes} bytes");
+    same_at(rt, is, Ok(wanted), (doing, call, bytes));
     let is = stopped(rt, alloc, doing, event, Cut::None)?;
-    assert_eq!(rt; is, Ok(old), "{doing:?} {call}, {bytes} bytes");
+    same_at(rt, is, Ok(old), (doing, call, bytes));
     Ok(())
 }
 
@@ -559,13 +543,13 @@ fn no_memory(rt: HostRuntime) -> Result<(), Fail> {
     let front = match rig.commit(&rt, 1, &two(7, 8)) {
         Ok(receipt) => receipt.front(),
         Err(Refusal::Memory) => {
-            assert_eq!(rt; (rig.disk.calls(), rig.store.front()), (before, 0));
-            assert_eq!(rt; rig.read(&rt, 1)?, 0);
+            same(&rt, (rig.disk.calls(), rig.store.front()), (before, 0));
+            same(&rt, rig.read(&rt, 1)?, 0);
             rig.commit(&rt, 1, &two(7, 8))?.front()
         }
         Err(refusal) => {
-            assert_eq!(rt; refusal, Refusal::Device(DiskError::Memory));
-            assert_eq!(rt; rig.commit(&rt, 1, &two(7, 8)).err(), Some(Refusal::Broken));
+            same(&rt, refusal, Refusal::Device(DiskError::Memory));
+            same(&rt, rig.commit(&rt, 1, &two(7, 8)).err(), Some(Refusal::Broken));
             0
         }
     };
@@ -576,7 +560,7 @@ fn no_memory(rt: HostRuntime) -> Result<(), Fail> {
     };
     let is = found(&rt, alloc, rig.disk)?;
     if is != Err(Refusal::Memory) && is != Err(Refusal::Device(DiskError::Memory)) {
-        assert_eq!(rt; is, Ok((front, blocks)));
+        same(&rt, is, Ok((front, blocks)));
     }
     Ok(())
 }

@@ -2,6 +2,7 @@
 ghost use Rattle.std.specs.Prelude.{◌≡◌, ◌+◌, ◌≤◌};
 ghost use Rattle.disk_model.specs.Memory.{size_of};
 
+use crate::comparing::{same, same_at};
 use disk_model::{Cut, Disk, DiskError, Event, MemDisk, Part, Script};
 use gate_journal::{GatedPair, PAIR_SIZE, Refusal, Slot};
 use std::alloc::Global;
@@ -14,10 +15,10 @@ fn a_new_pair(rt: HostRuntime) -> Result<(), Fail> {
     let part = Part::new(3, PAIR_SIZE);
     let mut disk = MemDisk::new(rt.alloc(), 3 + PAIR_SIZE, Script::new(rt.alloc()))?;
     let (pair, receipt) = GatedPair::create(&mut disk, part, b"one", slot, 5)?;
-    assert_eq!(rt; (receipt.slot(), receipt.front()), (slot, 5));
-    assert_eq!(rt; (pair.part(), pair.number()), (part, 1));
-    assert_eq!(rt; (pair.is_broken(), pair.is_begun()), (false, true));
-    assert_eq!(rt; disk.calls(), 12);
+    same(&rt, (receipt.slot(), receipt.front()), (slot, 5));
+    same(&rt, (pair.part(), pair.number()), (part, 1));
+    same(&rt, (pair.is_broken(), pair.is_begun()), (false, true));
+    same(&rt, disk.calls(), 12);
     Ok(())
 }
 
@@ -34,17 +35,11 @@ fn pair_bytes(rt: HostRuntime) -> Result<(), Fail> {
     let part = Part::new(3, PAIR_SIZE);
     let mut disk = MemDisk::new(rt.alloc(), 3 + PAIR_SIZE, Script::new(rt.alloc()))?;
     let (mut pair, _) = GatedPair::create(&mut disk, part, b"one", slot, 5)?;
-    assert_eq!(rt;
-        stretch(&disk, 3, 16),
-        b"\x01\0\0\0\0\0\0\0\x01\0\0\0\x03one".as_slice()
-    );
-    assert_eq!(rt; stretch(&disk, 4_099, 13), [0; 13].as_slice());
+    same(&rt, stretch(&disk, 3, 16), b"\x01\0\0\0\0\0\0\0\x01\0\0\0\x03one".as_slice());
+    same(&rt, stretch(&disk, 4_099, 13), [0; 13].as_slice());
     let receipt = pair.store(&mut disk, b"two!", slot, 9)?;
-    assert_eq!(rt; receipt.front(), 9);
-    assert_eq!(rt;
-        stretch(&disk, 4_099, 17),
-        b"\x01\0\0\0\0\0\0\0\x02\0\0\0\x04two!".as_slice()
-    );
+    same(&rt, receipt.front(), 9);
+    same(&rt, stretch(&disk, 4_099, 17), b"\x01\0\0\0\0\0\0\0\x02\0\0\0\x04two!".as_slice());
     Ok(())
 }
 
@@ -55,9 +50,9 @@ fn pair_calls(rt: HostRuntime) -> Result<(), Fail> {
     let mut disk = MemDisk::new(rt.alloc(), 3 + PAIR_SIZE, Script::new(rt.alloc()))?;
     let (mut pair, _) = GatedPair::create(&mut disk, part, b"one", slot, 5)?;
     let _receipt = pair.store(&mut disk, b"two!", slot, 9)?;
-    assert_eq!(rt; (disk.calls(), pair.number()), (18, 2));
+    same(&rt, (disk.calls(), pair.number()), (18, 2));
     pair.begin_store(&mut disk)?;
-    assert_eq!(rt; (disk.calls(), pair.is_begun()), (20, true));
+    same(&rt, (disk.calls(), pair.is_begun()), (20, true));
     Ok(())
 }
 
@@ -89,9 +84,9 @@ fn is_new_after(
     let _second = pair.store(&mut disk, b"two", slot, 2)?;
     disk.arm(event)?;
     let told = pair.store(&mut disk, b"three", slot, 3);
-    assert_eq!(rt; told.err(), Some(Refusal::Device(DiskError::Stopped)));
+    same(rt, told.err(), Some(Refusal::Device(DiskError::Stopped)));
     let again = pair.store(&mut disk, b"four", slot, 4);
-    assert_eq!(rt; again.err(), Some(Refusal::Broken));
+    same(rt, again.err(), Some(Refusal::Broken));
     disk.cut(cut);
     let (_, payload) = GatedPair::load(alloc, &mut disk, part)?;
     let payload = payload.ok_or("a payload")?;
@@ -110,11 +105,7 @@ fn pair_stops(rt: HostRuntime) -> Result<(), Fail> {
             is_new_after(&rt, rt.alloc(), slot, event, Cut::All)?,
             is_new_after(&rt, rt.alloc(), slot, event, Cut::None)?,
         );
-        assert_eq!(rt;
-            found,
-            (after_all, after_none),
-            "call {call}, {bytes} bytes"
-        );
+        same_at(&rt, found, (after_all, after_none), (call, bytes));
     }
     Ok(())
 }
@@ -180,7 +171,7 @@ fn found_and_told(
     if told.is_none() {
         let (_, payload) = GatedPair::load(alloc, &mut disk, part)?;
         let payload = payload.ok_or("a payload")?;
-        assert_eq!(rt; payload.as_slice(), b"new".as_slice());
+        same(rt, payload.as_slice(), b"new".as_slice());
     }
     Ok((is, told))
 }
@@ -189,11 +180,7 @@ fn found_and_told(
 fn pair_loads(rt: HostRuntime) -> Result<(), Fail> {
     for (first, second, found, told) in SLOTS {
         let wanted = found.map(|(byte, len)| ((len > 0).then_some(byte), len));
-        assert_eq!(rt;
-            found_and_told(&rt, rt.alloc(), first, second)?,
-            (wanted, told),
-            "{first:?} {second:?}"
-        );
+        same_at(&rt, found_and_told(&rt, rt.alloc(), first, second)?, (wanted, told), (first, second));
     }
     Ok(())
 }

@@ -1,4 +1,5 @@
 // The rule on a table of returned disks.
+use crate::comparing::{same, same_at};
 use configurations::{Epoch, Incarnation, Member, Record};
 use gate_journal::Slot;
 use recovery::{Refusal, Returned, choose};
@@ -64,7 +65,7 @@ fn the_rule(rt: HostRuntime) -> Result<(), Fail> {
             })?;
         }
         let source = choose(&chain, &returned).map(|source| source.place);
-        assert_eq!(rt; source, told, "{disks:?}");
+        same_at(&rt, source, told, disks);
     }
     Ok(())
 }
@@ -75,8 +76,8 @@ fn numbers(rt: HostRuntime) -> Result<(), Fail> {
         (Refusal::NoneReturned, 191, "191 NoneReturned"),
         (Refusal::NotInChain, 192, "192 NotInChain"),
     ] {
-        assert_eq!(rt; refusal.number(), number);
-        assert_eq!(rt; refusal.to_string(rt.alloc())?.as_str(), text);
+        same(&rt, refusal.number(), number);
+        same(&rt, refusal.to_string(rt.alloc())?.as_str(), text);
     }
     Ok(())
 }

@@ -1,4 +1,5 @@
 // The numbers that the definitions came from, worked out by hand.
+use crate::comparing::{same, same_at};
 use bytes::Bytes;
 use std::process::Abort;
 use std::test::Fail;
@@ -19,9 +20,9 @@ fn pieces_are(rt: &impl Abort, offset: u64, len: u32, expected: &[Piece]) {
     assert!(rt; offset <= VOLUME && u64::from(len) <= VOLUME - offset);
     let mut wanted = expected.iter().copied();
     for found in pieces(offset, len) {
-        assert_eq!(rt; Some(found), wanted.next(), "{offset}+{len}");
+        same_at(rt, Some(found), wanted.next(), (offset, len));
     }
-    assert_eq!(rt; wanted.next(), None, "{offset}+{len}");
+    same_at(rt, wanted.next(), None, (offset, len));
 }
 
 #[test]
@@ -53,11 +54,11 @@ fn pieces_at_the_ends_of_blocks(rt: HostRuntime) {
 #[test]
 fn pieces_of_257_blocks(rt: HostRuntime) -> Result<(), Fail> {
     let found: Vec<Piece> = pieces(1, 1_048_576).collect(rt.alloc())?;
-    assert_eq!(rt; found.len(), 257);
-    assert_eq!(rt; found[0], piece(0, 1, 0, 4_095));
-    assert_eq!(rt; found[1], piece(1, 0, 4_095, 4_096));
-    assert_eq!(rt; found[255], piece(255, 0, 1_044_479, 4_096));
-    assert_eq!(rt; found[256], piece(256, 0, 1_048_575, 1));
+    same(&rt, found.len(), 257);
+    same(&rt, found[0], piece(0, 1, 0, 4_095));
+    same(&rt, found[1], piece(1, 0, 4_095, 4_096));
+    same(&rt, found[255], piece(255, 0, 1_044_479, 4_096));
+    same(&rt, found[256], piece(256, 0, 1_048_575, 1));
     Ok(())
 }
 
@@ -88,7 +89,7 @@ fn geometries(rt: HostRuntime) {
         let said = Geometry::new(blocks, area, max_payload)
             .map(Geometry::size)
             .map_err(Refusal::number);
-        assert_eq!(rt; said, expected, "{blocks}, {area}, {max_payload}");
+        same_at(&rt, said, expected, (blocks, area, max_payload));
     }
 }
 
@@ -112,10 +113,7 @@ fn refusals_in_words(rt: HostRuntime) -> Result<(), Fail> {
         Refusal::BadPayload,
         Refusal::AreaTooSmall
     )?;
-    assert_eq!(rt;
-        words.as_str(),
-        "111 BadBlocks, 112 BadPayload, 113 AreaTooSmall"
-    );
+    same(&rt, words.as_str(), "111 BadBlocks, 112 BadPayload, 113 AreaTooSmall");
     Ok(())
 }
 
@@ -124,7 +122,7 @@ fn refusals_in_words(rt: HostRuntime) -> Result<(), Fail> {
 fn patches(rt: HostRuntime) -> Result<(), Fail> {
     let payload = Bytes::copy_from_slice(rt.alloc(), &[1, 2, 3, 4, 5])?;
     let write = Write::new(8_189, payload);
-    assert_eq!(rt; (write.offset(), write.payload().len()), (8_189, 5));
+    same(&rt, (write.offset(), write.payload().len()), (8_189, 5));
     for (block, front, back) in [
         (0, [9, 9, 9], [9, 9, 9]),
         (1, [9, 9, 9], [1, 2, 3]),
@@ -133,8 +131,8 @@ fn patches(rt: HostRuntime) -> Result<(), Fail> {
     ] {
         let mut bytes = [9; 4_096];
         patch(&mut bytes, &write, block);
-        assert_eq!(rt; &bytes[..3], front.as_slice(), "block {block}");
-        assert_eq!(rt; &bytes[4_093..], back.as_slice(), "block {block}");
+        same_at(&rt, &bytes[..3], front.as_slice(), block);
+        same_at(&rt, &bytes[4_093..], back.as_slice(), block);
         assert!(rt;
             bytes[3..4_093].iter().all(|byte| *byte == 9),
             "block {block}"
