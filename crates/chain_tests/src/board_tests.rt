@@ -7,7 +7,6 @@ use disk_model::{MemDisk, Part, Script};
 use gate_journal::{IMAGE_SIZE, Image, Journal, Slot, Synced};
 use std::alloc::Global;
 use std::process::Abort;
-use std::test::Fail;
 use std::thread::join;
 
 /// How far two threads raise the front.
@@ -22,12 +21,12 @@ const GAUGES: [u64; Board::SLOTS] = [18, 16, 17, 13, 14, 12, 19, 11];
 const FRONT: u64 = 15;
 
 /// The last of the seats.
-fn take_seat(board: &Board, seats: &mut Vec<Seat>) -> Option<Seat>
+fn take_seat(rt: &impl Abort, board: &Board, seats: &mut Vec<Seat>) -> Seat
     requires { All (λ seat. seat.board ≡ board.now) seats.old.items }
     ensures rest { All (λ seat. seat.board ≡ board.now) seats.new.items }
-    ensures seat { IfSome result (λ seat. seat.board ≡ board.now) }
+    ensures seat { result.board ≡ board.now }
 {
-    seats.pop()
+    seats.pop().expect(rt, "a seat")
 }
 
 /// The counting seat.
@@ -43,20 +42,24 @@ fn take_counting(board: &Board, seats: &mut Vec<Seat>) -> Seat
 }
 
 /// A receipt of this slot's disk, which holds this many writes.
-fn receipt(rt: &impl Abort, alloc: Global, slot: Slot, front: u64) -> Result<Synced, Fail> {
-    let mut disk = MemDisk::new(alloc, 10_000, Script::new(alloc))?;
-    let mut journal = Journal::create(&mut disk, Part::new(0, 10_000), slot, 1, 0)?;
+fn receipt(rt: &impl Abort, alloc: Global, slot: Slot, front: u64) -> Synced {
+    let mut disk = MemDisk::new(alloc, 10_000, Script::new(alloc)).expect(rt, "memory");
+    let part = Part::new(0, 10_000);
+    let mut journal = Journal::create(&mut disk, part, slot, 1, 0).expect(rt, "a journal");
     let image = Image {
         block: 0,
         bytes: [7; IMAGE_SIZE],
     };
     assert!(rt; 0 < front && front < 100 && journal.are_images(&[image]));
-    Ok(journal.append(alloc, &mut disk, front, &[image])?)
+    journal
+        .append(alloc, &mut disk, front, &[image])
+        .expect(rt, "the disk writes")
 }
 
 #[test]
-fn a_board_answers_its_words(rt: HostRuntime) -> Result<(), Fail> {
-    let (board, mut seats) = Board::new(rt.alloc(), 3, 1, [3, 0, 0, 0, 0, 0, 0, 0], 1)?;
+fn a_board_answers_its_words(rt: HostRuntime) {
+    let gauges = [3, 0, 0, 0, 0, 0, 0, 0];
+    let (board, mut seats) = Board::new(rt.alloc(), 3, 1, gauges, 1).expect(&rt, "memory");
     same(&rt, seats.len(), 1);
     let seat = &mut seats[0];
     same(&rt, board.look(seat).number(), 3);
@@ -66,16 +69,15 @@ fn a_board_answers_its_words(rt: HostRuntime) -> Result<(), Fail> {
     same(&rt, front.number(), 5);
     let crew = board.crew(seat, front);
     same(&rt, (crew.mask(), crew.front().number()), (1, 5));
-    let slot = Slot::new(0).ok_or("slot 0")?;
+    let slot = Slot::new(0).expect(&rt, "slot 0");
     let gauge = board.gauge(seat, &crew, slot);
     same(&rt, (gauge.slot().number(), gauge.front()), (0, 3));
-    board.count_in(seat, Slot::new(2).ok_or("slot 2")?);
+    board.count_in(seat, Slot::new(2).expect(&rt, "slot 2"));
     let front = board.look(seat);
     same(&rt, board.crew(seat, front).mask(), 5);
     board.count_out(seat, slot);
     let front = board.look(seat);
     same(&rt, board.crew(seat, front).mask(), 4);
-    Ok(())
 }
 
 /// Raises the front to each number up to the top, and looks after each: gives the seat back where no look is below the
@@ -98,43 +100,36 @@ fn climb(board: &Board, mut seat: Seat) -> Option<Seat>
 }
 
 #[test]
-fn two_threads_raise_one_front(rt: HostRuntime) -> Result<(), Fail> {
-    let (board, mut seats) = Board::new(rt.alloc(), 0, 0, [0; Board::SLOTS], 3)?;
-    let mut last = take_seat(&board, &mut seats).ok_or("a seat")?;
-    let second = take_seat(&board, &mut seats).ok_or("a seat")?;
-    let first = take_seat(&board, &mut seats).ok_or("a seat")?;
+fn two_threads_raise_one_front(rt: HostRuntime) {
+    let gauges = [0; Board::SLOTS];
+    let (board, mut seats) = Board::new(rt.alloc(), 0, 0, gauges, 3).expect(&rt, "memory");
+    let mut last = take_seat(&rt, &board, &mut seats);
+    let second = take_seat(&rt, &board, &mut seats);
+    let first = take_seat(&rt, &board, &mut seats);
     let (first, second) = join(&rt, || climb(&board, first), || climb(&board, second));
     assert!(rt; first.is_some() && second.is_some());
     same(&rt, board.look(&mut last).number(), TOP);
-    Ok(())
 }
 
 /// Posts receipts of the slot, and looks at the floor after each.
-fn post_all(
-    rt: &impl Abort,
-    alloc: Global,
-    board: &Board,
-    seat: &mut Seat,
-    slot: Slot,
-) -> Result<(), Fail>
+fn post_all(rt: &impl Abort, alloc: Global, board: &Board, seat: &mut Seat, slot: Slot)
     requires { seat.old.board ≡ board.now }
 {
-    for (posted, wanted) in [(2u64, 4u64), (6, 6), (5, 6), (11, 9)] {
-        let receipt = receipt(rt, alloc, slot, posted)?;
-        board.post(seat, receipt);
+    for (posted, wanted) in &[(2u64, 4u64), (6, 6), (5, 6), (11, 9)] {
+        board.post(seat, receipt(rt, alloc, slot, *posted));
         let front = board.look(seat);
         let crew = board.crew(seat, front);
         let floor = Floor::read(board, seat, crew);
-        same_at(rt, floor.front(), wanted, posted);
+        same_at(rt, floor.front(), *wanted, *posted);
     }
-    Ok(())
 }
 
 #[test]
-fn a_receipt_raises_its_gauge(rt: HostRuntime) -> Result<(), Fail> {
-    let slot = Slot::new(3).ok_or("slot 3")?;
-    let (board, mut seats) = Board::new(rt.alloc(), 9, 0b1000, [0, 0, 0, 4, 0, 0, 0, 0], 1)?;
-    post_all(&rt, rt.alloc(), &board, &mut seats[0], slot)
+fn a_receipt_raises_its_gauge(rt: HostRuntime) {
+    let slot = Slot::new(3).expect(&rt, "slot 3");
+    let gauges = [0, 0, 0, 4, 0, 0, 0, 0];
+    let (board, mut seats) = Board::new(rt.alloc(), 9, 0b1000, gauges, 1).expect(&rt, "memory");
+    post_all(&rt, rt.alloc(), &board, &mut seats[0], slot);
 }
 
 /// Counts the first slots in, and out again, one after another.
@@ -182,11 +177,11 @@ fn are_covered(board: &Board, mut seat: Seat) -> bool
 }
 
 #[test]
-fn floors_are_covered_while_slots_come_and_go(rt: HostRuntime) -> Result<(), Fail> {
+fn floors_are_covered_while_slots_come_and_go(rt: HostRuntime) {
     for slots in 1..=8 {
-        let (board, mut seats) = Board::new(rt.alloc(), FRONT, 0, GAUGES, 2)?;
+        let (board, mut seats) = Board::new(rt.alloc(), FRONT, 0, GAUGES, 2).expect(&rt, "memory");
         let counting = take_counting(&board, &mut seats);
-        let other = take_seat(&board, &mut seats).ok_or("a seat")?;
+        let other = take_seat(&rt, &board, &mut seats);
         let (_, covered) = join(
             &rt,
             || count(&board, counting, slots),
@@ -194,12 +189,11 @@ fn floors_are_covered_while_slots_come_and_go(rt: HostRuntime) -> Result<(), Fai
         );
         assert!(rt; covered, "{slots} slots");
     }
-    Ok(())
 }
 
 #[test]
-fn a_refusal_has_its_number_and_name(rt: HostRuntime) -> Result<(), Fail> {
+fn a_refusal_has_its_number_and_name(rt: HostRuntime) {
     same(&rt, Refusal::Memory.number(), 100);
-    same(&rt, format!(in rt.alloc(); "{}", Refusal::Memory)?.as_str(), "100 Memory");
-    Ok(())
+    let words = format!(in rt.alloc(); "{}", Refusal::Memory).expect(&rt, "memory");
+    same(&rt, words.as_str(), "100 Memory");
 }

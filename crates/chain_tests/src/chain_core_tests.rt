@@ -259,10 +259,18 @@ fn a_write_goes_down_and_its_ack_comes_back(rt: HostRuntime) {
     let numbered = pass(&rt, 1, &mut head, submitted);
     same(&rt, head.applied(), 1);
     let applied = pass(&rt, 0, &mut middle, numbered.messages);
-    same(&rt, pass(&rt, 1, &mut tail, applied.messages).messages.len(), 0);
+    same(
+        &rt,
+        pass(&rt, 1, &mut tail, applied.messages).messages.len(),
+        0,
+    );
     let committed = raise(&rt, &board, &mut seat, &mut tail, 1);
     let acked = pass(&rt, 2, &mut middle, committed.messages);
-    same(&rt, pass(&rt, 1, &mut head, acked.messages).replies.len(), 0);
+    same(
+        &rt,
+        pass(&rt, 1, &mut head, acked.messages).replies.len(),
+        0,
+    );
     check(&rt, acked.replies, 9, b"");
     drop(head.abandon());
     drop(middle.abandon());

@@ -1,5 +1,5 @@
 //! Each token's ends.
-ghost use Rattle.std.specs.Prelude.{◌≡◌, ◌≤◌, IfOk};
+ghost use Rattle.std.specs.Prelude.{◌≡◌, ◌≤◌};
 ghost use Rattle.board.specs.declared.evidence.TheConstants.Front.{GREATEST};
 
 use crate::comparing::same;
@@ -10,21 +10,20 @@ use flush_barrier::{
 };
 use std::alloc::Global;
 use std::process::Abort;
-use std::test::Fail;
 
 const SESSION: SessionId = SessionId(9);
 
 const COOKIE: u64 = 2;
 
 /// A board with the front, on which slot 0 is counted and holds all writes up to the gauge; and its one seat.
-fn opened(alloc: Global, front: u64, gauge: u64) -> Result<(Board, Seat), Fail>
+fn opened(rt: &impl Abort, alloc: Global, front: u64, gauge: u64) -> (Board, Seat)
     requires { front ≤ GREATEST }
-    ensures { IfOk result (λ made. made.1.board ≡ made.0) }
+    ensures { result.1.board ≡ result.0 }
 {
     let gauges = [gauge, 0, 0, 0, 0, 0, 0, 0];
-    let (board, mut seats) = Board::new(alloc, front, 1, gauges, 1)?;
-    let seat = seats.pop().unwrap();
-    Ok((board, seat))
+    let (board, mut seats) = Board::new(alloc, front, 1, gauges, 1).expect(rt, "memory");
+    let seat = seats.pop().expect(rt, "a seat");
+    (board, seat)
 }
 
 /// The floor that the seat reads.
@@ -46,31 +45,27 @@ fn assert_reply(rt: &impl Abort, reply: &Reply, error: Option<u32>, payload: &[u
 }
 
 #[test]
-fn a_token_without_a_sync_is_answered(rt: HostRuntime) -> Result<(), Fail> {
+fn a_token_without_a_sync_is_answered(rt: HostRuntime) {
     let alloc = rt.alloc();
-    let (board, _seat) = opened(alloc, 3, 3)?;
+    let (board, _seat) = opened(&rt, alloc, 3, 3);
     let name = BoardName::of(&board);
-    let payload = Bytes::copy_from_slice(alloc, &[7, 8])?;
-    let read = || OwedRead::new(&name, SESSION, COOKIE);
-    assert_reply(&rt, &read().settle(payload), None, &[7, 8]);
-    assert_reply(&rt, &read().refuse(alloc, ErrorCode::Io), Some(5), &[]);
-    read().abandon();
-    let write = || OwedWrite::new(&name, SESSION, COOKIE);
-    assert_reply(&rt, &write().settle(alloc), None, &[]);
-    assert_reply(
-        &rt,
-        &write().refuse(alloc, ErrorCode::NoMemory),
-        Some(12),
-        &[],
-    );
-    write().abandon();
-    Ok(())
+    let payload = Bytes::copy_from_slice(alloc, &[7, 8]).expect(&rt, "memory");
+    let read = OwedRead::new(&name, SESSION, COOKIE).settle(payload);
+    assert_reply(&rt, &read, None, &[7, 8]);
+    let unread = OwedRead::new(&name, SESSION, COOKIE).refuse(alloc, ErrorCode::Io);
+    assert_reply(&rt, &unread, Some(5), &[]);
+    OwedRead::new(&name, SESSION, COOKIE).abandon();
+    let written = OwedWrite::new(&name, SESSION, COOKIE).settle(alloc);
+    assert_reply(&rt, &written, None, &[]);
+    let unwritten = OwedWrite::new(&name, SESSION, COOKIE).refuse(alloc, ErrorCode::NoMemory);
+    assert_reply(&rt, &unwritten, Some(12), &[]);
+    OwedWrite::new(&name, SESSION, COOKIE).abandon();
 }
 
 #[test]
-fn a_fua_write_waits_for_its_floor(rt: HostRuntime) -> Result<(), Fail> {
+fn a_fua_write_waits_for_its_floor(rt: HostRuntime) {
     let alloc = rt.alloc();
-    let (board, mut seat) = opened(alloc, 5, 4)?;
+    let (board, mut seat) = opened(&rt, alloc, 5, 4);
     let name = BoardName::of(&board);
     let floor = floor_of(&board, &mut seat);
     same(&rt, floor.front(), 4);
@@ -89,13 +84,12 @@ fn a_fua_write_waits_for_its_floor(rt: HostRuntime) -> Result<(), Fail> {
     later.number(5);
     assert!(rt; !later.is_paid_by(&floor));
     assert_reply(&rt, &later.refuse(alloc, ErrorCode::Io), Some(5), &[]);
-    Ok(())
 }
 
 #[test]
-fn a_flush_waits_for_its_floor(rt: HostRuntime) -> Result<(), Fail> {
+fn a_flush_waits_for_its_floor(rt: HostRuntime) {
     let alloc = rt.alloc();
-    let (board, mut seat) = opened(alloc, 3, 3)?;
+    let (board, mut seat) = opened(&rt, alloc, 3, 3);
     let name = BoardName::of(&board);
     let mut token = OwedFlush::new(&name, SESSION, COOKIE);
     same(&rt, (token.session(), token.cookie()), (SESSION, COOKIE));
@@ -112,5 +106,4 @@ fn a_flush_waits_for_its_floor(rt: HostRuntime) -> Result<(), Fail> {
     let refused = OwedFlush::new(&name, SESSION, COOKIE).refuse(alloc, ErrorCode::NoMemory);
     assert_reply(&rt, &refused, Some(12), &[]);
     OwedFlush::new(&name, SESSION, COOKIE).abandon();
-    Ok(())
 }

@@ -6,9 +6,8 @@ use nbd_codec::{
     Request, SimpleReply, check, constants, greeting, read_client_flags, read_option, read_request,
     write_export, write_option_reply, write_reply,
 };
-use std::alloc::{AllocError, Global};
+use std::alloc::Global;
 use std::process::Abort;
-use std::test::Fail;
 
 const MAX_PAYLOAD: u32 = 4096;
 
@@ -55,19 +54,35 @@ const LONG_WRITE: &[u8] =
 
 #[test]
 fn handshake(rt: HostRuntime) {
-    same(&rt, greeting().as_slice(), b"NBDMAGICIHAVEOPT\0\x03".as_slice());
+    same(
+        &rt,
+        greeting().as_slice(),
+        b"NBDMAGICIHAVEOPT\0\x03".as_slice(),
+    );
     let plain = ClientFlags { no_zeroes: false };
     let no_zeroes = ClientFlags { no_zeroes: true };
-    same(&rt, read_client_flags(b"\0\0\0\x01"), Reading::Value(plain, 4));
-    same(&rt, read_client_flags(b"\0\0\0\x03I"), Reading::Value(no_zeroes, 4));
+    same(
+        &rt,
+        read_client_flags(b"\0\0\0\x01"),
+        Reading::Value(plain, 4),
+    );
+    same(
+        &rt,
+        read_client_flags(b"\0\0\0\x03I"),
+        Reading::Value(no_zeroes, 4),
+    );
     same(&rt, read_client_flags(b"\0\0\0"), Reading::More);
-    for wrong in [
+    for wrong in &[
         b"\0\0\0\x02".as_slice(),
         b"\0\0\0\x07",
         b"\0\0\x01",
         b"\x01",
     ] {
-        same(&rt, read_client_flags(wrong), Reading::Fault(Fault::ClientFlags));
+        same(
+            &rt,
+            read_client_flags(wrong),
+            Reading::Fault(Fault::ClientFlags),
+        );
     }
 }
 
@@ -85,7 +100,7 @@ fn options(rt: HostRuntime) {
         has_name,
         block_size,
     };
-    for (text, want) in [
+    for (text, want) in &[
         (EXPORT_NAME, ClientOption::ExportName),
         (ABORT, ClientOption::Abort),
         (LIST, ClientOption::List { has_data: false }),
@@ -111,53 +126,50 @@ fn options(rt: HostRuntime) {
             },
         ),
     ] {
-        option_is(&rt, text, want);
+        option_is(&rt, text, *want);
     }
-    same(&rt, read_option(b"IHAVEOPX"), Reading::Fault(Fault::OptionMagic));
+    same(
+        &rt,
+        read_option(b"IHAVEOPX"),
+        Reading::Fault(Fault::OptionMagic),
+    );
 }
 
 // The first byte of the name's length that isn't 0 ends the session, and before it more is needed.
 #[test]
 fn other_exports(rt: HostRuntime) {
-    for (text, end) in [
+    for (text, end) in &[
         (b"IHAVEOPT\0\0\0\x01\0\0\0\x01x".as_slice(), 16),
         (b"IHAVEOPT\0\0\0\x01\0\0\x10\0x", 15),
         (b"IHAVEOPT\0\0\0\x01\0\0\x10\x01x", 15),
         (b"IHAVEOPT\0\0\0\x01\xff\xff\xff\xffx", 13),
     ] {
         for len in 0..text.len() {
-            let want = if len < end {
+            let want = if len < *end {
                 Reading::More
             } else {
                 Reading::Fault(Fault::ExportName)
             };
-            same_at(&rt, read_option(&text[..len]), want, (len, text));
+            same_at(&rt, read_option(&text[..len]), want, (len, *text));
         }
     }
 }
 
 // Behind what was there the reply is the magic, and then what is wanted.
-fn reply_is(
-    rt: &impl Abort,
-    alloc: Global,
-    option: u32,
-    reply: OptionReply,
-    want: &[u8],
-) -> Result<(), AllocError> {
+fn reply_is(rt: &impl Abort, alloc: Global, option: u32, reply: OptionReply, want: &[u8]) {
     let front = b"before\0\x03\xe8\x89\x04\x55\x65\xa9";
     let mut out = BytesMut::new(alloc);
-    out.extend_from_slice(b"before")?;
-    write_option_reply(&mut out, option, reply)?;
+    out.extend_from_slice(b"before").expect(rt, "memory");
+    write_option_reply(&mut out, option, reply).expect(rt, "memory");
     assert!(rt; out.starts_with(front), "{reply:?}");
     assert!(rt; out.ends_with(want), "{reply:?}");
     same(rt, out.len(), front.len() + want.len());
-    Ok(())
 }
 
 #[test]
-fn option_replies(rt: HostRuntime) -> Result<(), Fail> {
+fn option_replies(rt: HostRuntime) {
     let alloc = rt.alloc();
-    for (option, reply, want) in [
+    for (option, reply, want) in &[
         (
             7,
             OptionReply::Ack,
@@ -176,16 +188,15 @@ fn option_replies(rt: HostRuntime) -> Result<(), Fail> {
         ),
         (5, OptionReply::ErrUnsup, b"\0\0\0\x05\x80\0\0\x01\0\0\0\0"),
     ] {
-        reply_is(&rt, alloc, option, reply, want)?;
+        reply_is(&rt, alloc, *option, *reply, want);
     }
-    Ok(())
 }
 
 #[test]
-fn option_replies_with_data(rt: HostRuntime) -> Result<(), Fail> {
+fn option_replies_with_data(rt: HostRuntime) {
     let alloc = rt.alloc();
     let max_payload = MAX_PAYLOAD;
-    for (option, reply, want) in [
+    for (option, reply, want) in &[
         (
             7,
             OptionReply::Export { size: SIZE },
@@ -202,27 +213,29 @@ fn option_replies_with_data(rt: HostRuntime) -> Result<(), Fail> {
             b"\0\0\0\x03\0\0\0\x02\0\0\0\x04\0\0\0\0",
         ),
     ] {
-        reply_is(&rt, alloc, option, reply, want)?;
+        reply_is(&rt, alloc, *option, *reply, want);
     }
-    Ok(())
 }
 
 #[test]
-fn exports(rt: HostRuntime) -> Result<(), Fail> {
+fn exports(rt: HostRuntime) {
     let export = b"\0\0\0\0\0\0\x80\0\x01\x0d";
     let mut out = BytesMut::new(rt.alloc());
-    write_export(&mut out, SIZE, true)?;
+    write_export(&mut out, SIZE, true).expect(&rt, "memory");
     same(&rt, out.as_slice(), export.as_slice());
-    write_export(&mut out, SIZE, false)?;
+    write_export(&mut out, SIZE, false).expect(&rt, "memory");
     same(&rt, out.len(), 144);
     assert!(rt; out[10..].starts_with(export));
     assert!(rt; out[20..].iter().all(|b| *b == 0));
-    Ok(())
 }
 
 // The request is read from its whole text, and more is needed wherever that is cut.
 fn request_is(rt: &impl Abort, text: &[u8], want: Request) {
-    same(rt, read_request(text, MAX_PAYLOAD), Reading::Value(want, text.len()));
+    same(
+        rt,
+        read_request(text, MAX_PAYLOAD),
+        Reading::Value(want, text.len()),
+    );
     for len in 0..text.len() {
         let cut = read_request(&text[..len], MAX_PAYLOAD);
         same_at(rt, cut, Reading::More, len);
@@ -273,22 +286,22 @@ fn requests(rt: HostRuntime) {
         offset: u64::MAX,
         length: u32::MAX,
     };
-    for (text, want) in [
+    for (text, want) in &[
         (READ, read_of(0, 4094, 5)),
         (WRITE, write_of(1, 4095, b"ABC")),
         (DISC, disc),
         (FLUSH, flush_of(0, 0, 0)),
         (FAR_READ, far),
     ] {
-        request_is(&rt, text, want);
+        request_is(&rt, text, *want);
     }
     same(&rt, &WRITE[REQUEST_HEADER..], b"ABC".as_slice());
     same(&rt, write_of(1, 4095, b"ABC").cookie(), 1);
-    for (text, fault) in [
+    for (text, fault) in &[
         (b"\x25\x60\x95\x12".as_slice(), Fault::RequestMagic),
         (LONG_WRITE, Fault::PayloadTooLong),
     ] {
-        same(&rt, read_request(text, MAX_PAYLOAD), Reading::Fault(fault));
+        same(&rt, read_request(text, MAX_PAYLOAD), Reading::Fault(*fault));
     }
 }
 
@@ -370,9 +383,9 @@ fn checks_of_others(rt: HostRuntime) {
 }
 
 #[test]
-fn replies(rt: HostRuntime) -> Result<(), Fail> {
+fn replies(rt: HostRuntime) {
     let mut out = BytesMut::new(rt.alloc());
-    for (outcome, want) in [
+    for (outcome, want) in &[
         (
             Ok(b"\0ABC\0".as_slice()),
             b"\x67\x44\x66\x98\0\0\0\0\0\0\0\0\0\0\0\x02\0ABC\0".as_slice(),
@@ -399,9 +412,11 @@ fn replies(rt: HostRuntime) -> Result<(), Fail> {
         ),
     ] {
         let before = out.len();
-        let reply = SimpleReply { cookie: 2, outcome };
-        write_reply(&mut out, &reply)?;
-        same_at(&rt, &out[before..], want, reply);
+        let reply = SimpleReply {
+            cookie: 2,
+            outcome: *outcome,
+        };
+        write_reply(&mut out, &reply).expect(&rt, "memory");
+        same_at(&rt, &out[before..], *want, reply);
     }
-    Ok(())
 }

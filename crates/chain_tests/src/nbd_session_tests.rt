@@ -9,7 +9,6 @@ use flush_barrier::{ErrorCode, Reply, SessionId};
 use nbd_session::{Demand, Refusal, Session};
 use std::alloc::Global;
 use std::process::Abort;
-use std::test::Fail;
 use volume::Write;
 
 const SESSION: SessionId = SessionId(9);
@@ -117,40 +116,42 @@ struct Client {
 }
 
 impl Client {
-    fn new(alloc: Global) -> Result<Client, Fail> {
-        let (board, _seats) = Board::new(alloc, 0, 1, [0; 8], 1)?;
-        Ok(Client {
+    fn new(rt: &impl Abort, alloc: Global) -> Client {
+        let (board, _seats) = Board::new(alloc, 0, 1, [0; 8], 1).expect(rt, "memory");
+        let session = Session::new(alloc, &board, SESSION, SIZE, MAX_PAYLOAD).expect(rt, "memory");
+        Client {
             alloc,
-            session: Session::new(alloc, &board, SESSION, SIZE, MAX_PAYLOAD)?,
+            session,
             id: SESSION,
             seen: Vec::new(alloc),
             replies: Vec::new(alloc),
             out: Vec::new(alloc),
-        })
+        }
     }
 
     /// Feeds a piece, a second time where memory ran out.
-    fn feed(&mut self, piece: &[u8]) -> Result<(), Fail> {
+    fn feed(&mut self, rt: &impl Abort, piece: &[u8]) {
         let fed = match self.session.feed(piece) {
             Err(Refusal::Memory) => self.session.feed(piece),
             fed => fed,
         };
-        note(self.alloc, fed?, &mut self.seen, &mut self.replies)
+        let demands = fed.expect(rt, "the session takes input");
+        note(rt, self.alloc, demands, &mut self.seen, &mut self.replies);
     }
 
     /// Whether the session takes no more input.
-    fn is_refused(&mut self, piece: &[u8]) -> Result<bool, Fail> {
+    fn is_refused(&mut self, rt: &impl Abort, piece: &[u8]) -> bool {
         match self.session.feed(piece) {
             Ok(demands) => {
-                note(self.alloc, demands, &mut self.seen, &mut self.replies)?;
-                Ok(false)
+                note(rt, self.alloc, demands, &mut self.seen, &mut self.replies);
+                false
             }
-            Err(refusal) => Ok(refusal == Refusal::SessionOver),
+            Err(refusal) => refusal == Refusal::SessionOver,
         }
     }
 
     /// Hands a reply in, a second time where memory ran out.
-    fn reply(&mut self, rt: &impl Abort, place: usize) -> Result<(), Fail> {
+    fn reply(&mut self, rt: &impl Abort, place: usize) {
         assert!(rt; place < self.replies.len());
         let reply = self.replies.remove(place);
         assert!(rt; reply.session().0 == self.id.0);
@@ -158,39 +159,33 @@ impl Client {
             let again = self.session.done(reply);
             assert!(rt; again.is_ok());
         }
-        self.take_out()
+        self.take_out(rt);
     }
 
     /// Takes what waits to go out.
-    fn take_out(&mut self) -> Result<(), Fail> {
+    fn take_out(&mut self, rt: &impl Abort) {
         let out = self.session.output();
-        self.out.extend_from_slice(&out)?;
-        Ok(())
+        self.out.extend_from_slice(&out).expect(rt, "memory");
     }
 }
 
 /// Adds what the demands ask, and replies to them, in their order.
 fn note(
+    rt: &impl Abort,
     alloc: Global,
     demands: Vec<Demand>,
     seen: &mut Vec<Seen>,
     replies: &mut Vec<Reply>,
-) -> Result<(), Fail> {
+) {
     let (first, first_reply) = (seen.len(), replies.len());
     let mut demands = demands;
-    let mut noted = true;
     while let Some(demand) = demands.pop() {
         let (asked, reply) = answer(alloc, demand);
         let (place, reply_place) = (first.min(seen.len()), first_reply.min(replies.len()));
-        noted = noted
-            && seen.insert(place, asked).is_ok()
-            && replies.insert(reply_place, reply).is_ok();
+        seen.insert(place, asked).expect(rt, "memory");
+        replies.insert(reply_place, reply).expect(rt, "memory");
     }
     demands.destroy_empty();
-    if !noted {
-        return Err("no memory for what was demanded".into());
-    }
-    Ok(())
 }
 
 /// What a demand asks, and a reply to it: bytes of 7 to a READ, done to a WRITE, and 5 to what has to wait for a disk.
@@ -289,49 +284,47 @@ const ROWS: [Row; 6] = [
     },
 ];
 
-fn joined(alloc: Global, parts: &[&[u8]]) -> Result<Vec<u8>, Fail> {
+fn joined(rt: &impl Abort, alloc: Global, parts: &[&[u8]]) -> Vec<u8> {
     let mut whole = Vec::new(alloc);
     for part in parts {
-        whole.extend_from_slice(part)?;
+        whole.extend_from_slice(part).expect(rt, "memory");
     }
-    Ok(whole)
+    whole
 }
 
 /// The text comes in these pieces, and its demands are answered at once, in order; what was refused for memory is tried
 /// again.
-fn row_is(rt: &impl Abort, alloc: Global, row: &Row, pieces: &[&[u8]]) -> Result<(), Fail> {
-    let mut client = Client::new(alloc)?;
+fn row_is(rt: &impl Abort, alloc: Global, row: &Row, pieces: &[&[u8]]) {
+    let mut client = Client::new(rt, alloc);
     for piece in pieces {
         if !client.session.is_over() {
-            client.feed(piece)?;
+            client.feed(rt, piece);
         }
-        client.take_out()?;
+        client.take_out(rt);
         for _ in 0..client.replies.len() {
-            client.reply(rt, 0)?;
+            client.reply(rt, 0);
         }
     }
     same(rt, client.seen.as_slice(), row.seen);
-    same(rt, client.out, joined(alloc, row.out)?);
+    same(rt, client.out, joined(rt, alloc, row.out));
     same(rt, client.session.closed(), row.is_over);
-    Ok(())
 }
 
 #[test]
-fn rows_cut_at_each_place(rt: HostRuntime) -> Result<(), Fail> {
+fn rows_cut_at_each_place(rt: HostRuntime) {
     let alloc = rt.alloc();
     for row in &ROWS {
-        let text = joined(alloc, row.text)?;
+        let text = joined(&rt, alloc, row.text);
         for at in 0..=text.len() {
             let (front, back) = text.split_at(at);
-            row_is(&rt, alloc, row, &[front, back])?;
+            row_is(&rt, alloc, row, &[front, back]);
         }
     }
-    Ok(())
 }
 
 /// `rt try --test --fail-alloc` refuses each allocation in turn.
 #[test]
-fn a_refused_call_is_made_again(rt: HostRuntime) -> Result<(), Fail> {
+fn a_refused_call_is_made_again(rt: HostRuntime) {
     let alloc = rt.alloc();
     let row = Row {
         text: &[],
@@ -339,7 +332,7 @@ fn a_refused_call_is_made_again(rt: HostRuntime) -> Result<(), Fail> {
         out: &[WELCOME, WRITTEN, BYTES_READ, FLUSH_REFUSED],
         is_over: true,
     };
-    row_is(&rt, alloc, &row, &[HELLO, WRITE, READ, FLUSH, DISC])
+    row_is(&rt, alloc, &row, &[HELLO, WRITE, READ, FLUSH, DISC]);
 }
 
 /// A READ of 2 bytes with this cookie.
@@ -350,88 +343,105 @@ fn read_of(cookie: u8) -> [u8; 28] {
     request
 }
 
-#[test]
-fn sixty_five_requests_in_one_piece(rt: HostRuntime) -> Result<(), Fail> {
-    let alloc = rt.alloc();
-    let mut text = Vec::from_slice(alloc, HELLO)?;
+/// HELLO, and READs with the cookies from 0 to 64.
+fn sixty_five_reads(rt: &impl Abort, alloc: Global) -> Vec<u8> {
+    let mut text = Vec::from_slice(alloc, HELLO).expect(rt, "memory");
     for cookie in 0..65 {
-        text.extend_from_slice(&read_of(cookie))?;
+        text.extend_from_slice(&read_of(cookie))
+            .expect(rt, "memory");
     }
-    let mut client = Client::new(alloc)?;
-    client.feed(&text)?;
-    client.take_out()?;
+    text
+}
+
+/// WELCOME, and the replies to them: to 63 first, then to 64, and to the others from 62 down.
+fn sixty_five_replies(rt: &impl Abort, alloc: Global) -> Vec<u8> {
+    let mut wanted = Vec::from_slice(alloc, WELCOME).expect(rt, "memory");
+    for cookie in [63, 64].into_iter().chain((0..63).rev()) {
+        wanted
+            .extend_from_slice(b"\x67\x44\x66\x98\0\0\0\0\0\0\0\0\0\0\0")
+            .expect(rt, "memory");
+        wanted
+            .extend_from_slice(&[cookie, 7, 7])
+            .expect(rt, "memory");
+    }
+    wanted
+}
+
+#[test]
+fn sixty_five_requests_in_one_piece(rt: HostRuntime) {
+    let alloc = rt.alloc();
+    let mut client = Client::new(&rt, alloc);
+    client.feed(&rt, &sixty_five_reads(&rt, alloc));
+    client.take_out(&rt);
     same(&rt, client.seen.len(), 64);
     assert!(rt; !client.session.wants() && !client.session.is_over());
-    client.feed(&[])?;
+    client.feed(&rt, &[]);
     same(&rt, client.seen.len(), 64);
-    client.reply(&rt, 63)?;
+    client.reply(&rt, 63);
     assert!(rt; client.session.wants());
-    client.feed(&[])?;
+    client.feed(&rt, &[]);
     same(&rt, client.seen.len(), 65);
     assert!(rt; !client.session.wants());
-    let mut wanted = Vec::from_slice(alloc, WELCOME)?;
-    for cookie in [63, 64].into_iter().chain((0..63).rev()) {
-        wanted.extend_from_slice(b"\x67\x44\x66\x98\0\0\0\0\0\0\0\0\0\0\0")?;
-        wanted.extend_from_slice(&[cookie, 7, 7])?;
-    }
     for place in (0..client.replies.len()).rev() {
-        client.reply(&rt, place)?;
+        client.reply(&rt, place);
     }
-    same(&rt, client.out, wanted);
+    same(&rt, client.out, sixty_five_replies(&rt, alloc));
     assert!(rt; client.session.wants());
-    Ok(())
 }
 
 #[test]
-fn two_requests_with_one_cookie(rt: HostRuntime) -> Result<(), Fail> {
+fn two_requests_with_one_cookie(rt: HostRuntime) {
     let alloc = rt.alloc();
-    let mut client = Client::new(alloc)?;
-    client.feed(HELLO)?;
-    client.feed(READ)?;
-    client.feed(READ)?;
-    same(&rt, client.seen.as_slice(), [READ_SEEN, READ_SEEN].as_slice());
-    client.take_out()?;
-    client.reply(&rt, 1)?;
-    client.reply(&rt, 0)?;
-    same(&rt, client.out, joined(alloc, &[WELCOME, BYTES_READ, BYTES_READ])?);
-    Ok(())
+    let mut client = Client::new(&rt, alloc);
+    client.feed(&rt, HELLO);
+    client.feed(&rt, READ);
+    client.feed(&rt, READ);
+    same(
+        &rt,
+        client.seen.as_slice(),
+        [READ_SEEN, READ_SEEN].as_slice(),
+    );
+    client.take_out(&rt);
+    client.reply(&rt, 1);
+    client.reply(&rt, 0);
+    let wanted = joined(&rt, alloc, &[WELCOME, BYTES_READ, BYTES_READ]);
+    same(&rt, client.out, wanted);
 }
 
 #[test]
-fn replies_owed_at_a_disc_go_out(rt: HostRuntime) -> Result<(), Fail> {
+fn replies_owed_at_a_disc_go_out(rt: HostRuntime) {
     let alloc = rt.alloc();
-    let mut client = Client::new(alloc)?;
-    client.feed(&joined(alloc, &[HELLO, WRITE, READ, FLUSH, DISC, READ])?)?;
+    let mut client = Client::new(&rt, alloc);
+    let text = joined(&rt, alloc, &[HELLO, WRITE, READ, FLUSH, DISC, READ]);
+    client.feed(&rt, &text);
     client.session.end_of_input();
     same(&rt, client.seen.len(), 3);
     assert!(rt; client.session.is_over() && !client.session.wants());
-    assert!(rt; client.is_refused(READ)?);
-    client.take_out()?;
-    client.reply(&rt, 2)?;
-    client.reply(&rt, 0)?;
+    assert!(rt; client.is_refused(&rt, READ));
+    client.take_out(&rt);
+    client.reply(&rt, 2);
+    client.reply(&rt, 0);
     assert!(rt; !client.session.closed());
-    client.reply(&rt, 0)?;
+    client.reply(&rt, 0);
     assert!(rt; client.session.closed());
-    let wanted = joined(alloc, &[WELCOME, FLUSH_REFUSED, WRITTEN, BYTES_READ])?;
+    let wanted = joined(&rt, alloc, &[WELCOME, FLUSH_REFUSED, WRITTEN, BYTES_READ]);
     same(&rt, client.out, wanted);
-    Ok(())
 }
 
 #[test]
-fn a_session_without_a_disc_ends_at_once(rt: HostRuntime) -> Result<(), Fail> {
+fn a_session_without_a_disc_ends_at_once(rt: HostRuntime) {
     let alloc = rt.alloc();
-    for gives_up in [false, true] {
-        let mut client = Client::new(alloc)?;
-        client.feed(&joined(alloc, &[HELLO, READ])?)?;
-        client.take_out()?;
-        if gives_up {
+    for gives_up in &[false, true] {
+        let mut client = Client::new(&rt, alloc);
+        client.feed(&rt, &joined(&rt, alloc, &[HELLO, READ]));
+        client.take_out(&rt);
+        if *gives_up {
             client.session.give_up();
         } else {
             client.session.end_of_input();
         }
         assert!(rt; client.session.closed());
-        client.reply(&rt, 0)?;
+        client.reply(&rt, 0);
         same(&rt, client.out.as_slice(), WELCOME);
     }
-    Ok(())
 }

@@ -4,7 +4,6 @@ use server::{Output, Sessions, Stop, listen, serve};
 use std::alloc::Global;
 use std::io::{Read, Write};
 use std::net::{Ipv4Addr, Shutdown, TcpStream};
-use std::test::Fail;
 use std::thread;
 
 // Each session sends back what comes in, in the round after.
@@ -116,20 +115,19 @@ fn client(rt: &HostRuntime, port: u16, len: usize) -> bool {
 }
 
 #[test]
-fn clients_are_served(rt: HostRuntime) -> Result<(), Fail> {
+fn clients_are_served(rt: HostRuntime) {
     let alloc = rt.alloc();
-    let listener = listen(&rt, 0)?;
-    let port = listener.local_addr()?.port();
-    let one = thread::spawn(&rt, move || client(&rt, port, 40))?;
-    let other = thread::spawn(&rt, move || client(&rt, port, 90))?;
+    let listener = listen(&rt, 0).expect(&rt, "a free port");
+    let port = listener.local_addr().expect(&rt, "an address").port();
+    let one = thread::spawn(&rt, move || client(&rt, port, 40)).expect(&rt, "a thread");
+    let other = thread::spawn(&rt, move || client(&rt, port, 90)).expect(&rt, "a thread");
     let mut echo = Echo {
         alloc,
         sessions: Vec::new(alloc),
     };
-    serve(&rt, alloc, listener, 2, &mut echo)?;
+    serve(&rt, alloc, listener, 2, &mut echo).expect(&rt, "two sessions are served");
     assert!(rt; one.join(&rt));
     assert!(rt; other.join(&rt));
-    Ok(())
 }
 
 // A client that sends much, reads nothing and is gone.
@@ -142,18 +140,17 @@ fn rude_client(rt: &HostRuntime, port: u16) -> bool {
 }
 
 #[test]
-fn a_client_is_gone(rt: HostRuntime) -> Result<(), Fail> {
+fn a_client_is_gone(rt: HostRuntime) {
     let alloc = rt.alloc();
-    let listener = listen(&rt, 0)?;
-    let port = listener.local_addr()?.port();
-    let rude = thread::spawn(&rt, move || rude_client(&rt, port))?;
-    let other = thread::spawn(&rt, move || client(&rt, port, 10))?;
+    let listener = listen(&rt, 0).expect(&rt, "a free port");
+    let port = listener.local_addr().expect(&rt, "an address").port();
+    let rude = thread::spawn(&rt, move || rude_client(&rt, port)).expect(&rt, "a thread");
+    let other = thread::spawn(&rt, move || client(&rt, port, 10)).expect(&rt, "a thread");
     let mut echo = Echo {
         alloc,
         sessions: Vec::new(alloc),
     };
-    serve(&rt, alloc, listener, 2, &mut echo)?;
+    serve(&rt, alloc, listener, 2, &mut echo).expect(&rt, "two sessions are served");
     assert!(rt; rude.join(&rt));
     assert!(rt; other.join(&rt));
-    Ok(())
 }

@@ -3,7 +3,6 @@ use crate::comparing::{same, same_at};
 use bytes::Bytes;
 use std::alloc::Global;
 use std::process::Abort;
-use std::test::Fail;
 use version_table::{Origin, Refusal, Table};
 use volume::Write;
 
@@ -15,9 +14,9 @@ const ORIGIN: Origin = Origin {
     ticket: 9,
 };
 
-fn write_of(alloc: Global, offset: u64, byte: u8, len: usize) -> Result<Write, Fail> {
-    let payload = Bytes::from_vec(vec![in alloc; byte; len]?)?;
-    Ok(Write::new(offset, payload))
+fn write_of(rt: &impl Abort, alloc: Global, offset: u64, byte: u8, len: usize) -> Write {
+    let bytes = vec![in alloc; byte; len].expect(rt, "memory");
+    Write::new(offset, Bytes::from_vec(bytes).expect(rt, "memory"))
 }
 
 fn apply_next(rt: &impl Abort, table: &mut Table, write: &Write) -> Result<(), Refusal> {
@@ -29,13 +28,13 @@ fn apply_next(rt: &impl Abort, table: &mut Table, write: &Write) -> Result<(), R
 }
 
 // Three writes after the number 2: the first over the end of block 0, the second in block 1, the third in block 0.
-fn three(rt: &impl Abort, alloc: Global) -> Result<Table, Fail> {
+fn three(rt: &impl Abort, alloc: Global) -> Table {
     let mut table = Table::new(alloc, 2);
-    for (offset, byte, len) in [(4_095, 3, 2), (4_096, 4, 1), (0, 5, 1)] {
-        let write = write_of(alloc, offset, byte, len)?;
-        apply_next(rt, &mut table, &write)?;
+    for (offset, byte, len) in &[(4_095, 3, 2), (4_096, 4, 1), (0, 5, 1)] {
+        let write = write_of(rt, alloc, *offset, *byte, *len);
+        apply_next(rt, &mut table, &write).expect(rt, "room in the table");
     }
-    Ok(table)
+    table
 }
 
 // The first and the last byte of a block of nines after so many writes.
@@ -47,10 +46,10 @@ fn ends_at(rt: &impl Abort, table: &Table, block: u32, j: u64) -> (u8, u8) {
 }
 
 #[test]
-fn blocks_after_writes(rt: HostRuntime) -> Result<(), Fail> {
-    let mut table = three(&rt, rt.alloc())?;
+fn blocks_after_writes(rt: HostRuntime) {
+    let mut table = three(&rt, rt.alloc());
     same(&rt, (table.forgotten(), table.applied()), (2, 5));
-    for (block, j, ends) in [
+    for (block, j, ends) in &[
         (0, 2, (9, 9)),
         (0, 3, (9, 3)),
         (0, 4, (9, 3)),
@@ -61,20 +60,19 @@ fn blocks_after_writes(rt: HostRuntime) -> Result<(), Fail> {
         (1, 5, (4, 9)),
         (2, 5, (9, 9)),
     ] {
-        same_at(&rt, ends_at(&rt, &table, block, j), ends, (block, j));
+        same_at(&rt, ends_at(&rt, &table, *block, *j), *ends, (*block, *j));
     }
     assert!(rt; 4 <= table.applied() && table.forgotten() < 4);
     table.forget_to(4);
     same(&rt, (table.forgotten(), table.applied()), (4, 5));
     same(&rt, ends_at(&rt, &table, 0, 5), (5, 9));
     same(&rt, ends_at(&rt, &table, 1, 5), (9, 9));
-    Ok(())
 }
 
 #[test]
-fn clean_ranges(rt: HostRuntime) -> Result<(), Fail> {
-    let table = three(&rt, rt.alloc())?;
-    for (offset, len, k, expected) in [
+fn clean_ranges(rt: HostRuntime) {
+    let table = three(&rt, rt.alloc());
+    for (offset, len, k, expected) in &[
         (0, 1, 5, true),
         (0, 1, 4, false),
         (4_096, 4_096, 4, true),
@@ -84,18 +82,26 @@ fn clean_ranges(rt: HostRuntime) -> Result<(), Fail> {
         (4_095, 0, 2, true),
         (4_095, 2, 4, false),
     ] {
-        assert!(rt; table.forgotten() <= k && k <= table.applied());
-        same_at(&rt, table.is_clean(offset, len, k), expected, (offset, len, k));
+        assert!(rt; table.forgotten() <= *k && *k <= table.applied());
+        same_at(
+            &rt,
+            table.is_clean(*offset, *len, *k),
+            *expected,
+            (*offset, *len, *k),
+        );
     }
-    Ok(())
 }
 
 #[test]
-fn kept_writes(rt: HostRuntime) -> Result<(), Fail> {
-    let table = three(&rt, rt.alloc())?;
+fn kept_writes(rt: HostRuntime) {
+    let table = three(&rt, rt.alloc());
     assert!(rt; table.forgotten() <= 3 && 4 <= table.applied());
     let kept = table.get(4);
-    same(&rt, (kept.number, kept.write.offset(), kept.origin), (4, 4_096, ORIGIN));
+    same(
+        &rt,
+        (kept.number, kept.write.offset(), kept.origin),
+        (4, 4_096, ORIGIN),
+    );
     let mut number = 4;
     for kept in table.after(3) {
         same(&rt, kept.number, number);
@@ -103,56 +109,70 @@ fn kept_writes(rt: HostRuntime) -> Result<(), Fail> {
         assert!(rt; number < 10);
     }
     same(&rt, number, 6);
-    Ok(())
 }
 
 // The 1,025th write, and the first byte above 16 MiB, are refused; what is forgotten makes room.
 #[test]
-fn full_tables(rt: HostRuntime) -> Result<(), Fail> {
-    let byte = write_of(rt.alloc(), 0, 1, 1)?;
+fn full_tables(rt: HostRuntime) {
+    let byte = write_of(&rt, rt.alloc(), 0, 1, 1);
     let mut table = Table::new(rt.alloc(), 0);
     for _ in 0..1_024 {
-        apply_next(&rt, &mut table, &byte)?;
+        apply_next(&rt, &mut table, &byte).expect(&rt, "room in the table");
     }
-    same(&rt, apply_next(&rt, &mut table, &byte), Err(Refusal::TableFull));
+    same(
+        &rt,
+        apply_next(&rt, &mut table, &byte),
+        Err(Refusal::TableFull),
+    );
     same(&rt, table.applied(), 1_024);
     assert!(rt; table.forgotten() <= 1);
     table.forget_to(1);
     same(&rt, apply_next(&rt, &mut table, &byte), Ok(()));
 
-    let large = write_of(rt.alloc(), 1, 1, 1_048_576)?;
+    let large = write_of(&rt, rt.alloc(), 1, 1, 1_048_576);
     let mut table = Table::new(rt.alloc(), 0);
     for _ in 0..16 {
-        apply_next(&rt, &mut table, &large)?;
+        apply_next(&rt, &mut table, &large).expect(&rt, "room in the table");
     }
-    same(&rt, apply_next(&rt, &mut table, &byte), Err(Refusal::TableFull));
-    Ok(())
+    same(
+        &rt,
+        apply_next(&rt, &mut table, &byte),
+        Err(Refusal::TableFull),
+    );
 }
 
 #[test]
-fn refusals_in_words(rt: HostRuntime) -> Result<(), Fail> {
-    let words = format!(in rt.alloc(); "{}, {}", Refusal::Memory, Refusal::TableFull)?;
+fn refusals_in_words(rt: HostRuntime) {
+    let words = format!(in rt.alloc(); "{}, {}", Refusal::Memory, Refusal::TableFull);
+    let words = words.expect(&rt, "memory");
     same(&rt, words.as_str(), "100 Memory, 141 TableFull");
-    same(&rt, (Refusal::Memory.number(), Refusal::TableFull.number()), (100, 141));
-    Ok(())
+    same(
+        &rt,
+        (Refusal::Memory.number(), Refusal::TableFull.number()),
+        (100, 141),
+    );
 }
 
 #[test]
-fn whole_blocks(rt: HostRuntime) -> Result<(), Fail> {
+fn whole_blocks(rt: HostRuntime) {
     let mut table = Table::new(rt.alloc(), 2);
-    for (offset, len) in [(4_096, 4_096), (8_193, 4_094)] {
-        let write = write_of(rt.alloc(), offset, 3, len)?;
-        apply_next(&rt, &mut table, &write)?;
+    for (offset, len) in &[(4_096, 4_096), (8_193, 4_094)] {
+        let write = write_of(&rt, rt.alloc(), *offset, 3, *len);
+        apply_next(&rt, &mut table, &write).expect(&rt, "room in the table");
     }
-    for (block, front, whole) in [
+    for (block, front, whole) in &[
         (1, 2, false),
         (1, 3, true),
         (1, 4, true),
         (0, 4, false),
         (2, 4, false),
     ] {
-        assert!(rt; table.forgotten() <= front && front <= table.applied());
-        same_at(&rt, table.is_whole(block, front), whole, (block, front));
+        assert!(rt; table.forgotten() <= *front && *front <= table.applied());
+        same_at(
+            &rt,
+            table.is_whole(*block, *front),
+            *whole,
+            (*block, *front),
+        );
     }
-    Ok(())
 }
