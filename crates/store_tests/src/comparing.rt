@@ -1,5 +1,6 @@
 //! What tests compare: a call costs the check far less than the macro that stands in it.
-use std::fmt::Debug;
+use std::alloc::Global;
+use std::fmt::{Debug, Display};
 use std::process::Abort;
 
 /// Both are the same; else the test ends and tells both.
@@ -15,4 +16,10 @@ pub(crate) fn same_at<T: PartialEq + Debug + Drop, A: Debug + Drop>(
     at: A,
 ) {
     assert_eq!(rt; found, wanted, "at {at:?}");
+}
+
+/// It is printed as this text.
+pub(crate) fn prints(rt: &impl Abort, alloc: Global, told: &impl Display, text: &str) {
+    let printed = told.to_string(alloc).expect(rt, "memory");
+    same(rt, printed.as_str(), text);
 }

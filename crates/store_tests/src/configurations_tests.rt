@@ -1,26 +1,28 @@
 // Worked rows, and what memory decides.
-use crate::comparing::{same, same_at};
+use crate::comparing::{prints, same, same_at};
 use configurations::{Epoch, Incarnation, MAX_MEMBERS, Member, Record, Refusal};
 use gate_journal::Slot;
 use std::alloc::Global;
-use std::test::Fail;
+use std::process::Abort;
 
 // A member by its numbers.
-fn member(slot: u8, incarnation: u64) -> Result<Member, Fail> {
-    Ok(Member {
-        slot: Slot::new(slot).ok_or("a slot")?,
-        incarnation: Incarnation::new(incarnation).ok_or("an incarnation")?,
-    })
+pub(crate) fn member(rt: &impl Abort, slot: u8, incarnation: u64) -> Member {
+    Member {
+        slot: Slot::new(slot).expect(rt, "a slot"),
+        incarnation: Incarnation::new(incarnation).expect(rt, "an incarnation"),
+    }
 }
 
 // The record of an epoch and of members by their numbers.
-pub(crate) fn record(alloc: Global, epoch: u64, chain: &[(u8, u64)]) -> Result<Record, Fail> {
+pub(crate) fn record(rt: &impl Abort, alloc: Global, epoch: u64, chain: &[(u8, u64)]) -> Record {
     let mut members = Vec::new(alloc);
     for (slot, incarnation) in chain {
-        members.push(member(*slot, *incarnation)?)?;
+        members
+            .push(member(rt, *slot, *incarnation))
+            .expect(rt, "memory");
     }
-    let epoch = Epoch::new(epoch).ok_or("an epoch")?;
-    Ok(Record::new(epoch, members)?)
+    let epoch = Epoch::new(epoch).expect(rt, "an epoch");
+    Record::new(epoch, members).expect(rt, "a record")
 }
 
 const FRESH: [u8; 48] =
@@ -28,19 +30,26 @@ const FRESH: [u8; 48] =
 
 // A fresh chain of three.
 #[test]
-fn a_fresh_chain(rt: HostRuntime) -> Result<(), Fail> {
+fn a_fresh_chain(rt: HostRuntime) {
     let alloc = rt.alloc();
-    let fresh = record(alloc, 1, &[(0, 1), (1, 1), (2, 1)])?;
-    same(&rt, fresh.encoded(alloc)?.as_slice(), FRESH.as_slice());
-    let read = Record::read(alloc, &FRESH)?.ok_or("a record")?;
+    let fresh = record(&rt, alloc, 1, &[(0, 1), (1, 1), (2, 1)]);
+    let encoded = fresh.encoded(alloc).expect(&rt, "memory");
+    same(&rt, encoded.as_slice(), FRESH.as_slice());
+    let read = Record::read(alloc, &FRESH)
+        .expect(&rt, "memory")
+        .expect(&rt, "a record");
     same(&rt, read.epoch().number(), 1);
     same(&rt, read.members(), fresh.members());
-    Ok(())
+}
+
+// Whether bytes encode no record.
+fn is_none(rt: &impl Abort, alloc: Global, bytes: &[u8]) -> bool {
+    Record::read(alloc, bytes).expect(rt, "memory").is_none()
 }
 
 // Bytes that encode no record: each is a fresh chain's with one of its bytes changed, or the bytes behind a place cut.
 #[test]
-fn no_records(rt: HostRuntime) -> Result<(), Fail> {
+fn no_records(rt: HostRuntime) {
     let alloc = rt.alloc();
     for (place, byte) in [
         (0, 0x44),
@@ -52,18 +61,17 @@ fn no_records(rt: HostRuntime) -> Result<(), Fail> {
         (22, 0x80),
         (30, 0),
     ] {
-        let mut bytes = FRESH.to_vec(alloc)?;
+        let mut bytes = FRESH;
         bytes[place] = byte;
-        assert!(rt; Record::read(alloc, &bytes)?.is_none(), "{place} {byte}");
+        same_at(&rt, is_none(&rt, alloc, &bytes), true, (place, byte));
     }
     for len in [0, 11, 19, 20, 21, 47] {
-        assert!(rt; Record::read(alloc, &FRESH[..len])?.is_none(), "{len}");
+        same_at(&rt, is_none(&rt, alloc, &FRESH[..len]), true, len);
     }
-    Ok(())
 }
 
 #[test]
-fn bad_members(rt: HostRuntime) -> Result<(), Fail> {
+fn bad_members(rt: HostRuntime) {
     let alloc = rt.alloc();
     let most = [
         (7, 1),
@@ -75,19 +83,22 @@ fn bad_members(rt: HostRuntime) -> Result<(), Fail> {
         (5, 7),
         (6, 8),
     ];
-    same(&rt, record(alloc, Epoch::MAX, &most)?.members().len(), MAX_MEMBERS);
+    let record = record(&rt, alloc, Epoch::MAX, &most);
+    same(&rt, record.members().len(), MAX_MEMBERS);
     for slots in [[].as_slice(), &[0, 1, 0], &[0, 1, 2, 3, 4, 5, 6, 7, 0]] {
         let mut members = Vec::new(alloc);
         for slot in slots {
-            members.push(member(*slot, 1)?)?;
+            members.push(member(&rt, *slot, 1)).expect(&rt, "memory");
         }
-        let refused = Record::new(Epoch::new(1).ok_or("an epoch")?, members).err();
+        let epoch = Epoch::new(1).expect(&rt, "an epoch");
+        let refused = Record::new(epoch, members).err();
         same_at(&rt, refused, Some(Refusal::BadMembers), slots);
     }
-    same(&rt, (
-            Refusal::BadMembers.number(),
-            Refusal::BadMembers.to_string(alloc)?.as_str()
-        ), (Some(163), "163 BadMembers"));
-    same(&rt, (Epoch::new(1 << 63), Incarnation::new(1 << 63)), (None, None));
-    Ok(())
+    same(&rt, Refusal::BadMembers.number(), Some(163));
+    prints(&rt, alloc, &Refusal::BadMembers, "163 BadMembers");
+    same(
+        &rt,
+        (Epoch::new(1 << 63), Incarnation::new(1 << 63)),
+        (None, None),
+    );
 }

@@ -2,9 +2,9 @@
 ghost use Rattle.std.specs.Prelude.{◌≡◌, ◌+◌, ◌≤◌, length, OnOk};
 ghost use Rattle.disk_model.specs.Disk.{LeavesOnly, Only, Torn};
 
-use crate::comparing::{same, same_at};
+use crate::comparing::{prints, same, same_at};
+use crate::disks::new_disk;
 use disk_model::{Cut, Disk, DiskError, Event, MemDisk, Part, Script};
-use std::test::Fail;
 
 // Writes, syncs and reads back. A stop at any moment of it leaves all but the range as it was.
 fn write_through<D: Disk>(
@@ -122,19 +122,18 @@ fn play<D: Disk>(disk: &mut D) -> [Result<(), DiskError>; 5]
 }
 
 #[test]
-fn runs(rt: HostRuntime) -> Result<(), Fail> {
+fn runs(rt: HostRuntime) {
     let alloc = rt.alloc();
-    for (event, answers, there, none) in RUNS {
+    for (event, answers, there, none) in &RUNS {
         let mut script = Script::new(alloc);
-        script.push(event)?;
-        let mut disk = MemDisk::new(alloc, 4, script)?;
+        script.push(*event).expect(&rt, "memory");
+        let mut disk = MemDisk::new(alloc, 4, script).expect(&rt, "memory");
         same_at(&rt, disk.bytes(), [0; 4].as_slice(), event);
-        same_at(&rt, play(&mut disk), answers, event);
+        same_at(&rt, play(&mut disk), *answers, event);
         same_at(&rt, disk.bytes(), there.as_slice(), event);
         disk.cut(Cut::None);
         same_at(&rt, disk.bytes(), none.as_slice(), event);
     }
-    Ok(())
 }
 
 fn play_ranges<D: Disk>(disk: &mut D, back: &mut [u8; 6]) -> [Result<(), DiskError>; 5]
@@ -151,80 +150,83 @@ fn play_ranges<D: Disk>(disk: &mut D, back: &mut [u8; 6]) -> [Result<(), DiskErr
 
 // Ranges that overlap, adjoin and are empty.
 #[test]
-fn ranges(rt: HostRuntime) -> Result<(), Fail> {
-    let mut disk = MemDisk::new(rt.alloc(), 6, Script::new(rt.alloc()))?;
+fn ranges(rt: HostRuntime) {
+    let mut disk = new_disk(&rt, rt.alloc(), 6);
     let mut back = [0; 6];
     let told = play_ranges(&mut disk, &mut back);
     same(&rt, told, [DONE; 5]);
     same(&rt, back, [1, 2, 4, 5, 6, 0]);
     same(&rt, disk.bytes(), back.as_slice());
-    Ok(())
 }
 
 // Entries at one call, counted from now: the later stop is met, and what a cut leaves of the script counts on.
 #[test]
-fn entries(rt: HostRuntime) -> Result<(), Fail> {
-    let mut disk = MemDisk::new(rt.alloc(), 2, Script::new(rt.alloc()))?;
+fn entries(rt: HostRuntime) {
+    let mut disk = new_disk(&rt, rt.alloc(), 2);
     same(&rt, disk.sync(), DONE);
-    disk.arm(Event::StopAt { call: 1, bytes: 0 })?;
-    disk.arm(Event::StopAt { call: 1, bytes: 1 })?;
-    disk.arm(Event::FailAt { call: 1 })?;
-    disk.arm(Event::FailAt { call: 2 })?;
+    disk.arm(Event::StopAt { call: 1, bytes: 0 })
+        .expect(&rt, "memory");
+    disk.arm(Event::StopAt { call: 1, bytes: 1 })
+        .expect(&rt, "memory");
+    disk.arm(Event::FailAt { call: 1 }).expect(&rt, "memory");
+    disk.arm(Event::FailAt { call: 2 }).expect(&rt, "memory");
     same(&rt, disk.write_at(0, &[7, 7]), STOPPED);
-    assert!(rt; disk.is_stopped());
+    same(&rt, disk.is_stopped(), true);
     disk.cut(Cut::All);
     same(&rt, disk.bytes(), [7, 0].as_slice());
-    assert!(rt; !disk.is_stopped());
+    same(&rt, disk.is_stopped(), false);
     same(&rt, disk.sync(), Err(DiskError::SyncFault));
     same(&rt, disk.calls(), 3);
-    Ok(())
 }
 
 // What was armed is forgotten, and a disk that has stopped stays so.
 #[test]
-fn disarmed(rt: HostRuntime) -> Result<(), Fail> {
-    let mut disk = MemDisk::new(rt.alloc(), 2, Script::new(rt.alloc()))?;
-    disk.arm(Event::FailAt { call: 1 })?;
-    disk.arm(Event::StopAt { call: 2, bytes: 0 })?;
+fn disarmed(rt: HostRuntime) {
+    let mut disk = new_disk(&rt, rt.alloc(), 2);
+    disk.arm(Event::FailAt { call: 1 }).expect(&rt, "memory");
+    disk.arm(Event::StopAt { call: 2, bytes: 0 })
+        .expect(&rt, "memory");
     disk.disarm();
     same(&rt, disk.write_at(0, &[7, 7]), DONE);
     same(&rt, disk.sync(), DONE);
     same(&rt, disk.bytes(), [7, 7].as_slice());
-    disk.arm(Event::StopAt { call: 1, bytes: 0 })?;
+    disk.arm(Event::StopAt { call: 1, bytes: 0 })
+        .expect(&rt, "memory");
     same(&rt, disk.sync(), STOPPED);
     disk.disarm();
-    assert!(rt; disk.is_stopped());
-    Ok(())
+    same(&rt, disk.is_stopped(), true);
 }
 
 #[test]
-fn parts(rt: HostRuntime) -> Result<(), Fail> {
+fn parts(rt: HostRuntime) {
     let alloc = rt.alloc();
-    let mut disk = MemDisk::new(alloc, 6, Script::new(alloc))?;
+    let mut disk = MemDisk::new(alloc, 6, Script::new(alloc)).expect(&rt, "memory");
     let mut back = [0; 2];
     same(&rt, write_through(&mut disk, 0, &[1, 2], &mut back), DONE);
     same(&rt, back, [1, 2]);
     let part = Part::new(2, 3);
-    same(&rt, (part.start(), part.len(), part.is_empty()), (2, 3, false));
+    same(
+        &rt,
+        (part.start(), part.len(), part.is_empty()),
+        (2, 3, false),
+    );
     same(&rt, part.write_at(&mut disk, 1, &[8, 9]), DONE);
     same(&rt, part.sync(&mut disk), DONE);
     same(&rt, part.read(&mut disk, 0, &mut back), DONE);
     same(&rt, back, [0, 8]);
     same(&rt, disk.bytes(), [1, 2, 0, 8, 9, 0].as_slice());
-    Ok(())
 }
 
 #[test]
-fn numbers(rt: HostRuntime) -> Result<(), Fail> {
-    for (error, number, text) in [
+fn numbers(rt: HostRuntime) {
+    for (error, number, text) in &[
         (DiskError::Memory, Some(100), "100 Memory"),
         (DiskError::ReadFault, Some(101), "101 ReadFault"),
         (DiskError::WriteFault, Some(102), "102 WriteFault"),
         (DiskError::SyncFault, Some(103), "103 SyncFault"),
         (DiskError::Stopped, None, "stopped"),
     ] {
-        same(&rt, error.number(), number);
-        same(&rt, error.to_string(rt.alloc())?.as_str(), text);
+        same(&rt, error.number(), *number);
+        prints(&rt, rt.alloc(), error, text);
     }
-    Ok(())
 }

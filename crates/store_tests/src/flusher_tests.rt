@@ -1,9 +1,8 @@
 use crate::comparing::same;
 use flusher::Plan;
-use std::test::Fail;
 
 #[test]
-fn round_and_round(rt: HostRuntime) -> Result<(), Fail> {
+fn round_and_round(rt: HostRuntime) {
     let mut pending = [None; 9];
     let mut plan = Plan::new();
     same(&rt, plan.next(&pending), None);
@@ -15,5 +14,4 @@ fn round_and_round(rt: HostRuntime) -> Result<(), Fail> {
     }
     pending[8] = None;
     same(&rt, plan.next(&pending), Some(0));
-    Ok(())
 }

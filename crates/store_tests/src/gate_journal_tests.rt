@@ -1,12 +1,12 @@
 // What no clause says: the bytes of the format, the calls of the device, and stops that were really played.
 ghost use Rattle.std.specs.Prelude.{◌≡◌, ◌+◌, ◌≤◌};
 
-use crate::comparing::{same, same_at};
-use disk_model::{Cut, Disk, DiskError, Event, MemDisk, Part, Script};
+use crate::comparing::{prints, same, same_at};
+use crate::disks::new_disk;
+use disk_model::{Cut, Disk, DiskError, Event, Part};
 use gate_journal::{IMAGE_SIZE, Image, Journal, MAX_NUMBER, Refusal, Slot, Synced};
-use std::alloc::{AllocError, Global};
+use std::alloc::Global;
 use std::process::Abort;
-use std::test::Fail;
 
 fn image(block: u32, byte: u8) -> Image {
     Image {
@@ -49,113 +49,119 @@ const STOPS: [(u64, u64, usize, usize); 8] = [
 const TWO: u64 = 8_227;
 
 // Stops the second `append`, cuts, opens, and says how many batches are found, of which each is what was appended.
-fn found_after(
-    rt: &impl Abort,
-    alloc: Global,
-    slot: Slot,
-    event: Event,
-    cut: Cut,
-) -> Result<usize, Fail> {
+fn found_after(rt: &impl Abort, alloc: Global, slot: Slot, event: Event, cut: Cut) -> usize {
     let part = Part::new(5, TWO);
-    let mut disk = MemDisk::new(alloc, 5 + TWO, Script::new(alloc))?;
-    let mut journal = Journal::create(&mut disk, part, slot, 4, 6)?;
+    let mut disk = new_disk(rt, alloc, 5 + TWO);
+    let mut journal = Journal::create(&mut disk, part, slot, 4, 6).expect(rt, "a journal");
     same(rt, disk.calls(), 2);
-    let receipt = append(rt, alloc, &mut journal, &mut disk, 9, &[image(0, 7)])?;
+    let told = append(rt, alloc, &mut journal, &mut disk, 9, &[image(0, 7)]);
+    let receipt = told.expect(rt, "a receipt");
     same(rt, (receipt.front(), disk.calls()), (9, 6));
-    disk.arm(event)?;
+    disk.arm(event).expect(rt, "memory");
     let told = append(rt, alloc, &mut journal, &mut disk, 11, &[image(3, 8)]);
     same(rt, told.err(), Some(Refusal::Device(DiskError::Stopped)));
     let again = append(rt, alloc, &mut journal, &mut disk, 11, &[image(3, 8)]);
     same(rt, again.err(), Some(Refusal::Broken));
     disk.cut(cut);
 
-    let (_, batches) = Journal::open(alloc, &mut disk, part, slot, 4, 6)?;
+    let (_, batches) = Journal::open(alloc, &mut disk, part, slot, 4, 6).expect(rt, "a journal");
     let wanted = [(9, image(0, 7)), (11, image(3, 8))];
     for (batch, (front, image)) in batches.iter().zip(wanted) {
         same(rt, batch.front(), front);
         same(rt, batch.images(), [image].as_slice());
     }
-    Ok(batches.len())
+    batches.len()
 }
 
 #[test]
-fn stops(rt: HostRuntime) -> Result<(), Fail> {
-    let slot = Slot::new(3).ok_or("a slot")?;
-    for (call, bytes, after_all, after_none) in STOPS {
-        let event = Event::StopAt { call, bytes };
+fn stops(rt: HostRuntime) {
+    let slot = Slot::new(3).expect(&rt, "a slot");
+    for (call, bytes, after_all, after_none) in &STOPS {
+        let event = Event::StopAt {
+            call: *call,
+            bytes: *bytes,
+        };
         let found = (
-            found_after(&rt, rt.alloc(), slot, event, Cut::All)?,
-            found_after(&rt, rt.alloc(), slot, event, Cut::None)?,
+            found_after(&rt, rt.alloc(), slot, event, Cut::All),
+            found_after(&rt, rt.alloc(), slot, event, Cut::None),
         );
-        same_at(&rt, found, (after_all, after_none), (call, bytes));
+        same_at(&rt, found, (*after_all, *after_none), event);
     }
-    Ok(())
 }
 
 // What `append` is refused with where a device call of it fails; then the journal is broken.
-fn append_fails(rt: &impl Abort, alloc: Global, call: u64) -> Result<Option<Refusal>, Fail> {
-    let slot = Slot::new(0).ok_or("a slot")?;
-    let mut disk = MemDisk::new(alloc, TWO, Script::new(alloc))?;
-    let mut journal = Journal::create(&mut disk, Part::new(0, TWO), slot, 1, 0)?;
-    disk.arm(Event::FailAt { call })?;
+fn append_fails(rt: &impl Abort, alloc: Global, call: u64) -> Option<Refusal> {
+    let slot = Slot::new(0).expect(rt, "a slot");
+    let part = Part::new(0, TWO);
+    let mut disk = new_disk(rt, alloc, TWO);
+    let mut journal = Journal::create(&mut disk, part, slot, 1, 0).expect(rt, "a journal");
+    disk.arm(Event::FailAt { call }).expect(rt, "memory");
     let told = append(rt, alloc, &mut journal, &mut disk, 1, &[image(0, 1)]);
     let again = journal.read_all(alloc, &mut disk);
     same(rt, again.err(), Some(Refusal::Broken));
     same(rt, Some(disk.calls()), call.checked_add(2));
-    Ok(told.err())
+    told.err()
 }
 
 // What `read_all` is refused with where a device call of it fails; then the journal is broken.
-fn read_fails(rt: &impl Abort, alloc: Global, call: u64) -> Result<Option<Refusal>, Fail> {
-    let slot = Slot::new(0).ok_or("a slot")?;
-    let mut disk = MemDisk::new(alloc, TWO, Script::new(alloc))?;
-    let mut journal = Journal::create(&mut disk, Part::new(0, TWO), slot, 1, 0)?;
-    append(rt, alloc, &mut journal, &mut disk, 1, &[image(0, 1)])?;
-    same(rt, (journal.read_all(alloc, &mut disk)?.len(), disk.calls()), (1, 10));
-    disk.arm(Event::FailAt { call })?;
+fn read_fails(rt: &impl Abort, alloc: Global, call: u64) -> Option<Refusal> {
+    let slot = Slot::new(0).expect(rt, "a slot");
+    let part = Part::new(0, TWO);
+    let mut disk = new_disk(rt, alloc, TWO);
+    let mut journal = Journal::create(&mut disk, part, slot, 1, 0).expect(rt, "a journal");
+    let told = append(rt, alloc, &mut journal, &mut disk, 1, &[image(0, 1)]);
+    let _receipt = told.expect(rt, "a receipt");
+    let batches = journal.read_all(alloc, &mut disk).expect(rt, "the batches");
+    same(rt, (batches.len(), disk.calls()), (1, 10));
+    disk.arm(Event::FailAt { call }).expect(rt, "memory");
     let told = journal.read_all(alloc, &mut disk).err();
-    assert!(rt; journal.is_broken());
-    Ok(told)
+    same(rt, journal.is_broken(), true);
+    told
 }
 
 #[test]
-fn faults(rt: HostRuntime) -> Result<(), Fail> {
-    for (call, fault) in [
+fn faults(rt: HostRuntime) {
+    for (call, fault) in &[
         (1, DiskError::WriteFault),
         (2, DiskError::SyncFault),
         (3, DiskError::WriteFault),
         (4, DiskError::SyncFault),
     ] {
-        same_at(&rt, append_fails(&rt, rt.alloc(), call)?, Some(Refusal::Device(fault)), call);
-        let told = read_fails(&rt, rt.alloc(), call)?;
+        let told = append_fails(&rt, rt.alloc(), *call);
+        same_at(&rt, told, Some(Refusal::Device(*fault)), call);
+        let told = read_fails(&rt, rt.alloc(), *call);
         same_at(&rt, told, Some(Refusal::Device(DiskError::ReadFault)), call);
     }
-    Ok(())
 }
 
 // An open gate, a front, a count, and blocks of zeros under these numbers.
-fn encode(bytes: &mut Vec<u8>, front: u64, count: u32, blocks: &[u32]) -> Result<(), AllocError> {
-    bytes.push(1)?;
-    bytes.extend_from_slice(&front.to_be_bytes())?;
-    bytes.extend_from_slice(&count.to_be_bytes())?;
+fn encode(rt: &impl Abort, bytes: &mut Vec<u8>, front: u64, count: u32, blocks: &[u32]) {
+    bytes.push(1).expect(rt, "memory");
+    bytes
+        .extend_from_slice(&front.to_be_bytes())
+        .expect(rt, "memory");
+    bytes
+        .extend_from_slice(&count.to_be_bytes())
+        .expect(rt, "memory");
     for block in blocks {
-        bytes.extend_from_slice(&block.to_be_bytes())?;
-        bytes.extend_from_slice(&[0; 4_096])?;
+        bytes
+            .extend_from_slice(&block.to_be_bytes())
+            .expect(rt, "memory");
+        bytes.extend_from_slice(&[0; 4_096]).expect(rt, "memory");
     }
-    Ok(())
 }
 
 // What `open` says of an area with these bytes at its front, for 4 blocks behind the front 6: the last front.
-fn opened(alloc: Global, area: u32, bytes: &[u8]) -> Result<Result<u64, Refusal>, Fail> {
+fn opened(rt: &impl Abort, alloc: Global, area: u32, bytes: &[u8]) -> Result<u64, Refusal> {
     let part = Part::new(0, u64::from(area));
-    let mut disk = MemDisk::new(alloc, u64::from(area), Script::new(alloc))?;
-    disk.write_at(0, &bytes[..bytes.len().min(area as usize)])?;
-    let slot = Slot::new(0).ok_or("a slot")?;
-    let (journal, _batches) = match Journal::open(alloc, &mut disk, part, slot, 4, 6) {
-        Ok(opened) => opened,
-        Err(refusal) => return Ok(Err(refusal)),
-    };
-    Ok(Ok(journal.front()))
+    let mut disk = new_disk(rt, alloc, u64::from(area));
+    disk.write_at(0, &bytes[..bytes.len().min(area as usize)])
+        .expect(rt, "the disk writes");
+    let slot = Slot::new(0).expect(rt, "a slot");
+    match Journal::open(alloc, &mut disk, part, slot, 4, 6) {
+        Ok((journal, _batches)) => Ok(journal.front()),
+        Err(refusal) => Err(refusal),
+    }
 }
 
 // A first batch of the front 7 with block 1, and a second: its front, its count and its blocks; the area's length; and
@@ -184,26 +190,25 @@ const SECONDS: [(u64, u32, &[u32], u32, Option<u64>); 14] = [
 ];
 
 #[test]
-fn damage(rt: HostRuntime) -> Result<(), Fail> {
+fn damage(rt: HostRuntime) {
     let alloc = rt.alloc();
-    for (front, count, blocks, area, last) in SECONDS {
+    for (front, count, blocks, area, last) in &SECONDS {
         let mut bytes = Vec::new(alloc);
-        encode(&mut bytes, 7, 1, &[1])?;
-        encode(&mut bytes, front, count, blocks)?;
-        let wanted = last.ok_or(Refusal::Damaged);
-        same_at(&rt, opened(alloc, area, &bytes)?, wanted, (front, count, area));
+        encode(&rt, &mut bytes, 7, 1, &[1]);
+        encode(&rt, &mut bytes, *front, *count, blocks);
+        let is = opened(&rt, alloc, *area, &bytes);
+        same_at(&rt, is, last.ok_or(Refusal::Damaged), (front, count, area));
     }
     // Any byte but 1 closes a gate, and no byte is no gate.
-    same(&rt, opened(alloc, 1, &[0xff])?, Ok(6));
-    same(&rt, opened(alloc, 1, &[1])?, Err(Refusal::Damaged));
-    same(&rt, opened(alloc, 0, &[])?, Err(Refusal::Damaged));
-    Ok(())
+    same(&rt, opened(&rt, alloc, 1, &[0xff]), Ok(6));
+    same(&rt, opened(&rt, alloc, 1, &[1]), Err(Refusal::Damaged));
+    same(&rt, opened(&rt, alloc, 0, &[]), Err(Refusal::Damaged));
 }
 
 #[test]
-fn full(rt: HostRuntime) -> Result<(), Fail> {
+fn full(rt: HostRuntime) {
     let alloc = rt.alloc();
-    let slot = Slot::new(7).ok_or("a slot")?;
+    let slot = Slot::new(7).expect(&rt, "a slot");
     for (area, room, told) in [
         (4_113, 0, Some(Refusal::Full)),
         (4_114, 1, None),
@@ -211,8 +216,8 @@ fn full(rt: HostRuntime) -> Result<(), Fail> {
         (8_214, 2, None),
     ] {
         let part = Part::new(0, area);
-        let mut disk = MemDisk::new(alloc, area, Script::new(alloc))?;
-        let mut journal = Journal::create(&mut disk, part, slot, 1, 0)?;
+        let mut disk = new_disk(&rt, alloc, area);
+        let mut journal = Journal::create(&mut disk, part, slot, 1, 0).expect(&rt, "a journal");
         same_at(&rt, journal.room(), room, area);
         let first = append(
             &rt,
@@ -225,12 +230,11 @@ fn full(rt: HostRuntime) -> Result<(), Fail> {
         same_at(&rt, first.err(), told, area);
         same(&rt, journal.part(), part);
     }
-    Ok(())
 }
 
 #[test]
-fn numbers(rt: HostRuntime) -> Result<(), Fail> {
-    for (refusal, number, text) in [
+fn numbers(rt: HostRuntime) {
+    for (refusal, number, text) in &[
         (Refusal::Memory, Some(100), "100 Memory"),
         (Refusal::Full, Some(121), "121 Full"),
         (Refusal::Broken, Some(122), "122 Broken"),
@@ -241,8 +245,7 @@ fn numbers(rt: HostRuntime) -> Result<(), Fail> {
             "103 SyncFault",
         ),
     ] {
-        same(&rt, refusal.number(), number);
-        same(&rt, refusal.to_string(rt.alloc())?.as_str(), text);
+        same(&rt, refusal.number(), *number);
+        prints(&rt, rt.alloc(), refusal, text);
     }
-    Ok(())
 }

@@ -13,6 +13,8 @@ mod configurations_tests;
 #[cfg(test)]
 mod disk_model_tests;
 #[cfg(test)]
+mod disks;
+#[cfg(test)]
 mod flusher_tests;
 #[cfg(test)]
 mod folder_tests;

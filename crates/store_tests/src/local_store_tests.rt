@@ -5,15 +5,15 @@ ghost use Rattle.gate_journal.specs.Batch.{AreImages};
 ghost use Rattle.home_blocks.specs.Places.{disk_size_of};
 ghost use Rattle.local_store.specs.Store.{geometry_of};
 
-use crate::comparing::{same, same_at};
-use disk_model::{Cut, Disk, DiskError, Event, MemDisk, Script};
+use crate::comparing::{prints, same, same_at};
+use crate::disks::{new_disk, stretch};
+use disk_model::{Cut, Disk, DiskError, Event, MemDisk};
 use flusher::Plan;
 use gate_journal::{IMAGE_SIZE, Image, MAX_NUMBER, Slot, Synced};
 use home_blocks::disk_size;
 use local_store::{Contents, Refusal, Store};
 use std::alloc::Global;
 use std::process::Abort;
-use std::test::Fail;
 use volume::Geometry;
 
 // The least area of payloads of 4,096 bytes, which a batch of two blocks fills, and one with room for a block behind it.
@@ -44,24 +44,24 @@ fn format(
     alloc: Global,
     disk: &mut MemDisk,
     area: u32,
-) -> Result<Result<Contents, Refusal>, Fail> {
-    let slot = Slot::new(0).ok_or("a slot")?;
-    let geometry = Geometry::new(8, area, 4_096)?;
+) -> Result<Contents, Refusal> {
+    let slot = Slot::new(0).expect(rt, "a slot");
+    let geometry = Geometry::new(8, area, 4_096).expect(rt, "a geometry");
     assert!(rt; disk_size(geometry) <= disk.len());
-    Ok(Contents::format(alloc, disk, slot, 1, geometry))
+    Contents::format(alloc, disk, slot, 1, geometry)
 }
 
 // A new disk, formatted.
-fn formatted(rt: &impl Abort, alloc: Global, area: u32) -> Result<Rig, Fail> {
+fn formatted(rt: &impl Abort, alloc: Global, area: u32) -> Rig {
     let len = 40_960 + 2 * u64::from(area);
-    let mut disk = MemDisk::new(alloc, len, Script::new(alloc))?;
-    let store = format(rt, alloc, &mut disk, area)??;
-    Ok(Rig {
+    let mut disk = new_disk(rt, alloc, len);
+    let store = format(rt, alloc, &mut disk, area).expect(rt, "a store");
+    Rig {
         alloc,
         disk,
         store,
         plan: Plan::new(),
-    })
+    }
 }
 
 // The blocks 0 and 1.
@@ -130,50 +130,42 @@ impl Rig {
     }
 
     // The byte of which each of three blocks consists, which are read together.
-    fn read_three(&mut self, rt: &impl Abort, first: u32) -> Result<[u8; 3], Refusal>
+    fn read_three(&mut self, rt: &impl Abort, first: u32) -> [u8; 3]
         requires { first < 6 }
     {
         fits(rt, &self.store, &self.disk);
         let mut bytes = [0xee; 3 * IMAGE_SIZE];
         self.store
-            .read_blocks(&mut self.disk, first, 3, &mut bytes)?;
+            .read_blocks(&mut self.disk, first, 3, &mut bytes)
+            .expect(rt, "the store reads");
         let blocks = [bytes[0], bytes[IMAGE_SIZE], bytes[2 * IMAGE_SIZE]];
         for (block, byte) in bytes.chunks(IMAGE_SIZE).zip(blocks) {
             same_at(rt, block, [byte; IMAGE_SIZE].as_slice(), first);
         }
-        Ok(blocks)
+        blocks
     }
 }
 
 // The store that the disk holds.
-fn opened(alloc: Global, disk: MemDisk) -> Result<Rig, Refusal> {
-    let mut disk = disk;
-    let store = match Contents::open(alloc, &mut disk) {
-        Ok(store) => store,
-        Err(refusal) => return Err(refusal),
-    };
-    Ok(Rig {
-        alloc,
-        disk,
-        store,
-        plan: Plan::new(),
-    })
-}
-
-// The disk's bytes from a place on: none where it has less.
-fn stretch(disk: &MemDisk, at: usize, len: usize) -> &[u8] {
-    disk.bytes()
-        .get(at..at.saturating_add(len))
-        .unwrap_or_default()
+fn opened(alloc: Global, mut disk: MemDisk) -> Result<Rig, Refusal> {
+    match Contents::open(alloc, &mut disk) {
+        Ok(store) => Ok(Rig {
+            alloc,
+            disk,
+            store,
+            plan: Plan::new(),
+        }),
+        Err(refusal) => Err(refusal),
+    }
 }
 
 // A disk that was used: each byte of it is 238.
-fn used(alloc: Global) -> Result<MemDisk, Fail> {
-    let bytes = vec![in alloc; 0xee; 57_388]?;
-    let mut disk = MemDisk::new(alloc, 57_388, Script::new(alloc))?;
-    disk.write_at(0, &bytes)?;
-    disk.sync()?;
-    Ok(disk)
+fn used(rt: &impl Abort, alloc: Global) -> MemDisk {
+    let bytes = vec![in alloc; 0xee; 57_388].expect(rt, "memory");
+    let mut disk = new_disk(rt, alloc, 57_388);
+    disk.write_at(0, &bytes).expect(rt, "the disk writes");
+    disk.sync().expect(rt, "the disk syncs");
+    disk
 }
 
 // The disk's bytes from a place on are zeros, so many.
@@ -183,31 +175,43 @@ fn are_zeros(disk: &MemDisk, at: usize, len: usize) -> bool {
 }
 
 #[test]
-fn format_writes_the_row(rt: HostRuntime) -> Result<(), Fail> {
+fn format_writes_the_row(rt: HostRuntime) {
     let alloc = rt.alloc();
-    let mut disk = used(alloc)?;
-    let _store = format(&rt, alloc, &mut disk, LEAST)??;
+    let mut disk = used(&rt, alloc);
+    let _store = format(&rt, alloc, &mut disk, LEAST).expect(&rt, "a store");
     disk.cut(Cut::None);
     same(&rt, stretch(&disk, 0, 56), FIRST.as_slice());
-    same(&rt, (are_zeros(&disk, 4_096, 13), are_zeros(&disk, 8_192, 32_768)), (true, true));
+    same(
+        &rt,
+        (are_zeros(&disk, 4_096, 13), are_zeros(&disk, 8_192, 32_768)),
+        (true, true),
+    );
     same(&rt, stretch(&disk, 40_960, 2), b"\0\xee".as_slice());
-    Ok(())
 }
 
 #[test]
-fn a_formatted_disk_is_opened(rt: HostRuntime) -> Result<(), Fail> {
+fn a_formatted_disk_is_opened(rt: HostRuntime) {
     let alloc = rt.alloc();
-    let mut disk = used(alloc)?;
-    let _store = format(&rt, alloc, &mut disk, LEAST)??;
+    let mut disk = used(&rt, alloc);
+    let _store = format(&rt, alloc, &mut disk, LEAST).expect(&rt, "a store");
     disk.cut(Cut::None);
-    let mut rig = opened(alloc, disk)?;
-    same(&rt, rig.store.geometry(), Geometry::new(8, LEAST, 4_096)?);
+    let mut rig = opened(alloc, disk).expect(&rt, "a store");
+    same(
+        &rt,
+        Ok(rig.store.geometry()),
+        Geometry::new(8, LEAST, 4_096),
+    );
     for block in 0..8 {
-        same(&rt, rig.read(&rt, block)?, 0);
+        same(&rt, rig.read(&rt, block), Ok(0));
     }
-    let receipt = rig.commit(&rt, MAX_NUMBER, &two(1, 2))?;
-    same(&rt, (receipt.slot().number(), receipt.front()), (0, MAX_NUMBER));
-    Ok(())
+    let receipt = rig
+        .commit(&rt, MAX_NUMBER, &two(1, 2))
+        .expect(&rt, "a receipt");
+    same(
+        &rt,
+        (receipt.slot().number(), receipt.front()),
+        (0, MAX_NUMBER),
+    );
 }
 
 // What a commit of blocks 0 and 1 writes into an area of 8,214 bytes behind 40,960: at each place these bytes.
@@ -220,69 +224,76 @@ const BATCH: [(usize, &[u8]); 5] = [
 ];
 
 #[test]
-fn a_commit_writes_its_batch(rt: HostRuntime) -> Result<(), Fail> {
-    let mut rig = formatted(&rt, rt.alloc(), LEAST)?;
+fn a_commit_writes_its_batch(rt: HostRuntime) {
+    let mut rig = formatted(&rt, rt.alloc(), LEAST);
     same(&rt, rig.disk.calls(), 22);
-    let _receipt = rig.commit(&rt, 1, &two(7, 8))?;
+    let _receipt = rig.commit(&rt, 1, &two(7, 8)).expect(&rt, "a receipt");
     same(&rt, rig.disk.calls(), 26);
-    for (at, bytes) in BATCH {
-        same_at(&rt, stretch(&rig.disk, at, bytes.len()), bytes, at);
+    for (at, bytes) in &BATCH {
+        same_at(&rt, stretch(&rig.disk, *at, bytes.len()), *bytes, at);
     }
-    Ok(())
 }
 
 #[test]
-fn a_checkpoint_writes_a_superblock(rt: HostRuntime) -> Result<(), Fail> {
-    let mut rig = formatted(&rt, rt.alloc(), LEAST)?;
-    let _receipt = rig.commit(&rt, 1, &two(7, 8))?;
-    rig.checkpoint(&rt)?;
+fn a_checkpoint_writes_a_superblock(rt: HostRuntime) {
+    let mut rig = formatted(&rt, rt.alloc(), LEAST);
+    let _receipt = rig.commit(&rt, 1, &two(7, 8)).expect(&rt, "a receipt");
+    rig.checkpoint(&rt).expect(&rt, "a checkpoint");
     same(&rt, rig.disk.calls(), 37);
     same(&rt, stretch(&rig.disk, 4_096, 56), SECOND.as_slice());
-    let _receipt = rig.commit(&rt, 2, &one(9))?;
-    same(&rt, stretch(&rig.disk, 49_174, 9), b"\x01\0\0\0\0\0\0\0\x02".as_slice());
-    Ok(())
+    let _receipt = rig.commit(&rt, 2, &one(9)).expect(&rt, "a receipt");
+    same(
+        &rt,
+        stretch(&rig.disk, 49_174, 9),
+        b"\x01\0\0\0\0\0\0\0\x02".as_slice(),
+    );
 }
 
 // A store behind a checkpoint and a commit of block 1.
-fn checkpointed(rt: &impl Abort, alloc: Global) -> Result<Rig, Fail> {
-    let mut rig = formatted(rt, alloc, LEAST)?;
-    let _receipt = rig.commit(rt, 1, &two(7, 8))?;
-    rig.checkpoint(rt)?;
-    let _receipt = rig.commit(rt, 2, &one(9))?;
+fn checkpointed(rt: &impl Abort, alloc: Global) -> Rig {
+    let mut rig = formatted(rt, alloc, LEAST);
+    let _receipt = rig.commit(rt, 1, &two(7, 8)).expect(rt, "a receipt");
+    rig.checkpoint(rt).expect(rt, "a checkpoint");
+    let _receipt = rig.commit(rt, 2, &one(9)).expect(rt, "a receipt");
     same(rt, rig.disk.calls(), 41);
-    Ok(rig)
+    rig
 }
 
 // A pending block, and two that are home.
 #[test]
-fn reads_are_counted(rt: HostRuntime) -> Result<(), Fail> {
-    let mut rig = checkpointed(&rt, rt.alloc())?;
+fn reads_are_counted(rt: HostRuntime) {
+    let mut rig = checkpointed(&rt, rt.alloc());
     for (block, byte, calls) in [(1, 9, 41), (0, 7, 42), (7, 0, 43)] {
-        same(&rt, (rig.read(&rt, block)?, rig.disk.calls()), (byte, calls));
+        same(
+            &rt,
+            (rig.read(&rt, block), rig.disk.calls()),
+            (Ok(byte), calls),
+        );
     }
-    Ok(())
 }
 
 // Runs with a pending block inside, with one in front, and with none.
 #[test]
-fn runs_are_counted(rt: HostRuntime) -> Result<(), Fail> {
-    let mut rig = checkpointed(&rt, rt.alloc())?;
+fn runs_are_counted(rt: HostRuntime) {
+    let mut rig = checkpointed(&rt, rt.alloc());
     for (first, bytes, calls) in [(0, [7, 9, 0], 42), (1, [9, 0, 0], 43), (5, [0; 3], 44)] {
-        same(&rt, (rig.read_three(&rt, first)?, rig.disk.calls()), (bytes, calls));
+        same(
+            &rt,
+            (rig.read_three(&rt, first), rig.disk.calls()),
+            (bytes, calls),
+        );
     }
-    Ok(())
 }
 
 #[test]
-fn ticks_are_counted(rt: HostRuntime) -> Result<(), Fail> {
-    let mut rig = checkpointed(&rt, rt.alloc())?;
-    for (given, calls) in [(Some(1), 42), (None, 42)] {
-        same(&rt, (rig.tick(&rt)?, rig.disk.calls()), (given, calls));
+fn ticks_are_counted(rt: HostRuntime) {
+    let mut rig = checkpointed(&rt, rt.alloc());
+    for (given, calls) in &[(Some(1), 42), (None, 42)] {
+        same(&rt, (rig.tick(&rt), rig.disk.calls()), (Ok(*given), *calls));
     }
-    same(&rt, (rig.read(&rt, 1)?, rig.disk.calls()), (9, 43));
-    rig.checkpoint(&rt)?;
+    same(&rt, (rig.read(&rt, 1), rig.disk.calls()), (Ok(9), 43));
+    rig.checkpoint(&rt).expect(&rt, "a checkpoint");
     same(&rt, (rig.disk.calls(), rig.store.front()), (52, 2));
-    Ok(())
 }
 
 // What is put over the bytes of a new disk with the first superblock, at which place; and the front that the disk means,
@@ -307,32 +318,36 @@ const DISKS: [(u64, &[u8], Result<u64, Refusal>); 12] = [
 ];
 
 #[test]
-fn opens(rt: HostRuntime) -> Result<(), Fail> {
+fn opens(rt: HostRuntime) {
     let alloc = rt.alloc();
-    for (at, bytes, wanted) in DISKS {
-        let mut disk = MemDisk::new(alloc, 57_388, Script::new(alloc))?;
-        disk.write_at(0, &FIRST)?;
-        assert!(rt; at <= 40_960 && bytes.len() <= 56);
-        disk.write_at(at, bytes)?;
+    for (at, bytes, wanted) in &DISKS {
+        let mut disk = new_disk(&rt, alloc, 57_388);
+        disk.write_at(0, &FIRST).expect(&rt, "the disk writes");
+        assert!(rt; *at <= 40_960 && bytes.len() <= 56);
+        disk.write_at(*at, *bytes).expect(&rt, "the disk writes");
         let is = Contents::open(alloc, &mut disk).map(|store| store.front());
-        same_at(&rt, is, wanted, (at, bytes));
+        same_at(&rt, is, *wanted, (at, bytes));
     }
-    Ok(())
 }
 
 // Whether a commit of block 1 at each of these fronts is refused so.
 fn are_refused(rt: &impl Abort, rig: &mut Rig, fronts: &[(u64, Refusal)]) {
     for (front, told) in fronts {
         assert!(rt; *front <= MAX_NUMBER);
-        same_at(rt, rig.commit(rt, *front, &one(9)).err(), Some(*told), front);
+        same_at(
+            rt,
+            rig.commit(rt, *front, &one(9)).err(),
+            Some(*told),
+            front,
+        );
     }
 }
 
 #[test]
-fn refusals(rt: HostRuntime) -> Result<(), Fail> {
-    let mut rig = formatted(&rt, rt.alloc(), LEAST)?;
+fn refusals(rt: HostRuntime) {
+    let mut rig = formatted(&rt, rt.alloc(), LEAST);
     are_refused(&rt, &mut rig, &[(0, Refusal::Backwards)]);
-    let _receipt = rig.commit(&rt, 4, &two(7, 8))?;
+    let _receipt = rig.commit(&rt, 4, &two(7, 8)).expect(&rt, "a receipt");
     are_refused(
         &rt,
         &mut rig,
@@ -342,10 +357,9 @@ fn refusals(rt: HostRuntime) -> Result<(), Fail> {
             (5, Refusal::Full),
         ],
     );
-    rig.checkpoint(&rt)?;
+    rig.checkpoint(&rt).expect(&rt, "a checkpoint");
     are_refused(&rt, &mut rig, &[(4, Refusal::Backwards)]);
-    let _receipt = rig.commit(&rt, 5, &one(9))?;
-    Ok(())
+    let _receipt = rig.commit(&rt, 5, &one(9)).expect(&rt, "a receipt");
 }
 
 const TEXTS: [(Refusal, Option<u16>, &str); 9] = [
@@ -365,12 +379,11 @@ const TEXTS: [(Refusal, Option<u16>, &str); 9] = [
 ];
 
 #[test]
-fn refusals_in_words(rt: HostRuntime) -> Result<(), Fail> {
-    for (refusal, number, text) in TEXTS {
-        same(&rt, refusal.number(), number);
-        same(&rt, refusal.to_string(rt.alloc())?.as_str(), text);
+fn refusals_in_words(rt: HostRuntime) {
+    for (refusal, number, text) in &TEXTS {
+        same(&rt, refusal.number(), *number);
+        prints(&rt, rt.alloc(), refusal, text);
     }
-    Ok(())
 }
 
 // A call of a store.
@@ -392,11 +405,18 @@ fn refused(rt: &impl Abort, rig: &mut Rig, doing: Doing) -> Option<Refusal> {
     }
 }
 
+// A store behind a commit of blocks 0 and 1 at front 1.
+fn committed(rt: &impl Abort, alloc: Global) -> Rig {
+    let mut rig = formatted(rt, alloc, ROOMY);
+    let _receipt = rig.commit(rt, 1, &two(7, 8)).expect(rt, "a receipt");
+    rig
+}
+
 const ALL: [Doing; 4] = [Doing::Commit, Doing::Tick, Doing::Checkpoint, Doing::Read];
 
 #[test]
-fn faults(rt: HostRuntime) -> Result<(), Fail> {
-    for (doing, call, fault) in [
+fn faults(rt: HostRuntime) {
+    for (doing, call, fault) in &[
         (Doing::Commit, 1, DiskError::WriteFault),
         (Doing::Commit, 4, DiskError::SyncFault),
         (Doing::Tick, 1, DiskError::WriteFault),
@@ -404,35 +424,33 @@ fn faults(rt: HostRuntime) -> Result<(), Fail> {
         (Doing::Checkpoint, 11, DiskError::SyncFault),
         (Doing::Read, 1, DiskError::ReadFault),
     ] {
-        let mut rig = formatted(&rt, rt.alloc(), ROOMY)?;
-        let _receipt = rig.commit(&rt, 1, &two(7, 8))?;
+        let mut rig = committed(&rt, rt.alloc());
         let before = rig.disk.calls();
-        rig.disk.arm(Event::FailAt { call })?;
-        let told = refused(&rt, &mut rig, doing);
-        same_at(&rt, told, Some(Refusal::Device(fault)), (doing, call));
-        for again in ALL {
-            same_at(&rt, refused(&rt, &mut rig, again), Some(Refusal::Broken), again);
+        rig.disk
+            .arm(Event::FailAt { call: *call })
+            .expect(&rt, "memory");
+        let told = refused(&rt, &mut rig, *doing);
+        same_at(&rt, told, Some(Refusal::Device(*fault)), (doing, call));
+        for again in &ALL {
+            same_at(
+                &rt,
+                refused(&rt, &mut rig, *again),
+                Some(Refusal::Broken),
+                again,
+            );
         }
-        same(&rt, rig.disk.calls(), before.saturating_add(call));
+        same(&rt, rig.disk.calls(), before.saturating_add(*call));
     }
-    Ok(())
 }
 
 // What a disk means that was cut: the front, and the byte of which each block consists.
-fn found(
-    rt: &impl Abort,
-    alloc: Global,
-    disk: MemDisk,
-) -> Result<Result<(u64, [u8; 8]), Refusal>, Fail> {
-    let mut rig = match opened(alloc, disk) {
-        Ok(rig) => rig,
-        Err(refusal) => return Ok(Err(refusal)),
-    };
+fn found(rt: &impl Abort, alloc: Global, disk: MemDisk) -> Result<(u64, [u8; 8]), Refusal> {
+    let mut rig = opened(alloc, disk)?;
     let mut blocks = [0; 8];
     for block in 0..8 {
-        blocks[block as usize] = rig.read(rt, block)?;
+        blocks[block as usize] = rig.read(rt, block).expect(rt, "the store reads");
     }
-    Ok(Ok((rig.store.front(), blocks)))
+    Ok((rig.store.front(), blocks))
 }
 
 // The bytes that each device call of `format`, and of the other calls behind a commit of blocks 0 and 1, writes: a sync
@@ -457,33 +475,37 @@ fn format_stopped(
     alloc: Global,
     event: Event,
     cut: Cut,
-) -> Result<Result<(u64, [u8; 8]), Refusal>, Fail> {
-    let mut disk = used(alloc)?;
-    disk.arm(event)?;
-    let told = format(rt, alloc, &mut disk, LEAST)?;
+) -> Result<(u64, [u8; 8]), Refusal> {
+    let mut disk = used(rt, alloc);
+    disk.arm(event).expect(rt, "memory");
+    let told = format(rt, alloc, &mut disk, LEAST);
     same(rt, told.err(), Some(Refusal::Device(DiskError::Stopped)));
     disk.cut(cut);
     found(rt, alloc, disk)
 }
 
+// Whether a volume of zeros is found behind a stop where the last gate's byte was written and kept, and else none.
+fn format_stops_at(rt: &impl Abort, alloc: Global, call: u64, bytes: u64) {
+    let event = Event::StopAt { call, bytes };
+    let is_open = call == 22 || call == 21 && bytes > 0;
+    let wanted = if is_open {
+        Ok((0, [0; 8]))
+    } else {
+        Err(Refusal::NotAVolume)
+    };
+    let is = format_stopped(rt, alloc, event, Cut::All);
+    same_at(rt, is, wanted, event);
+    let is = format_stopped(rt, alloc, event, Cut::None);
+    same_at(rt, is, Err(Refusal::NotAVolume), event);
+}
+
 #[test]
-fn format_stops(rt: HostRuntime) -> Result<(), Fail> {
+fn format_stops(rt: HostRuntime) {
     for (len, call) in FORMAT.iter().zip(1..=22) {
         for bytes in [0, 1, len / 2, *len] {
-            let event = Event::StopAt { call, bytes };
-            let is_open = call == 22 || call == 21 && bytes > 0;
-            let wanted = if is_open {
-                Ok((0, [0; 8]))
-            } else {
-                Err(Refusal::NotAVolume)
-            };
-            let is = format_stopped(&rt, rt.alloc(), event, Cut::All)?;
-            same_at(&rt, is, wanted, (call, bytes));
-            let is = format_stopped(&rt, rt.alloc(), event, Cut::None)?;
-            same_at(&rt, is, Err(Refusal::NotAVolume), (call, bytes));
+            format_stops_at(&rt, rt.alloc(), call, bytes);
         }
     }
-    Ok(())
 }
 
 // Stops the call behind a commit of blocks 0 and 1 at front 1, cuts, and finds.
@@ -493,10 +515,9 @@ fn stopped(
     doing: Doing,
     event: Event,
     cut: Cut,
-) -> Result<Result<(u64, [u8; 8]), Refusal>, Fail> {
-    let mut rig = formatted(rt, alloc, ROOMY)?;
-    let _receipt = rig.commit(rt, 1, &two(7, 8))?;
-    rig.disk.arm(event)?;
+) -> Result<(u64, [u8; 8]), Refusal> {
+    let mut rig = committed(rt, alloc);
+    rig.disk.arm(event).expect(rt, "memory");
     let told = refused(rt, &mut rig, doing);
     same(rt, told, Some(Refusal::Device(DiskError::Stopped)));
     rig.disk.cut(cut);
@@ -504,52 +525,50 @@ fn stopped(
 }
 
 // Whether what is found behind a stop is the old state, or the new one where the gate's byte was written and kept.
-fn stops_at(
-    rt: &impl Abort,
-    alloc: Global,
-    doing: Doing,
-    call: u64,
-    bytes: u64,
-) -> Result<(), Fail> {
+fn stops_at(rt: &impl Abort, alloc: Global, doing: Doing, call: u64, bytes: u64) {
     let (old, new) = ((1, [7, 8, 0, 0, 0, 0, 0, 0]), (2, [7, 9, 0, 0, 0, 0, 0, 0]));
     let event = Event::StopAt { call, bytes };
     let is_new = doing == Doing::Commit && (call == 4 || call == 3 && bytes > 0);
     let wanted = if is_new { new } else { old };
-    let is = stopped(rt, alloc, doing, event, Cut::All)?;
-    same_at(rt, is, Ok(wanted), (doing, call, bytes));
-    let is = stopped(rt, alloc, doing, event, Cut::None)?;
-    same_at(rt, is, Ok(old), (doing, call, bytes));
-    Ok(())
+    let is = stopped(rt, alloc, doing, event, Cut::All);
+    same_at(rt, is, Ok(wanted), (doing, event));
+    let is = stopped(rt, alloc, doing, event, Cut::None);
+    same_at(rt, is, Ok(old), (doing, event));
 }
 
 #[test]
-fn stops(rt: HostRuntime) -> Result<(), Fail> {
-    for (doing, writes) in WRITES {
+fn stops(rt: HostRuntime) {
+    for (doing, writes) in &WRITES {
         for (len, call) in writes.iter().zip(1..=11) {
             for bytes in [0, 1, len / 2, *len] {
-                stops_at(&rt, rt.alloc(), doing, call, bytes)?;
+                stops_at(&rt, rt.alloc(), *doing, call, bytes);
             }
         }
     }
-    Ok(())
 }
 
 // A commit, a tick and an opening, each of which memory may run out in: the answer is that, or the right one.
 #[test]
-fn no_memory(rt: HostRuntime) -> Result<(), Fail> {
+fn no_memory(rt: HostRuntime) {
     let alloc = rt.alloc();
-    let mut rig = formatted(&rt, alloc, ROOMY)?;
+    let mut rig = formatted(&rt, alloc, ROOMY);
     let before = rig.disk.calls();
     let front = match rig.commit(&rt, 1, &two(7, 8)) {
         Ok(receipt) => receipt.front(),
         Err(Refusal::Memory) => {
             same(&rt, (rig.disk.calls(), rig.store.front()), (before, 0));
-            same(&rt, rig.read(&rt, 1)?, 0);
-            rig.commit(&rt, 1, &two(7, 8))?.front()
+            same(&rt, rig.read(&rt, 1), Ok(0));
+            rig.commit(&rt, 1, &two(7, 8))
+                .expect(&rt, "a receipt")
+                .front()
         }
         Err(refusal) => {
             same(&rt, refusal, Refusal::Device(DiskError::Memory));
-            same(&rt, rig.commit(&rt, 1, &two(7, 8)).err(), Some(Refusal::Broken));
+            same(
+                &rt,
+                rig.commit(&rt, 1, &two(7, 8)).err(),
+                Some(Refusal::Broken),
+            );
             0
         }
     };
@@ -558,9 +577,8 @@ fn no_memory(rt: HostRuntime) -> Result<(), Fail> {
     } else {
         [0; 8]
     };
-    let is = found(&rt, alloc, rig.disk)?;
+    let is = found(&rt, alloc, rig.disk);
     if is != Err(Refusal::Memory) && is != Err(Refusal::Device(DiskError::Memory)) {
         same(&rt, is, Ok((front, blocks)));
     }
-    Ok(())
 }

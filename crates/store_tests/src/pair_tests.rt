@@ -3,57 +3,60 @@ ghost use Rattle.std.specs.Prelude.{◌≡◌, ◌+◌, ◌≤◌};
 ghost use Rattle.disk_model.specs.Memory.{size_of};
 
 use crate::comparing::{same, same_at};
-use disk_model::{Cut, Disk, DiskError, Event, MemDisk, Part, Script};
+use crate::disks::{new_disk, stretch};
+use disk_model::{Cut, Disk, DiskError, Event, MemDisk, Part};
 use gate_journal::{GatedPair, PAIR_SIZE, Refusal, Slot};
 use std::alloc::Global;
 use std::process::Abort;
-use std::test::Fail;
 
 #[test]
-fn a_new_pair(rt: HostRuntime) -> Result<(), Fail> {
-    let slot = Slot::new(2).ok_or("a slot")?;
+fn a_new_pair(rt: HostRuntime) {
+    let slot = Slot::new(2).expect(&rt, "a slot");
     let part = Part::new(3, PAIR_SIZE);
-    let mut disk = MemDisk::new(rt.alloc(), 3 + PAIR_SIZE, Script::new(rt.alloc()))?;
-    let (pair, receipt) = GatedPair::create(&mut disk, part, b"one", slot, 5)?;
+    let mut disk = new_disk(&rt, rt.alloc(), 3 + PAIR_SIZE);
+    let (pair, receipt) = GatedPair::create(&mut disk, part, b"one", slot, 5).expect(&rt, "a pair");
     same(&rt, (receipt.slot(), receipt.front()), (slot, 5));
     same(&rt, (pair.part(), pair.number()), (part, 1));
     same(&rt, (pair.is_broken(), pair.is_begun()), (false, true));
     same(&rt, disk.calls(), 12);
-    Ok(())
-}
-
-// The bytes of a disk from a place on: none where it has less.
-fn stretch(disk: &MemDisk, at: usize, len: usize) -> &[u8] {
-    disk.bytes()
-        .get(at..at.saturating_add(len))
-        .unwrap_or_default()
 }
 
 #[test]
-fn pair_bytes(rt: HostRuntime) -> Result<(), Fail> {
-    let slot = Slot::new(2).ok_or("a slot")?;
+fn pair_bytes(rt: HostRuntime) {
+    let slot = Slot::new(2).expect(&rt, "a slot");
     let part = Part::new(3, PAIR_SIZE);
-    let mut disk = MemDisk::new(rt.alloc(), 3 + PAIR_SIZE, Script::new(rt.alloc()))?;
-    let (mut pair, _) = GatedPair::create(&mut disk, part, b"one", slot, 5)?;
-    same(&rt, stretch(&disk, 3, 16), b"\x01\0\0\0\0\0\0\0\x01\0\0\0\x03one".as_slice());
+    let mut disk = new_disk(&rt, rt.alloc(), 3 + PAIR_SIZE);
+    let (mut pair, _) = GatedPair::create(&mut disk, part, b"one", slot, 5).expect(&rt, "a pair");
+    same(
+        &rt,
+        stretch(&disk, 3, 16),
+        b"\x01\0\0\0\0\0\0\0\x01\0\0\0\x03one".as_slice(),
+    );
     same(&rt, stretch(&disk, 4_099, 13), [0; 13].as_slice());
-    let receipt = pair.store(&mut disk, b"two!", slot, 9)?;
+    let receipt = pair
+        .store(&mut disk, b"two!", slot, 9)
+        .expect(&rt, "the pair stores");
     same(&rt, receipt.front(), 9);
-    same(&rt, stretch(&disk, 4_099, 17), b"\x01\0\0\0\0\0\0\0\x02\0\0\0\x04two!".as_slice());
-    Ok(())
+    same(
+        &rt,
+        stretch(&disk, 4_099, 17),
+        b"\x01\0\0\0\0\0\0\0\x02\0\0\0\x04two!".as_slice(),
+    );
 }
 
 #[test]
-fn pair_calls(rt: HostRuntime) -> Result<(), Fail> {
-    let slot = Slot::new(2).ok_or("a slot")?;
+fn pair_calls(rt: HostRuntime) {
+    let slot = Slot::new(2).expect(&rt, "a slot");
     let part = Part::new(3, PAIR_SIZE);
-    let mut disk = MemDisk::new(rt.alloc(), 3 + PAIR_SIZE, Script::new(rt.alloc()))?;
-    let (mut pair, _) = GatedPair::create(&mut disk, part, b"one", slot, 5)?;
-    let _receipt = pair.store(&mut disk, b"two!", slot, 9)?;
+    let mut disk = new_disk(&rt, rt.alloc(), 3 + PAIR_SIZE);
+    let (mut pair, _) = GatedPair::create(&mut disk, part, b"one", slot, 5).expect(&rt, "a pair");
+    let _receipt = pair
+        .store(&mut disk, b"two!", slot, 9)
+        .expect(&rt, "the pair stores");
     same(&rt, (disk.calls(), pair.number()), (18, 2));
-    pair.begin_store(&mut disk)?;
+    pair.begin_store(&mut disk)
+        .expect(&rt, "the store is begun");
     same(&rt, (disk.calls(), pair.is_begun()), (20, true));
-    Ok(())
 }
 
 // A stop in a call of a third `store`, after so many bytes of it, and whether the new payload is found then, where a cut
@@ -71,43 +74,42 @@ const STOPS: [(u64, u64, bool, bool); 9] = [
 ];
 
 // Stops the third `store`, cuts, loads, and says whether the new payload is found: else it is the old one.
-fn is_new_after(
-    rt: &impl Abort,
-    alloc: Global,
-    slot: Slot,
-    event: Event,
-    cut: Cut,
-) -> Result<bool, Fail> {
+fn is_new_after(rt: &impl Abort, alloc: Global, slot: Slot, event: Event, cut: Cut) -> bool {
     let part = Part::new(0, PAIR_SIZE);
-    let mut disk = MemDisk::new(alloc, PAIR_SIZE, Script::new(alloc))?;
-    let (mut pair, _) = GatedPair::create(&mut disk, part, b"one", slot, 1)?;
-    let _second = pair.store(&mut disk, b"two", slot, 2)?;
-    disk.arm(event)?;
+    let mut disk = new_disk(rt, alloc, PAIR_SIZE);
+    let (mut pair, _) = GatedPair::create(&mut disk, part, b"one", slot, 1).expect(rt, "a pair");
+    let _second = pair
+        .store(&mut disk, b"two", slot, 2)
+        .expect(rt, "the pair stores");
+    disk.arm(event).expect(rt, "memory");
     let told = pair.store(&mut disk, b"three", slot, 3);
     same(rt, told.err(), Some(Refusal::Device(DiskError::Stopped)));
     let again = pair.store(&mut disk, b"four", slot, 4);
     same(rt, again.err(), Some(Refusal::Broken));
     disk.cut(cut);
-    let (_, payload) = GatedPair::load(alloc, &mut disk, part)?;
-    let payload = payload.ok_or("a payload")?;
-    assert!(rt;
-        payload.as_slice() == b"two".as_slice() || payload.as_slice() == b"three".as_slice()
-    );
-    Ok(payload.as_slice() == b"three".as_slice())
+    let (_, payload) = GatedPair::load(alloc, &mut disk, part).expect(rt, "the pair loads");
+    let payload = payload.expect(rt, "a payload");
+    let is_new = payload.as_slice() == b"three".as_slice();
+    if !is_new {
+        same(rt, payload.as_slice(), b"two".as_slice());
+    }
+    is_new
 }
 
 #[test]
-fn pair_stops(rt: HostRuntime) -> Result<(), Fail> {
-    let slot = Slot::new(3).ok_or("a slot")?;
-    for (call, bytes, after_all, after_none) in STOPS {
-        let event = Event::StopAt { call, bytes };
+fn pair_stops(rt: HostRuntime) {
+    let slot = Slot::new(3).expect(&rt, "a slot");
+    for (call, bytes, after_all, after_none) in &STOPS {
+        let event = Event::StopAt {
+            call: *call,
+            bytes: *bytes,
+        };
         let found = (
-            is_new_after(&rt, rt.alloc(), slot, event, Cut::All)?,
-            is_new_after(&rt, rt.alloc(), slot, event, Cut::None)?,
+            is_new_after(&rt, rt.alloc(), slot, event, Cut::All),
+            is_new_after(&rt, rt.alloc(), slot, event, Cut::None),
         );
-        same_at(&rt, found, (after_all, after_none), (call, bytes));
+        same_at(&rt, found, (*after_all, *after_none), event);
     }
-    Ok(())
 }
 
 // A slot's gate, number and length, behind which stands the slot's own number in each byte.
@@ -133,22 +135,20 @@ const SLOTS: [(SlotHead, SlotHead, Option<(u8, usize)>, Option<Refusal>); 10] = 
 ];
 
 // Writes a slot.
-fn put_slot(
-    disk: &mut MemDisk,
-    part: Part,
-    at: u64,
-    head: SlotHead,
-    byte: u8,
-) -> Result<(), DiskError>
+fn put_slot(rt: &impl Abort, disk: &mut MemDisk, part: Part, at: u64, head: SlotHead, byte: u8)
     requires on_disk { part.start + part.len ≤ size_of disk.old }
     requires range { at + 4096 ≤ part.len }
     ensures { size_of disk.new ≡ size_of disk.old }
 {
     let (gate, number, len) = head;
-    part.write_at(disk, at, &[byte; 4_096])?;
-    part.write_at(disk, at, &[gate])?;
-    part.write_at(disk, at + 1, &number.to_be_bytes())?;
+    part.write_at(disk, at, &[byte; 4_096])
+        .expect(rt, "the disk writes");
+    part.write_at(disk, at, &[gate])
+        .expect(rt, "the disk writes");
+    part.write_at(disk, at + 1, &number.to_be_bytes())
+        .expect(rt, "the disk writes");
     part.write_at(disk, at + 9, &len.to_be_bytes())
+        .expect(rt, "the disk writes");
 }
 
 // Writes these slots, loads, and says what was found; then stores, says what that is refused with, and finds it.
@@ -157,30 +157,30 @@ fn found_and_told(
     alloc: Global,
     first: SlotHead,
     second: SlotHead,
-) -> Result<(Option<(Option<u8>, usize)>, Option<Refusal>), Fail> {
-    let slot = Slot::new(0).ok_or("a slot")?;
+) -> (Option<(Option<u8>, usize)>, Option<Refusal>) {
+    let slot = Slot::new(0).expect(rt, "a slot");
     let part = Part::new(0, PAIR_SIZE);
-    let mut disk = MemDisk::new(alloc, PAIR_SIZE, Script::new(alloc))?;
-    put_slot(&mut disk, part, 0, first, 0)?;
-    put_slot(&mut disk, part, 4_096, second, 1)?;
-    let (mut pair, payload) = GatedPair::load(alloc, &mut disk, part)?;
+    let mut disk = new_disk(rt, alloc, PAIR_SIZE);
+    put_slot(rt, &mut disk, part, 0, first, 0);
+    put_slot(rt, &mut disk, part, 4_096, second, 1);
+    let (mut pair, payload) = GatedPair::load(alloc, &mut disk, part).expect(rt, "the pair loads");
     let is = payload
         .as_ref()
         .map(|payload| (payload.first().copied(), payload.len()));
     let told = pair.store(&mut disk, b"new", slot, 1).err();
     if told.is_none() {
-        let (_, payload) = GatedPair::load(alloc, &mut disk, part)?;
-        let payload = payload.ok_or("a payload")?;
+        let (_, payload) = GatedPair::load(alloc, &mut disk, part).expect(rt, "the pair loads");
+        let payload = payload.expect(rt, "a payload");
         same(rt, payload.as_slice(), b"new".as_slice());
     }
-    Ok((is, told))
+    (is, told)
 }
 
 #[test]
-fn pair_loads(rt: HostRuntime) -> Result<(), Fail> {
-    for (first, second, found, told) in SLOTS {
+fn pair_loads(rt: HostRuntime) {
+    for (first, second, found, told) in &SLOTS {
         let wanted = found.map(|(byte, len)| ((len > 0).then_some(byte), len));
-        same_at(&rt, found_and_told(&rt, rt.alloc(), first, second)?, (wanted, told), (first, second));
+        let is = found_and_told(&rt, rt.alloc(), *first, *second);
+        same_at(&rt, is, (wanted, *told), (first, second));
     }
-    Ok(())
 }

@@ -2,7 +2,6 @@
 use crate::comparing::{same, same_at};
 use bytes::Bytes;
 use std::process::Abort;
-use std::test::Fail;
 use volume::{Geometry, Piece, Refusal, Write, patch, pieces};
 
 const VOLUME: u64 = 268_435_456;
@@ -52,14 +51,15 @@ fn pieces_at_the_ends_of_blocks(rt: HostRuntime) {
 
 // The largest payload, one byte past a block's start.
 #[test]
-fn pieces_of_257_blocks(rt: HostRuntime) -> Result<(), Fail> {
-    let found: Vec<Piece> = pieces(1, 1_048_576).collect(rt.alloc())?;
-    same(&rt, found.len(), 257);
+fn pieces_of_257_blocks(rt: HostRuntime) {
+    let found: Vec<Piece> = pieces(1, 1_048_576)
+        .collect(rt.alloc())
+        .expect(&rt, "memory");
+    assert!(rt; found.len() == 257);
     same(&rt, found[0], piece(0, 1, 0, 4_095));
     same(&rt, found[1], piece(1, 0, 4_095, 4_096));
     same(&rt, found[255], piece(255, 0, 1_044_479, 4_096));
     same(&rt, found[256], piece(256, 0, 1_048_575, 1));
-    Ok(())
 }
 
 // Blocks, an area and the largest payload, and what `Geometry::new` says of them.
@@ -85,58 +85,57 @@ const GEOMETRIES: [(u32, u32, u32, Result<u64, u16>); 17] = [
 
 #[test]
 fn geometries(rt: HostRuntime) {
-    for (blocks, area, max_payload, expected) in GEOMETRIES {
-        let said = Geometry::new(blocks, area, max_payload)
+    for (blocks, area, max_payload, expected) in &GEOMETRIES {
+        let said = Geometry::new(*blocks, *area, *max_payload)
             .map(Geometry::size)
             .map_err(Refusal::number);
-        same_at(&rt, said, expected, (blocks, area, max_payload));
+        same_at(&rt, said, *expected, (blocks, area, max_payload));
     }
 }
 
 #[test]
-fn ranges_of_the_volume(rt: HostRuntime) -> Result<(), Fail> {
-    let geometry = Geometry::new(8, 8_214, 4_096)?;
+fn ranges_of_the_volume(rt: HostRuntime) {
+    let geometry = Geometry::new(8, 8_214, 4_096).expect(&rt, "a geometry");
     assert!(rt; geometry.contains(0, 32_768));
     assert!(rt; geometry.contains(32_768, 0));
     assert!(rt; geometry.contains(32_767, 1));
     assert!(rt; !geometry.contains(32_768, 1));
     assert!(rt; !geometry.contains(32_769, 0));
     assert!(rt; !geometry.contains(u64::MAX, u64::MAX));
-    Ok(())
 }
 
 #[test]
-fn refusals_in_words(rt: HostRuntime) -> Result<(), Fail> {
+fn refusals_in_words(rt: HostRuntime) {
     let words = format!(in rt.alloc();
         "{}, {}, {}",
         Refusal::BadBlocks,
         Refusal::BadPayload,
         Refusal::AreaTooSmall
-    )?;
-    same(&rt, words.as_str(), "111 BadBlocks, 112 BadPayload, 113 AreaTooSmall");
-    Ok(())
+    )
+    .expect(&rt, "memory");
+    same(
+        &rt,
+        words.as_str(),
+        "111 BadBlocks, 112 BadPayload, 113 AreaTooSmall",
+    );
 }
 
 // Five bytes over the end of block 1.
 #[test]
-fn patches(rt: HostRuntime) -> Result<(), Fail> {
-    let payload = Bytes::copy_from_slice(rt.alloc(), &[1, 2, 3, 4, 5])?;
+fn patches(rt: HostRuntime) {
+    let payload = Bytes::copy_from_slice(rt.alloc(), &[1, 2, 3, 4, 5]).expect(&rt, "memory");
     let write = Write::new(8_189, payload);
     same(&rt, (write.offset(), write.payload().len()), (8_189, 5));
-    for (block, front, back) in [
+    for (block, front, back) in &[
         (0, [9, 9, 9], [9, 9, 9]),
         (1, [9, 9, 9], [1, 2, 3]),
         (2, [4, 5, 9], [9, 9, 9]),
         (3, [9, 9, 9], [9, 9, 9]),
     ] {
         let mut bytes = [9; 4_096];
-        patch(&mut bytes, &write, block);
+        patch(&mut bytes, &write, *block);
         same_at(&rt, &bytes[..3], front.as_slice(), block);
         same_at(&rt, &bytes[4_093..], back.as_slice(), block);
-        assert!(rt;
-            bytes[3..4_093].iter().all(|byte| *byte == 9),
-            "block {block}"
-        );
+        same_at(&rt, &bytes[3..4_093], [9; 4_090].as_slice(), block);
     }
-    Ok(())
 }
