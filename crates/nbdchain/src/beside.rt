@@ -22,7 +22,6 @@ use simulator::NEGOTIATION;
 use std::alloc::Global;
 use std::collections::VecDeque;
 use std::process::Abort;
-use std::test::Fail;
 use volume::Geometry;
 use world::{Told, World};
 
@@ -84,19 +83,19 @@ pub(crate) struct Beside {
 
 impl Beside {
     /// Beside a world of so many members that begins.
-    pub(crate) fn new(alloc: Global, geometry: Geometry, members: u8) -> Result<Beside, Fail> {
+    pub(crate) fn new(rt: &impl Abort, alloc: Global, geometry: Geometry, members: u8) -> Beside {
         let mut places = Vec::new(alloc);
         for _ in 0..members {
-            places.push(Place::new(alloc))?;
+            places.push(Place::new(alloc)).expect(rt, "memory");
         }
-        Ok(Beside {
+        Beside {
             alloc,
-            plain: Plain::new(alloc, geometry)?,
+            plain: Plain::new(rt, alloc, geometry),
             clients: Vec::new(alloc),
             places,
             stopped: false,
             steps: 0,
-        })
+        }
     }
 
     /// How many requests wait for their answers.
@@ -115,7 +114,7 @@ impl Beside {
     }
 
     /// All goes on from a front, with one member and without clients.
-    pub(crate) fn go_on_from(&mut self, rt: &impl Abort, front: u64) -> Result<(), Fail> {
+    pub(crate) fn go_on_from(&mut self, rt: &impl Abort, front: u64) {
         let steps = self.steps;
         let restarted = self.plain.restart(front);
         assert!(rt;
@@ -124,53 +123,43 @@ impl Beside {
         );
         self.clients.clear();
         self.places.clear();
-        self.places.push(Place::new(self.alloc))?;
+        self.places
+            .push(Place::new(self.alloc))
+            .expect(rt, "memory");
         self.stopped = false;
-        Ok(())
     }
 
     /// Plays a step, and sees that the machine can show what clients saw of it.
-    pub(crate) fn play(
-        &mut self,
-        rt: &impl Abort,
-        world: &mut Disks,
-        step: &Step,
-    ) -> Result<Came, Fail> {
+    pub(crate) fn play(&mut self, rt: &impl Abort, world: &mut Disks, step: &Step) -> Came {
         if self.stopped {
-            return Ok(Came::Skipped);
+            return Came::Skipped;
         }
         self.steps = self.steps.saturating_add(1);
         let answer = life::play(self.alloc, world, step);
         self.stopped = is_stopped(world);
-        self.plain.take_up_to(rt, world.front())?;
+        self.plain.take_up_to(rt, world.front());
         match answer {
             Answer::Taken(Told::Out(outputs)) => {
-                self.hear_all(rt, &outputs)?;
-                self.follow(world, step)?;
-                Ok(if outputs.is_empty() {
+                self.hear_all(rt, &outputs);
+                self.follow(rt, world, step);
+                if outputs.is_empty() {
                     Came::Quiet
                 } else {
                     Came::Heard
-                })
+                }
             }
-            Answer::Taken(_) => Err(Fail::from("memory ran out")),
+            Answer::Taken(_) => panic!(rt; "memory ran out"),
             Answer::HandedOut(output) => {
-                self.hear(rt, output.session, output.bytes.as_slice())?;
-                Ok(Came::Heard)
+                self.hear(rt, output.session, output.bytes.as_slice());
+                Came::Heard
             }
-            Answer::Refused(number) => Ok(Came::Refused(number)),
-            Answer::Skipped => Ok(Came::Skipped),
+            Answer::Refused(number) => Came::Refused(number),
+            Answer::Skipped => Came::Skipped,
         }
     }
 
     /// The member at a place acts.
-    pub(crate) fn act(
-        &mut self,
-        rt: &impl Abort,
-        world: &mut Disks,
-        at: usize,
-        act: Act,
-    ) -> Result<Came, Fail> {
+    pub(crate) fn act(&mut self, rt: &impl Abort, world: &mut Disks, at: usize, act: Act) -> Came {
         self.play(rt, world, &Step::Member { at, act })
     }
 
@@ -181,7 +170,7 @@ impl Beside {
         world: &mut Disks,
         session: SessionId,
         piece: Vec<u8>,
-    ) -> Result<Came, Fail> {
+    ) -> Came {
         self.play(rt, world, &Step::Bytes { session, piece })
     }
 
@@ -192,10 +181,10 @@ impl Beside {
         world: &mut Disks,
         session: SessionId,
         at: usize,
-    ) -> Result<bool, Fail> {
-        let begun = self.play(rt, world, &Step::Connect { session, at })?;
-        self.play(rt, world, &Step::HandOut { session })?;
-        Ok(begun.is_taken())
+    ) -> bool {
+        let begun = self.play(rt, world, &Step::Connect { session, at });
+        self.play(rt, world, &Step::HandOut { session });
+        begun.is_taken()
     }
 
     /// A session begins at the member at a place, and negotiates.
@@ -205,49 +194,42 @@ impl Beside {
         world: &mut Disks,
         session: SessionId,
         at: usize,
-    ) -> Result<(), Fail> {
-        if self.connect(rt, world, session, at)? {
-            let piece = Vec::from_slice(self.alloc, &NEGOTIATION)?;
-            self.bytes(rt, world, session, piece)?;
-            self.play(rt, world, &Step::HandOut { session })?;
+    ) {
+        if self.connect(rt, world, session, at) {
+            let piece = Vec::from_slice(self.alloc, &NEGOTIATION).expect(rt, "memory");
+            self.bytes(rt, world, session, piece);
+            self.play(rt, world, &Step::HandOut { session });
         }
-        Ok(())
     }
 
     /// Clients hear what went out in a call, one after another.
-    fn hear_all(&mut self, rt: &impl Abort, outputs: &[Output]) -> Result<(), Fail> {
+    fn hear_all(&mut self, rt: &impl Abort, outputs: &[Output]) {
         for output in outputs {
-            self.hear(rt, output.session, output.bytes.as_slice())?;
+            self.hear(rt, output.session, output.bytes.as_slice());
         }
-        Ok(())
     }
 
     /// A client hears these bytes.
-    fn hear(&mut self, rt: &impl Abort, session: SessionId, bytes: &[u8]) -> Result<(), Fail> {
+    fn hear(&mut self, rt: &impl Abort, session: SessionId, bytes: &[u8]) {
         let (steps, number) = (self.steps, session.0);
         let start = &bytes[..bytes.len().min(SHOWN)];
         let Some(client) = self.client(session) else {
-            return Err(Fail::from("there is no such client"));
+            panic!(rt; "there is no such client")
         };
         let Some(rest) = client.hear(bytes) else {
-            assert!(rt;
-                false,
-                "step {steps}: session {number} answers {start:?} by itself"
-            );
-            return Ok(());
+            panic!(rt; "step {steps}: session {number} answers {start:?} by itself")
         };
         if rest.is_empty() {
-            return Ok(());
+            return;
         }
         let shown = match heard_in(rest) {
-            Some(heard) => self.plain.tell(session, heard)?,
+            Some(heard) => self.plain.tell(rt, session, heard),
             None => false,
         };
         assert!(rt;
             shown,
             "step {steps}: session {number} hears {start:?}, which the machine can't show"
         );
-        Ok(())
     }
 
     /// The client of a session.
@@ -260,69 +242,65 @@ impl Beside {
     }
 
     /// What a step that was taken has moved.
-    fn follow(&mut self, world: &Disks, step: &Step) -> Result<(), Fail> {
+    fn follow(&mut self, rt: &impl Abort, world: &Disks, step: &Step) {
         match step {
             Step::Connect { session, at } => {
-                Ok(self.clients.push(Client::new(self.alloc, *session, *at))?)
+                let client = Client::new(self.alloc, *session, *at);
+                self.clients.push(client).expect(rt, "memory");
             }
-            Step::Bytes { session, piece } => self.feed(*session, piece),
+            Step::Bytes { session, piece } => self.feed(rt, *session, piece),
             Step::End { session } => {
                 if let Some(client) = self.client(*session) {
                     client.end();
                 }
-                Ok(())
             }
             Step::Member { at, act } => match act {
-                Act::Take => self.take(world, *at),
-                Act::Number => self.number(*at),
-                _ => Ok(()),
+                Act::Take => self.take(rt, world, *at),
+                Act::Number => self.number(rt, *at),
+                _ => {}
             },
-            Step::HandOut { .. } => Ok(()),
+            Step::HandOut { .. } => {}
         }
     }
 
     /// A session took a piece.
-    fn feed(&mut self, session: SessionId, piece: &[u8]) -> Result<(), Fail> {
+    fn feed(&mut self, rt: &impl Abort, session: SessionId, piece: &[u8]) {
         let found = self
             .clients
             .iter()
             .position(|client| client.session() == session);
         let Some(client) = found.and_then(|place| self.clients.get_mut(place)) else {
-            return Err(Fail::from("there is no such client"));
+            panic!(rt; "there is no such client")
         };
-        client.send(&mut self.plain, piece)?;
+        client.send(rt, &mut self.plain, piece);
         let Some(place) = self.places.get_mut(client.at()) else {
-            return Err(Fail::from("there is no such member"));
+            panic!(rt; "there is no such member")
         };
-        client.go_on(&mut place.demands)?;
-        Ok(())
+        client.go_on(rt, &mut place.demands);
     }
 
     /// The member at a place took a demand. A write is on its way to the head then, unless it was refused: a stopped member refuses all.
-    fn take(&mut self, world: &Disks, at: usize) -> Result<(), Fail> {
+    fn take(&mut self, rt: &impl Abort, world: &Disks, at: usize) {
         let Some(place) = self.places.get_mut(at) else {
-            return Err(Fail::from("there is no such member"));
+            panic!(rt; "there is no such member")
         };
-        let Some(demanded) = place.demands.pop_front() else {
-            return Err(Fail::from("a member took what nobody sent"));
-        };
+        let demanded = place.demands.pop_front().expect(rt, "a demand");
         let runs = at < world.len() && world.cause(at).is_none();
         if demanded.is_write && runs && self.plain.owes(demanded.name) {
-            place.submits.push_back(demanded.name)?;
+            place.submits.push_back(demanded.name).expect(rt, "memory");
         }
-        Ok(())
     }
 
     /// The head numbered the first write on its way from a member.
-    fn number(&mut self, from: usize) -> Result<(), Fail> {
+    fn number(&mut self, rt: &impl Abort, from: usize) {
         let Some(place) = self.places.get_mut(from) else {
-            return Err(Fail::from("there is no such member"));
+            panic!(rt; "there is no such member")
         };
-        let Some(name) = place.submits.pop_front() else {
-            return Err(Fail::from("the head numbered what nobody sent"));
-        };
-        self.plain.number(name)?;
-        Ok(())
+        let name = place
+            .submits
+            .pop_front()
+            .expect(rt, "a write that was sent");
+        self.plain.number(rt, name);
     }
 }
 

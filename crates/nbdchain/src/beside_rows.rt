@@ -10,7 +10,6 @@ use nbd_codec::constants::{FLAG_FUA, REQUEST_FLUSH, REQUEST_READ, REQUEST_WRITE}
 use std::alloc::Global;
 use std::mem;
 use std::process::Abort;
-use std::test::Fail;
 use volume::{Geometry, MAX_MAX_PAYLOAD, least_area};
 
 /// How many of the rows' requests ask something of a volume, counted in their lines: of a session that is there and takes input, before
@@ -37,22 +36,19 @@ struct Script {
 
 impl Script {
     /// The script behind its first command. `None` where that begins no chain.
-    fn begun(alloc: Global, row: &str) -> Result<Option<Script>, Fail> {
-        let Some((geometry, members)) = beginning(alloc, row)? else {
-            return Ok(None);
-        };
+    fn begun(rt: &impl Abort, alloc: Global, row: &str) -> Option<Script> {
+        let (geometry, members) = beginning(rt, alloc, row)?;
         if members == 0 || members > 8 {
-            return Ok(None);
+            return None;
         }
-        let beside = Beside::new(alloc, geometry, members)?;
-        let world = life::begin(alloc, geometry, members)?;
-        Ok(Some(Script {
+        let world = life::begin(alloc, geometry, members).expect(rt, "memory");
+        Some(Script {
             alloc,
-            beside,
+            beside: Beside::new(rt, alloc, geometry, members),
             world: Some(world),
             left: Vec::new(alloc),
             stopped: false,
-        }))
+        })
     }
 
     /// Ends the script: its world is abandoned.
@@ -71,28 +67,26 @@ impl Script {
     }
 
     /// Plays its commands.
-    fn play(&mut self, rt: &impl Abort, row: &str) -> Result<(), Fail> {
+    fn play(&mut self, rt: &impl Abort, row: &str) {
         for line in row.lines() {
-            let words: Vec<&str> = line.split(' ').collect(self.alloc)?;
+            let words: Vec<&str> = line.split(' ').collect(self.alloc).expect(rt, "memory");
             match words.as_slice() {
-                ["cut", kind] => self.cut(*kind == "all")?,
-                ["return", member] => self.recover(rt, number(member))?,
-                _ => self.play_words(rt, &words)?,
+                ["cut", kind] => self.cut(rt, *kind == "all"),
+                ["return", member] => self.recover(rt, number(member)),
+                _ => self.play_words(rt, &words),
             }
         }
-        Ok(())
     }
 
     /// Plays a command of clients or members.
-    fn play_words(&mut self, rt: &impl Abort, words: &[&str]) -> Result<(), Fail> {
-        match &mut self.world {
-            Some(world) => play_words(rt, self.alloc, &mut self.beside, world, words),
-            None => Ok(()),
+    fn play_words(&mut self, rt: &impl Abort, words: &[&str]) {
+        if let Some(world) = &mut self.world {
+            play_words(rt, self.alloc, &mut self.beside, world, words);
         }
     }
 
     /// Everything stops.
-    fn cut(&mut self, keeps_all: bool) -> Result<(), Fail> {
+    fn cut(&mut self, rt: &impl Abort, keeps_all: bool) {
         let cut = if keeps_all { Cut::All } else { Cut::None };
         if self.stopped {
             for left in &mut self.left {
@@ -100,36 +94,35 @@ impl Script {
             }
         }
         self.stopped = false;
-        let mut slots = Vec::new(self.alloc);
-        if let Some(world) = &self.world {
-            for at in 0..world.len() {
-                slots.push(u64::from(world.slot(at).number()))?;
-            }
-        }
         let Some(world) = self.world.take() else {
-            return Ok(());
+            return;
         };
-        let disks = life::cut(self.alloc, world, cut)?;
-        for (slot, disk) in slots.into_iter().zip(disks) {
-            self.left.push(Left { slot, disk })?;
+        let mut slots = Vec::new(self.alloc);
+        for at in 0..world.len() {
+            slots
+                .push(u64::from(world.slot(at).number()))
+                .expect(rt, "memory");
         }
-        Ok(())
+        let disks = life::cut(self.alloc, world, cut).expect(rt, "memory");
+        for (slot, disk) in slots.into_iter().zip(disks) {
+            self.left.push(Left { slot, disk }).expect(rt, "memory");
+        }
     }
 
     /// A member goes on alone from its disk, after a cut, and the machine from that disk's front.
-    fn recover(&mut self, rt: &impl Abort, member: u64) -> Result<(), Fail> {
+    fn recover(&mut self, rt: &impl Abort, member: u64) {
         let place = self.left.iter().position(|left| left.slot == member);
         match place {
             Some(at) if !self.stopped && at < self.left.len() => {
                 let Left { slot, disk } = self.left.remove(at);
-                self.go_on_from(rt, slot, disk)
+                self.go_on_from(rt, slot, disk);
             }
-            _ => Ok(()),
+            _ => {}
         }
     }
 
     /// The member of a slot goes on from its disk.
-    fn go_on_from(&mut self, rt: &impl Abort, slot: u64, disk: MemDisk) -> Result<(), Fail> {
+    fn go_on_from(&mut self, rt: &impl Abort, slot: u64, disk: MemDisk) {
         match life::recover(self.alloc, disk) {
             Ok(world) => {
                 let front = if world.len() > 0 { world.durable(0) } else { 0 };
@@ -137,42 +130,40 @@ impl Script {
                 if let Some(old) = mem::replace(&mut self.world, Some(world)) {
                     let _stores = old.abandon();
                 }
-                self.beside.go_on_from(rt, front)
+                self.beside.go_on_from(rt, front);
             }
             Err(Refused { refusal: _, disk }) => {
-                let Some(disk) = disk else {
-                    return Err(Fail::from("memory ran out"));
-                };
+                let disk = disk.expect(rt, "memory");
                 self.stopped = disk.is_stopped();
-                self.left.push(Left { slot, disk })?;
-                Ok(())
+                self.left.push(Left { slot, disk }).expect(rt, "memory");
             }
         }
     }
 }
 
 /// The sizes and members of the chain that a script begins.
-fn beginning(alloc: Global, row: &str) -> Result<Option<(Geometry, u8)>, Fail> {
+fn beginning(rt: &impl Abort, alloc: Global, row: &str) -> Option<(Geometry, u8)> {
     let line = row.lines().find(|line| line.starts_with("new "));
-    let words: Vec<&str> = line.unwrap_or("").split(' ').collect(alloc)?;
-    let (members, blocks, payload) = match words.as_slice() {
-        ["new", members, blocks, payload] => (number(members), number(blocks), number(payload)),
-        _ => return Ok(None),
-    };
-    let (Ok(members), Ok(blocks), Ok(payload)) = (
-        u8::try_from(members),
-        u32::try_from(blocks),
-        u32::try_from(payload),
-    ) else {
-        return Ok(None);
-    };
+    let words = line.unwrap_or("").split(' ');
+    let words: Vec<&str> = words.collect(alloc).expect(rt, "memory");
+    match words.as_slice() {
+        ["new", members, blocks, payload] => {
+            sizes(number(members), number(blocks), number(payload))
+        }
+        _ => None,
+    }
+}
+
+/// The sizes and members of a chain that have these numbers, if there are such.
+fn sizes(members: u64, blocks: u64, payload: u64) -> Option<(Geometry, u8)> {
+    let members = u8::try_from(members).ok()?;
+    let blocks = u32::try_from(blocks).ok()?;
+    let payload = u32::try_from(payload).ok()?;
     if payload > MAX_MAX_PAYLOAD {
-        return Ok(None);
+        return None;
     }
-    match Geometry::new(blocks, least_area(payload), payload) {
-        Ok(geometry) => Ok(Some((geometry, members))),
-        Err(_) => Ok(None),
-    }
+    let geometry = Geometry::new(blocks, least_area(payload), payload).ok()?;
+    Some((geometry, members))
 }
 
 /// The number that a word is, or 0.
@@ -193,38 +184,36 @@ fn play_words(
     beside: &mut Beside,
     world: &mut Disks,
     words: &[&str],
-) -> Result<(), Fail> {
+) {
     match words {
         ["connect" | "session", session, member] => {
             let session = SessionId(number(session));
-            begin_session(rt, beside, world, words, session, member)
+            begin_session(rt, beside, world, words, session, member);
         }
         ["bytes", session, pieces @ ..] => {
             let mut piece = Vec::new(alloc);
             for digits in pieces {
-                piece.extend_from_slice(&hex::decode(alloc, *digits)?)?;
+                let bytes = hex::decode(alloc, *digits).expect(rt, "digits");
+                piece.extend_from_slice(&bytes).expect(rt, "memory");
             }
-            send(rt, beside, world, SessionId(number(session)), piece)
+            send(rt, beside, world, SessionId(number(session)), piece);
         }
         ["write" | "fua" | "read" | "flush", session, ..] => {
-            let piece = request(alloc, words)?;
-            send(rt, beside, world, SessionId(number(session)), piece)
+            let piece = request(rt, alloc, words);
+            send(rt, beside, world, SessionId(number(session)), piece);
         }
         ["run"] => beside.run(rt, world),
         ["pass", from, to] => pass(rt, beside, world, from, to),
         ["fail", member, call] => {
             let call = number(call);
-            arm(world, member, call, Event::FailAt { call })
+            arm(rt, world, member, call, Event::FailAt { call });
         }
         ["stopat", member, call, bytes] => {
             let (call, bytes) = (number(call), number(bytes));
-            arm(world, member, call, Event::StopAt { call, bytes })
+            arm(rt, world, member, call, Event::StopAt { call, bytes });
         }
-        [act, member, ..] => match place_of(world, member) {
-            Some(at) => play_act(rt, beside, world, at, act, words),
-            None => Ok(()),
-        },
-        _ => Ok(()),
+        [act, member, ..] => play_act(rt, beside, world, act, member, words),
+        _ => {}
     }
 }
 
@@ -236,18 +225,18 @@ fn begin_session(
     words: &[&str],
     session: SessionId,
     member: &str,
-) -> Result<(), Fail> {
+) {
     let Some(at) = place_of(world, member) else {
-        return Ok(());
+        return;
     };
     if !beside.runs(world, at) {
-        return Ok(());
+        return;
     }
     if matches!(words, ["session", ..]) {
-        return beside.negotiate(rt, world, session, at);
+        beside.negotiate(rt, world, session, at);
+    } else {
+        beside.connect(rt, world, session, at);
     }
-    beside.connect(rt, world, session, at)?;
-    Ok(())
 }
 
 /// A client sends a piece, and what waits for it goes out.
@@ -257,71 +246,67 @@ fn send(
     world: &mut Disks,
     session: SessionId,
     piece: Vec<u8>,
-) -> Result<(), Fail> {
-    beside.bytes(rt, world, session, piece)?;
-    beside.play(rt, world, &Step::HandOut { session })?;
-    Ok(())
+) {
+    beside.bytes(rt, world, session, piece);
+    beside.play(rt, world, &Step::HandOut { session });
 }
 
 /// The bytes of a client's request.
-fn request(alloc: Global, words: &[&str]) -> Result<Vec<u8>, Fail> {
+fn request(rt: &impl Abort, alloc: Global, words: &[&str]) -> Vec<u8> {
     let mut payload = Vec::new(alloc);
     let (flags, kind, cookie, offset, length) = match words {
         ["read", _, cookie, offset, length] => (0, REQUEST_READ, *cookie, *offset, number(length)),
         ["flush", _, cookie] => (0, REQUEST_FLUSH, *cookie, "0", 0),
         [word, _, cookie, offset, digits] => {
-            payload = hex::decode(alloc, *digits)?;
+            payload = hex::decode(alloc, *digits).expect(rt, "digits");
             let flags = if *word == "fua" { FLAG_FUA } else { 0 };
             (flags, REQUEST_WRITE, *cookie, *offset, payload.len() as u64)
         }
-        _ => return Err(Fail::from("no request")),
+        _ => panic!(rt; "no request"),
     };
     let header = Header {
         flags,
         kind,
         cookie: number(cookie),
         offset: number(offset),
-        length: u32::try_from(length)?,
+        length: u32::try_from(length).expect(rt, "a length"),
     };
-    Ok(header.with(alloc, &payload)?)
+    header.with(rt, alloc, &payload)
 }
 
 /// A member takes the first message on its way from its neighbour.
-fn pass(
-    rt: &impl Abort,
-    beside: &mut Beside,
-    world: &mut Disks,
-    from: &str,
-    to: &str,
-) -> Result<(), Fail> {
+fn pass(rt: &impl Abort, beside: &mut Beside, world: &mut Disks, from: &str, to: &str) {
     let (Some(from), Some(to)) = (place_of(world, from), place_of(world, to)) else {
-        return Ok(());
+        return;
     };
-    match (to.checked_sub(from), from.checked_sub(to)) {
-        (Some(1), _) => beside.act(rt, world, to, Act::Put)?,
-        (_, Some(1)) => beside.act(rt, world, to, Act::Ack)?,
-        _ => return Ok(()),
+    let act = match (to.checked_sub(from), from.checked_sub(to)) {
+        (Some(1), _) => Act::Put,
+        (_, Some(1)) => Act::Ack,
+        _ => return,
     };
-    Ok(())
+    beside.act(rt, world, to, act);
 }
 
 /// Something is to happen at a device call to come.
-fn arm(world: &mut Disks, member: &str, call: u64, event: Event) -> Result<(), Fail> {
+fn arm(rt: &impl Abort, world: &mut Disks, member: &str, call: u64, event: Event) {
     match place_of(world, member) {
-        Some(at) if call > 0 && at < world.len() => Ok(world.arm(at, event)?),
-        _ => Ok(()),
+        Some(at) if call > 0 && at < world.len() => world.arm(at, event).expect(rt, "memory"),
+        _ => {}
     }
 }
 
-/// The member at a place does what a word tells it.
+/// A member does what a word tells it.
 fn play_act(
     rt: &impl Abort,
     beside: &mut Beside,
     world: &mut Disks,
-    at: usize,
     word: &str,
+    member: &str,
     words: &[&str],
-) -> Result<(), Fail> {
+) {
+    let Some(at) = place_of(world, member) else {
+        return;
+    };
     let act = match word {
         "take" => Act::Take,
         "number" => Act::Number,
@@ -336,47 +321,37 @@ fn play_act(
         "crew" => Act::Crew,
         _ => return play_acts(rt, beside, world, at, word),
     };
-    beside.act(rt, world, at, act)?;
-    Ok(())
+    beside.act(rt, world, at, act);
 }
 
 /// The member at a place does several steps.
-fn play_acts(
-    rt: &impl Abort,
-    beside: &mut Beside,
-    world: &mut Disks,
-    at: usize,
-    word: &str,
-) -> Result<(), Fail> {
+fn play_acts(rt: &impl Abort, beside: &mut Beside, world: &mut Disks, at: usize, word: &str) {
     match word {
-        "raise" => beside.raise(rt, world, at)?,
-        "commit" => beside.commit(rt, world, at, 1)?,
+        "raise" => beside.raise(rt, world, at),
+        "commit" => beside.commit(rt, world, at, 1),
         "front" => {
-            beside.front(rt, world, at)?;
+            beside.front(rt, world, at);
         }
         "settle" => {
-            beside.settle(rt, world, at)?;
+            beside.settle(rt, world, at);
         }
         "floor" => {
-            beside.floor(rt, world, at)?;
+            beside.floor(rt, world, at);
         }
         _ => {}
     }
-    Ok(())
 }
 
 #[test]
-fn rows_beside_the_machine(rt: HostRuntime) -> Result<(), Fail> {
+fn rows_beside_the_machine(rt: HostRuntime) {
     let mut sent = 0u64;
-    for rows in [CHAINS, CRASHES, STRAYS] {
+    for rows in &[CHAINS, CRASHES, STRAYS] {
         for row in rows.split("\n\n") {
-            if let Some(mut script) = Script::begun(rt.alloc(), row)? {
-                let played = script.play(&rt, row);
+            if let Some(mut script) = Script::begun(&rt, rt.alloc(), row) {
+                script.play(&rt, row);
                 sent = sent.saturating_add(script.end());
-                played?;
             }
         }
     }
     assert_eq!(rt; sent, ASKED, "requests that came to the machine");
-    Ok(())
 }

@@ -2,6 +2,7 @@
 ghost use Rattle.std.specs.Prelude.{◌<◌, ◌≤◌};
 
 use crate::beside::{Beside, Disks, Header, Tally};
+use crate::tests::same_at;
 use disk_model::{Cut, MemDisk};
 use flush_barrier::SessionId;
 use life::{Act, Step};
@@ -9,7 +10,6 @@ use nbd_codec::constants::{FLAG_FUA, REQUEST_DISC, REQUEST_FLUSH, REQUEST_READ, 
 use std::alloc::Global;
 use std::mem;
 use std::process::Abort;
-use std::test::Fail;
 use volume::{BLOCK_SIZE, Geometry, least_area};
 
 /// The blocks of the volume.
@@ -115,12 +115,12 @@ impl Chance {
     }
 
     /// So many bytes.
-    fn bytes(&mut self, alloc: Global, len: u32) -> Result<Vec<u8>, Fail> {
+    fn bytes(&mut self, rt: &impl Abort, alloc: Global, len: u32) -> Vec<u8> {
         let mut bytes = Vec::new(alloc);
         for _ in 0..len {
-            bytes.push((self.number() >> 56) as u8)?;
+            bytes.push((self.number() >> 56) as u8).expect(rt, "memory");
         }
-        Ok(bytes)
+        bytes
     }
 }
 
@@ -151,25 +151,21 @@ impl Play {
     }
 
     /// Clients come, each at some member.
-    fn connect(
-        &mut self,
-        rt: &impl Abort,
-        beside: &mut Beside,
-        world: &mut Disks,
-    ) -> Result<(), Fail> {
+    fn connect(&mut self, rt: &impl Abort, beside: &mut Beside, world: &mut Disks) {
         self.senders.clear();
         for number in 0..CLIENTS {
             let session = SessionId(number);
             let at = self.chance.place(world.len());
-            beside.negotiate(rt, world, session, at)?;
+            beside.negotiate(rt, world, session, at);
             let rest = Vec::new(self.alloc);
-            self.senders.push(Sender { session, rest })?;
+            self.senders
+                .push(Sender { session, rest })
+                .expect(rt, "memory");
         }
-        Ok(())
     }
 
     /// A request.
-    fn request(&mut self) -> Result<Vec<u8>, Fail> {
+    fn request(&mut self, rt: &impl Abort) -> Vec<u8> {
         self.cookie = self.cookie.saturating_add(1);
         let (flags, kind) = match self.chance.below(8) {
             0 => (0, REQUEST_FLUSH),
@@ -193,27 +189,22 @@ impl Play {
             length: if is_flush { 0 } else { length },
         };
         let payload = if kind == REQUEST_WRITE { length } else { 0 };
-        let payload = self.chance.bytes(self.alloc, payload)?;
-        Ok(header.with(self.alloc, &payload)?)
+        let payload = self.chance.bytes(rt, self.alloc, payload);
+        header.with(rt, self.alloc, &payload)
     }
 
     /// A client sends a piece of a request: the rest of it, or less. What its session answers by itself goes out, or waits.
-    fn send(
-        &mut self,
-        rt: &impl Abort,
-        beside: &mut Beside,
-        world: &mut Disks,
-    ) -> Result<(), Fail> {
+    fn send(&mut self, rt: &impl Abort, beside: &mut Beside, world: &mut Disks) {
         let place = self.chance.place(self.senders.len());
         let is_idle = self
             .senders
             .get(place)
             .is_some_and(|sender| sender.rest.is_empty());
         if is_idle && beside.owed() >= MOST_OWED {
-            return Ok(());
+            return;
         }
         let fresh = if is_idle {
-            self.request()?
+            self.request(rt)
         } else {
             Vec::new(self.alloc)
         };
@@ -223,144 +214,103 @@ impl Play {
             self.chance.place(LONGEST_PIECE)
         };
         let Some(sender) = self.senders.get_mut(place) else {
-            return Ok(());
+            return;
         };
-        sender.rest.extend_from_slice(&fresh)?;
+        sender.rest.extend_from_slice(&fresh).expect(rt, "memory");
         let count = sender.rest.len().min(most);
-        let piece = Vec::from_slice(self.alloc, &sender.rest[..count])?;
-        sender.rest = Vec::from_slice(self.alloc, &sender.rest[count..])?;
+        let piece = Vec::from_slice(self.alloc, &sender.rest[..count]).expect(rt, "memory");
+        sender.rest = Vec::from_slice(self.alloc, &sender.rest[count..]).expect(rt, "memory");
         let session = sender.session;
-        beside.bytes(rt, world, session, piece)?;
+        beside.bytes(rt, world, session, piece);
         if self.chance.is_one_of(2) {
-            beside.play(rt, world, &Step::HandOut { session })?;
+            beside.play(rt, world, &Step::HandOut { session });
         }
-        Ok(())
     }
 
     /// A step, or a few.
-    fn step(
-        &mut self,
-        rt: &impl Abort,
-        beside: &mut Beside,
-        world: &mut Disks,
-    ) -> Result<(), Fail> {
+    fn step(&mut self, rt: &impl Abort, beside: &mut Beside, world: &mut Disks) {
         let at = self.chance.place(world.len());
         match self.chance.below(32) {
             0..=5 => self.send(rt, beside, world),
-            6 => Ok(beside.commit(rt, world, at, 2)?),
+            6 => beside.commit(rt, world, at, 2),
             7 => {
-                beside.floor(rt, world, at)?;
-                Ok(())
+                beside.floor(rt, world, at);
             }
             _ => {
                 let act = self.chance.place(ACTS.len());
                 let act = ACTS.get(act).copied().unwrap_or(Act::Take);
-                beside.act(rt, world, at, act)?;
-                Ok(())
+                beside.act(rt, world, at, act);
             }
         }
     }
 
     /// So many steps.
-    fn steps(
-        &mut self,
-        rt: &impl Abort,
-        beside: &mut Beside,
-        world: &mut Disks,
-        count: u64,
-    ) -> Result<(), Fail> {
+    fn steps(&mut self, rt: &impl Abort, beside: &mut Beside, world: &mut Disks, count: u64) {
         for _ in 0..count {
-            self.step(rt, beside, world)?;
+            self.step(rt, beside, world);
         }
-        Ok(())
     }
 
     /// Clients send the rest of their requests, and all that wait are answered, none of them with an error.
-    fn end(&mut self, rt: &impl Abort, beside: &mut Beside, world: &mut Disks) -> Result<(), Fail> {
+    fn end(&mut self, rt: &impl Abort, beside: &mut Beside, world: &mut Disks) {
         for sender in &mut self.senders {
             let piece = mem::replace(&mut sender.rest, Vec::new(self.alloc));
-            beside.bytes(rt, world, sender.session, piece)?;
+            beside.bytes(rt, world, sender.session, piece);
         }
         let refused = beside.tally().refused;
-        beside.run(rt, world)?;
-        assert_eq!(rt; beside.owed(), 0, "requests without an answer");
-        assert_eq!(rt;
-            beside.tally().refused,
-            refused,
-            "requests that were refused"
-        );
-        Ok(())
+        beside.run(rt, world);
+        same_at(rt, beside.owed(), 0, "requests without an answer");
+        same_at(rt, beside.tally().refused, refused, "refused requests");
     }
 
     /// A chain's steps until it is cut: all that was asked is answered; then more is asked, and a member may stop.
-    fn until_a_cut(
-        &mut self,
-        rt: &impl Abort,
-        beside: &mut Beside,
-        world: &mut Disks,
-        count: u64,
-    ) -> Result<(), Fail> {
-        self.connect(rt, beside, world)?;
-        self.steps(rt, beside, world, count)?;
-        self.end(rt, beside, world)?;
-        assert_eq!(rt; beside.tally().refused, 0, "requests that were refused");
-        self.steps(rt, beside, world, count / 2)?;
-        self.lose_some(rt, beside, world)?;
-        self.steps(rt, beside, world, count / 8)
+    fn until_a_cut(&mut self, rt: &impl Abort, beside: &mut Beside, world: &mut Disks, count: u64) {
+        self.connect(rt, beside, world);
+        self.steps(rt, beside, world, count);
+        self.end(rt, beside, world);
+        same_at(rt, beside.tally().refused, 0, "refused requests");
+        self.steps(rt, beside, world, count / 2);
+        self.lose_some(rt, beside, world);
+        self.steps(rt, beside, world, count / 8);
     }
 
     /// A session ends, another is left by its client, and a member may stop.
-    fn lose_some(
-        &mut self,
-        rt: &impl Abort,
-        beside: &mut Beside,
-        world: &mut Disks,
-    ) -> Result<(), Fail> {
+    fn lose_some(&mut self, rt: &impl Abort, beside: &mut Beside, world: &mut Disks) {
         let session = SessionId(self.chance.below(CLIENTS));
-        beside.play(rt, world, &Step::End { session })?;
+        beside.play(rt, world, &Step::End { session });
         let session = SessionId(self.chance.below(CLIENTS));
-        let piece = DISC.with(self.alloc, &[])?;
-        beside.bytes(rt, world, session, piece)?;
+        let piece = DISC.with(rt, self.alloc, &[]);
+        beside.bytes(rt, world, session, piece);
         if self.chance.is_one_of(2) {
             let at = self.chance.place(world.len());
-            beside.act(rt, world, at, Act::Stop)?;
+            beside.act(rt, world, at, Act::Stop);
         }
-        Ok(())
     }
 
     /// The steps of a chain of one that goes on after a cut, as the machine does from its front. At the end all that was asked may be
     /// answered.
-    fn after_a_cut(
-        &mut self,
-        rt: &impl Abort,
-        beside: &mut Beside,
-        world: &mut Disks,
-        ends: bool,
-    ) -> Result<(), Fail> {
+    fn after_a_cut(&mut self, rt: &impl Abort, beside: &mut Beside, world: &mut Disks, ends: bool) {
         let front = if world.len() > 0 { world.durable(0) } else { 0 };
-        beside.go_on_from(rt, front)?;
-        self.connect(rt, beside, world)?;
+        beside.go_on_from(rt, front);
+        self.connect(rt, beside, world);
         let count = self.chance.below(STEPS);
-        self.steps(rt, beside, world, count)?;
+        self.steps(rt, beside, world, count);
         if ends {
-            self.end(rt, beside, world)?;
+            self.end(rt, beside, world);
         }
-        Ok(())
     }
 
     /// All stops: what is left of one of the disks.
-    fn disk_left(&mut self, world: Disks) -> Result<MemDisk, Fail> {
+    fn disk_left(&mut self, rt: &impl Abort, world: Disks) -> MemDisk {
         let cut = if self.chance.is_one_of(2) {
             Cut::All
         } else {
             Cut::None
         };
-        let mut disks = life::cut(self.alloc, world, cut)?;
+        let mut disks = life::cut(self.alloc, world, cut).expect(rt, "memory");
         let at = self.chance.place(disks.len());
-        if at >= disks.len() {
-            return Err(Fail::from("no disk is left"));
-        }
-        Ok(disks.swap_remove(at))
+        assert!(rt; at < disks.len(), "no disk is left");
+        disks.swap_remove(at)
     }
 
     /// A chain of so many members until it is cut: a disk that is left.
@@ -370,19 +320,14 @@ impl Play {
         beside: &mut Beside,
         geometry: Geometry,
         members: u8,
-    ) -> Result<MemDisk, Fail>
+    ) -> MemDisk
         requires some { 0 < members }
         requires few { members ≤ 8 }
     {
-        let mut world = life::begin(self.alloc, geometry, members)?;
+        let mut world = life::begin(self.alloc, geometry, members).expect(rt, "memory");
         let count = STEPS * u64::from(members);
-        match self.until_a_cut(rt, beside, &mut world, count) {
-            Ok(()) => self.disk_left(world),
-            Err(fail) => {
-                let _stores = world.abandon();
-                Err(fail)
-            }
-        }
+        self.until_a_cut(rt, beside, &mut world, count);
+        self.disk_left(rt, world)
     }
 
     /// A chain of one goes on from a disk until it is cut: what is left of the disk.
@@ -392,32 +337,28 @@ impl Play {
         beside: &mut Beside,
         disk: MemDisk,
         ends: bool,
-    ) -> Result<MemDisk, Fail> {
-        let mut world = match life::recover(self.alloc, disk) {
-            Ok(world) => world,
-            Err(refused) => return Err(Fail::from(refused.refusal)),
-        };
-        match self.after_a_cut(rt, beside, &mut world, ends) {
-            Ok(()) => self.disk_left(world),
-            Err(fail) => {
-                let _stores = world.abandon();
-                Err(fail)
+    ) -> MemDisk {
+        match life::recover(self.alloc, disk) {
+            Ok(mut world) => {
+                self.after_a_cut(rt, beside, &mut world, ends);
+                self.disk_left(rt, world)
             }
+            Err(refused) => panic!(rt; "{}", refused.refusal),
         }
     }
 }
 
 /// A chain of so many members, and then one of its members alone, from one cut to the next, beside the machine.
-fn lives(rt: &impl Abort, alloc: Global, members: u8, seed: u64) -> Result<(), Fail>
+fn lives(rt: &impl Abort, alloc: Global, members: u8, seed: u64)
     requires some { 0 < members }
     requires few { members ≤ 8 }
 {
-    let geometry = Geometry::new(BLOCKS, least_area(PAYLOAD), PAYLOAD)?;
-    let mut beside = Beside::new(alloc, geometry, members)?;
+    let geometry = Geometry::new(BLOCKS, least_area(PAYLOAD), PAYLOAD).expect(rt, "a geometry");
+    let mut beside = Beside::new(rt, alloc, geometry, members);
     let mut play = Play::new(alloc, seed);
-    let mut disk = play.chain(rt, &mut beside, geometry, members)?;
+    let mut disk = play.chain(rt, &mut beside, geometry, members);
     for cut in 1..=CUTS {
-        disk = play.alone(rt, &mut beside, disk, cut == CUTS)?;
+        disk = play.alone(rt, &mut beside, disk, cut == CUTS);
     }
     let Tally {
         sent: _,
@@ -432,27 +373,25 @@ fn lives(rt: &impl Abort, alloc: Global, members: u8, seed: u64) -> Result<(), F
         each >= LEAST,
         "{members} members: a kind of requests is answered {each} times"
     );
-    Ok(())
 }
 
 /// The chains whose seeds begin a table.
-fn all_live(rt: &impl Abort, alloc: Global, chains: &[(u8, u64)]) -> Result<(), Fail> {
+fn all_live(rt: &impl Abort, alloc: Global, chains: &[(u8, u64)]) {
     for (members, seed) in chains {
         if *members > 0 && *members <= 8 {
-            lives(rt, alloc, *members, *seed)?;
+            lives(rt, alloc, *members, *seed);
         }
     }
-    Ok(())
 }
 
 #[test]
-fn short_chains(rt: HostRuntime) -> Result<(), Fail> {
+fn short_chains(rt: HostRuntime) {
     let chains = [(1, 314_159), (2, 265_358), (3, 979_323), (4, 846_264)];
-    all_live(&rt, rt.alloc(), &chains)
+    all_live(&rt, rt.alloc(), &chains);
 }
 
 #[test]
-fn long_chains(rt: HostRuntime) -> Result<(), Fail> {
+fn long_chains(rt: HostRuntime) {
     let chains = [(5, 338_327), (6, 950_288), (7, 419_716), (8, 939_937)];
-    all_live(&rt, rt.alloc(), &chains)
+    all_live(&rt, rt.alloc(), &chains);
 }

@@ -5,11 +5,10 @@ use std::alloc::Global;
 use std::fs::{self, File, Files};
 use std::io::{Read, Write};
 use std::net::{Ipv4Addr, Net, TcpListener, TcpStream};
-use std::process;
+use std::process::{self, Abort};
 use std::rt::Clock;
 use std::string::String;
 use std::sync::Wait;
-use std::test::Fail;
 use std::thread::{self, Threads};
 use std::time::Duration;
 
@@ -38,28 +37,29 @@ const FIRST_READ: Exchange = (
 );
 
 /// A connection to a server that is about to listen at the port.
-fn connect<R: Net<Listener = TcpListener, Stream = TcpStream> + Clock>(
+fn connect<R: Net<Listener = TcpListener, Stream = TcpStream> + Clock + Abort>(
     rt: &R,
     port: u16,
-) -> Result<TcpStream, Fail> {
+) -> TcpStream {
     for _ in 0..2_000 {
         if let Ok(stream) = TcpStream::connect(rt, (Ipv4Addr::LOCALHOST, port)) {
-            return Ok(stream);
+            return stream;
         }
         thread::sleep(rt, Duration::from_millis(5));
     }
-    Err(Fail::from("nobody listens"))
+    panic!(rt; "nobody listens")
 }
 
 /// The client sends these bytes, and gets those.
-fn exchange(alloc: Global, stream: &TcpStream, exchange: Exchange) -> Result<bool, Fail> {
+fn exchange(rt: &impl Abort, alloc: Global, stream: &TcpStream, exchange: Exchange) -> bool {
     let (sent, wanted) = exchange;
     let (mut to, mut from) = (stream, stream);
-    to.write_all(&hex::decode(alloc, sent)?)?;
-    let wanted = hex::decode(alloc, wanted)?;
-    let mut got = vec![in alloc; 0; wanted.len()]?;
-    from.read_exact(&mut got)?;
-    Ok(got.as_slice() == wanted.as_slice())
+    let sent = hex::decode(alloc, sent).expect(rt, "digits");
+    to.write_all(&sent).expect(rt, "a server that reads");
+    let wanted = hex::decode(alloc, wanted).expect(rt, "digits");
+    let mut got = vec![in alloc; 0; wanted.len()].expect(rt, "memory");
+    from.read_exact(&mut got).expect(rt, "a server that writes");
+    got.as_slice() == wanted.as_slice()
 }
 
 /// The program serves one session of the folder: its status.
@@ -92,32 +92,56 @@ where
 }
 
 /// A port that nobody listens at.
-fn free_port<R: Net<Listener = TcpListener, Stream = TcpStream>>(rt: &R) -> Result<u16, Fail> {
-    let free = TcpListener::bind(rt, (Ipv4Addr::LOCALHOST, 0))?;
-    Ok(free.local_addr()?.port())
+fn free_port<R: Net<Listener = TcpListener, Stream = TcpStream> + Abort>(rt: &R) -> u16 {
+    let free = TcpListener::bind(rt, (Ipv4Addr::LOCALHOST, 0)).expect(rt, "a free port");
+    free.local_addr().expect(rt, "an address").port()
 }
 
 /// A client of the server at the port negotiates, and then sends and gets this: whether it got it.
-fn talk<R: Net<Listener = TcpListener, Stream = TcpStream> + Clock + AllocGlobal>(
+fn talk<R: Net<Listener = TcpListener, Stream = TcpStream> + Clock + AllocGlobal + Abort>(
     rt: &R,
     port: u16,
     last: Exchange,
-) -> Result<bool, Fail> {
+) -> bool {
     let alloc = rt.alloc();
-    let stream = connect(rt, port)?;
+    let stream = connect(rt, port);
     let mut right = true;
-    for one in NEGOTIATION {
-        right = exchange(alloc, &stream, one)? && right;
+    for one in &NEGOTIATION {
+        right = exchange(rt, alloc, &stream, *one) && right;
     }
-    Ok(exchange(alloc, &stream, last)? && right)
+    exchange(rt, alloc, &stream, last) && right
+}
+
+/// The program serves one session of the folder, whose client sends and gets this.
+fn serves<R>(rt: R, dir: &String, last: Exchange)
+where
+    R: Files<File = File>
+        + Net<Listener = TcpListener, Stream = TcpStream>
+        + AllocGlobal
+        + Threads
+        + Wait
+        + Clock
+        + Log
+        + Abort
+        + Copy
+        + Send
+        + 'static,
+{
+    let (port, dir) = (free_port(&rt), dir.clone().expect(&rt, "memory"));
+    let server = thread::spawn(&rt, move || serve_once(&rt, &dir, port)).expect(&rt, "a thread");
+    let right = talk(&rt, port, last);
+    assert!(rt; server.join(&rt) == 0 && right);
 }
 
 #[test]
-fn formatted_and_served(rt: HostRuntime) -> Result<(), Fail> {
-    let alloc = rt.alloc();
-    let dir = format!(in alloc; "/tmp/nbdchain.{}", process::id(rt.process()))?;
-    fs::create_dir(&rt, dir.as_str())?;
-    let sizes = [
+fn formatted_and_served(rt: HostRuntime) {
+    let id = process::id(rt.process());
+    let dir = format!(in rt.alloc(); "/tmp/nbdchain.{id}").expect(&rt, "memory");
+    fs::create_dir(&rt, dir.as_str()).expect(&rt, "a new folder");
+    let words = [
+        "nbdchain",
+        "format",
+        dir.as_str(),
         "--blocks",
         "8",
         "--max-payload",
@@ -127,18 +151,9 @@ fn formatted_and_served(rt: HostRuntime) -> Result<(), Fail> {
         "--members",
         "1",
     ];
-    let mut words = Vec::from_slice(alloc, &["nbdchain", "format", dir.as_str()])?;
-    words.extend_from_slice(&sizes)?;
     let formatted = run_words(&rt, &words);
     assert_eq!(rt; shown(&formatted.output), "formatted 1 members, 8 blocks\n");
-    let (port, first_dir) = (free_port(&rt)?, dir.clone()?);
-    let first = thread::spawn(&rt, move || serve_once(&rt, &first_dir, port))?;
-    let wrote = talk(&rt, port, FIRST_WRITE)?;
-    assert!(rt; first.join(&rt) == 0 && wrote);
-    let (port, second_dir) = (free_port(&rt)?, dir.clone()?);
-    let second = thread::spawn(&rt, move || serve_once(&rt, &second_dir, port))?;
-    let read = talk(&rt, port, FIRST_READ)?;
-    assert!(rt; second.join(&rt) == 0 && read);
-    fs::remove_dir_all(&rt, dir.as_str())?;
-    Ok(())
+    serves(rt, &dir, FIRST_WRITE);
+    serves(rt, &dir, FIRST_READ);
+    fs::remove_dir_all(&rt, dir.as_str()).expect(&rt, "a folder to remove");
 }

@@ -1,10 +1,11 @@
 //! What sessions are sent, in whatever pieces their clients' bytes come.
-use crate::tests::{played, shown};
+use crate::beside::Disks;
+use crate::tests::{played, same_at, shown};
 use flush_barrier::SessionId;
 use life::{Act, Answer, Step};
 use simulator::NEGOTIATION;
-use std::alloc::{AllocError, Global};
-use std::test::Fail;
+use std::alloc::Global;
+use std::process::Abort;
 use volume::{Geometry, least_area};
 
 const GREETING: &str = "4e42444d41474943 49484156454f5054 0003";
@@ -93,83 +94,115 @@ const ROWS: [SessionRow; 12] = [
 ];
 
 /// The digits of words.
-fn digits(alloc: Global, words: &str) -> Result<Vec<u8>, Fail> {
+fn digits(rt: &impl Abort, alloc: Global, words: &str) -> Vec<u8> {
     let mut digits = Vec::new(alloc);
     for word in words.split(' ') {
-        digits.extend_from_slice(word.as_bytes())?;
+        digits
+            .extend_from_slice(word.as_bytes())
+            .expect(rt, "memory");
     }
-    Ok(digits)
+    digits
 }
 
 /// The lines of a client's piece, if it has one, and of what the world does with it.
-fn add_piece(script: &mut Vec<u8>, piece: &[u8]) -> Result<(), Fail> {
+fn add_piece(rt: &impl Abort, script: &mut Vec<u8>, piece: &[u8]) {
     if !piece.is_empty() {
-        script.extend_from_slice(b"bytes 1 ")?;
-        script.extend_from_slice(piece)?;
-        script.extend_from_slice(b"\nrun\n")?;
+        script.extend_from_slice(b"bytes 1 ").expect(rt, "memory");
+        script.extend_from_slice(piece).expect(rt, "memory");
+        script.extend_from_slice(b"\nrun\n").expect(rt, "memory");
     }
-    Ok(())
 }
 
-/// What a session is sent whose client's pieces come so, and `closed1` where it ends.
-fn sent(alloc: Global, pieces: &[u8]) -> Result<Vec<u8>, Fail> {
-    let mut script = Vec::from_slice(alloc, b"new 1 8 4096\nconnect 1 0\n")?;
-    script.extend_from_slice(pieces)?;
-    let printed = played(alloc, &script)?;
+/// What a client does whose parts come whole, but for one, which comes in pieces of its own.
+fn script_of(
+    rt: &impl Abort,
+    alloc: Global,
+    parts: &[Vec<u8>],
+    nth: usize,
+    own: &[&[u8]],
+) -> Vec<u8> {
+    let mut script = Vec::from_slice(alloc, b"new 1 8 4096\nconnect 1 0\n").expect(rt, "memory");
+    for (place, part) in parts.iter().enumerate() {
+        if place == nth {
+            for piece in own {
+                add_piece(rt, &mut script, piece);
+            }
+        } else {
+            add_piece(rt, &mut script, part);
+        }
+    }
+    script
+}
+
+/// What the session of a script is sent, and `closed1` where it ends.
+fn sent(rt: &impl Abort, alloc: Global, script: &[u8]) -> Vec<u8> {
+    let printed = played(rt, alloc, script);
     let mut sent = Vec::new(alloc);
     for line in shown(&printed).lines() {
         if line != "refused 201" {
             let text = line.strip_prefix("out 1 ").unwrap_or(line);
-            sent.extend_from_slice(&digits(alloc, text)?)?;
+            sent.extend_from_slice(&digits(rt, alloc, text))
+                .expect(rt, "memory");
         }
     }
-    Ok(sent)
+    sent
 }
 
-/// The pieces of a client whose parts come whole, but for one, which comes in pieces of its own.
-fn pieces_of(alloc: Global, parts: &[Vec<u8>], nth: usize, own: &[&[u8]]) -> Result<Vec<u8>, Fail> {
-    let mut pieces = Vec::new(alloc);
-    for (place, part) in parts.iter().enumerate() {
-        if place == nth {
-            for piece in own {
-                add_piece(&mut pieces, piece)?;
-            }
-        } else {
-            add_piece(&mut pieces, part)?;
-        }
+/// The digits of a client's parts.
+fn parts_of(rt: &impl Abort, alloc: Global, row: &SessionRow) -> Vec<Vec<u8>> {
+    let mut parts = Vec::new(alloc);
+    for part in row.parts {
+        parts.push(digits(rt, alloc, part)).expect(rt, "memory");
     }
-    Ok(pieces)
+    parts
+}
+
+/// The digits of what a session is sent.
+fn wanted_of(rt: &impl Abort, alloc: Global, row: &SessionRow) -> Vec<u8> {
+    let mut wanted = digits(rt, alloc, GREETING);
+    wanted
+        .extend_from_slice(&digits(rt, alloc, row.output))
+        .expect(rt, "memory");
+    wanted
+}
+
+/// A client's session is sent what is wanted where the part at a place comes byte by byte, or is cut in two.
+fn comes_in_pieces(
+    rt: &impl Abort,
+    alloc: Global,
+    row: &SessionRow,
+    parts: &[Vec<u8>],
+    nth: usize,
+    part: &[u8],
+) {
+    let wanted = wanted_of(rt, alloc, row);
+    let bytes: Vec<&[u8]> = part.chunks(2).collect(alloc).expect(rt, "memory");
+    let single = sent(rt, alloc, &script_of(rt, alloc, parts, nth, &bytes));
+    same_at(
+        rt,
+        shown(&single),
+        shown(&wanted),
+        (row.name, "byte by byte"),
+    );
+    for at in (0..part.len()).step_by(2) {
+        let (front, back) = part.split_at(at);
+        let cut = sent(rt, alloc, &script_of(rt, alloc, parts, nth, &[front, back]));
+        same_at(rt, shown(&cut), shown(&wanted), (row.name, at));
+    }
 }
 
 #[test]
-fn sessions_in_any_pieces(rt: HostRuntime) -> Result<(), Fail> {
+fn sessions_in_any_pieces(rt: HostRuntime) {
     let alloc = rt.alloc();
     for row in &ROWS {
-        let mut parts = Vec::new(alloc);
-        for part in row.parts {
-            parts.push(digits(alloc, part)?)?;
-        }
-        let mut wanted = digits(alloc, GREETING)?;
-        wanted.extend_from_slice(&digits(alloc, row.output)?)?;
-        let whole = sent(alloc, &pieces_of(alloc, &parts, parts.len(), &[])?)?;
-        assert_eq!(rt; shown(&whole), shown(&wanted), "{}", row.name);
+        let parts = parts_of(&rt, alloc, row);
+        let wanted = wanted_of(&rt, alloc, row);
+        let whole = sent(&rt, alloc, &script_of(&rt, alloc, &parts, parts.len(), &[]));
+        same_at(&rt, shown(&whole), shown(&wanted), row.name);
         for (nth, part) in parts.iter().enumerate() {
-            let single: Vec<&[u8]> = part.chunks(2).collect(alloc)?;
-            let single = sent(alloc, &pieces_of(alloc, &parts, nth, &single)?)?;
-            assert_eq!(rt;
-                shown(&single),
-                shown(&wanted),
-                "{}, byte by byte",
-                row.name
-            );
-            for at in (0..part.len()).step_by(2) {
-                let (front, back) = part.split_at(at);
-                let cut = sent(alloc, &pieces_of(alloc, &parts, nth, &[front, back])?)?;
-                assert_eq!(rt; shown(&cut), shown(&wanted), "{}, cut at {at}", row.name);
-            }
+            comes_in_pieces(&rt, alloc, row, &parts, nth, part);
         }
     }
-    Ok(())
 }
 
 /// A WRITE with FUA of `ABC` at 4,095, with cookie 1.
@@ -179,11 +212,11 @@ const FIRST_WRITE: [u8; 31] = [
 ];
 
 /// A session that negotiates, sends these bytes, and ends; and the member takes what it demands.
-fn session_of(alloc: Global, bytes: &[u8]) -> Result<Vec<Step>, AllocError> {
+fn session_of(rt: &impl Abort, alloc: Global, bytes: &[u8]) -> Vec<Step> {
     let session = SessionId(1);
-    let hello = Vec::from_slice(alloc, &NEGOTIATION)?;
-    let piece = Vec::from_slice(alloc, bytes)?;
-    Ok(vec![in alloc;
+    let hello = Vec::from_slice(alloc, &NEGOTIATION).expect(rt, "memory");
+    let piece = Vec::from_slice(alloc, bytes).expect(rt, "memory");
+    vec![in alloc;
         Step::Connect { session, at: 0 },
         Step::Bytes {
             session,
@@ -197,21 +230,28 @@ fn session_of(alloc: Global, bytes: &[u8]) -> Result<Vec<Step>, AllocError> {
             at: 0,
             act: Act::Take
         },
-    ]?)
+    ]
+    .expect(rt, "memory")
+}
+
+/// Plays steps: what became of the last but one, and of the last.
+fn last_two(alloc: Global, world: &mut Disks, steps: &[Step]) -> (Answer, Answer) {
+    let (mut last, mut before) = (Answer::Skipped, Answer::Skipped);
+    for step in steps {
+        before = last;
+        last = life::play(alloc, world, step);
+    }
+    (before, last)
 }
 
 #[test]
-fn cut_requests(rt: HostRuntime) -> Result<(), Fail> {
+fn cut_requests(rt: HostRuntime) {
     let alloc = rt.alloc();
-    let geometry = Geometry::new(8, least_area(4_096), 4_096)?;
+    let geometry = Geometry::new(8, least_area(4_096), 4_096).expect(&rt, "a geometry");
     for cut in 1..FIRST_WRITE.len() {
-        let steps = session_of(alloc, &FIRST_WRITE[..cut])?;
-        let mut world = life::begin(alloc, geometry, 1)?;
-        let (mut last, mut before) = (Answer::Skipped, Answer::Skipped);
-        for step in &steps {
-            before = last;
-            last = life::play(alloc, &mut world, step);
-        }
+        let steps = session_of(&rt, alloc, &FIRST_WRITE[..cut]);
+        let mut world = life::begin(alloc, geometry, 1).expect(&rt, "memory");
+        let (before, last) = last_two(alloc, &mut world, &steps);
         let front = world.front();
         let _stores = world.abandon();
         let is_silent = match before {
@@ -222,7 +262,6 @@ fn cut_requests(rt: HostRuntime) -> Result<(), Fail> {
             is_silent && matches!(last, Answer::Skipped),
             "cut at {cut}"
         );
-        assert_eq!(rt; front, 0, "cut at {cut}");
+        same_at(&rt, front, 0, cut);
     }
-    Ok(())
 }

@@ -4,57 +4,64 @@ use crate::crash_rows::CRASHES;
 use crate::stray_rows::STRAYS;
 use simulator::Sim;
 use std::alloc::Global;
+use std::fmt::Debug;
 use std::process::Abort;
 use std::str;
-use std::test::Fail;
 
 /// Bytes that are text.
 pub(crate) fn shown(bytes: &[u8]) -> &str {
     str::from_utf8(bytes).unwrap_or("no text")
 }
 
+/// Both are the same, in one of several cases; else the test ends, and tells both and the case.
+pub(crate) fn same_at<T: PartialEq + Debug + Drop, A: Debug + Drop>(
+    rt: &impl Abort,
+    found: T,
+    wanted: T,
+    at: A,
+) {
+    assert_eq!(rt; found, wanted, "at {at:?}");
+}
+
 /// What a script prints, and behind it why the program ends early.
-pub(crate) fn played(alloc: Global, script: &[u8]) -> Result<Vec<u8>, Fail> {
+pub(crate) fn played(rt: &impl Abort, alloc: Global, script: &[u8]) -> Vec<u8> {
     let mut reader = script;
     let mut printed = Vec::new(alloc);
     if let Err(refusal) = sim_on(alloc, &mut reader, &mut printed) {
-        writeln!(printed, "nbdchain: {refusal}")?;
+        writeln!(printed, "nbdchain: {refusal}").expect(rt, "memory");
     }
-    Ok(printed)
+    printed
 }
 
 /// Plays a script, and sees that each command prints the lines behind it.
-fn replay(rt: &impl Abort, alloc: Global, sim: &mut Sim, row: &str) -> Result<(), Fail> {
+fn replay(rt: &impl Abort, alloc: Global, sim: &mut Sim, row: &str) {
     let (mut printed, mut wanted) = (Vec::new(alloc), Vec::new(alloc));
     let mut number = 0;
     for line in row.lines() {
         if let Some(text) = line.strip_prefix("> ") {
-            writeln!(wanted, "{text}")?;
+            writeln!(wanted, "{text}").expect(rt, "memory");
             continue;
         }
-        assert_eq!(rt; shown(&printed), shown(&wanted), "before {line} of {row}");
+        same_at(rt, shown(&printed), shown(&wanted), (line, row));
         if number < u64::MAX {
             number += 1;
         }
         if let Err(refusal) = sim.play_line(number, line.as_bytes(), &mut printed) {
-            writeln!(printed, "nbdchain: {refusal}")?;
+            writeln!(printed, "nbdchain: {refusal}").expect(rt, "memory");
         }
     }
-    assert_eq!(rt; shown(&printed), shown(&wanted), "{row}");
-    Ok(())
+    same_at(rt, shown(&printed), shown(&wanted), row);
 }
 
 #[test]
-fn rows(rt: HostRuntime) -> Result<(), Fail> {
-    for rows in [CHAINS, CRASHES, STRAYS] {
+fn rows(rt: HostRuntime) {
+    for rows in &[CHAINS, CRASHES, STRAYS] {
         for row in rows.split("\n\n") {
             let mut sim = Sim::new(rt.alloc());
-            let replayed = replay(&rt, rt.alloc(), &mut sim, row);
+            replay(&rt, rt.alloc(), &mut sim, row);
             sim.end();
-            replayed?;
         }
     }
-    Ok(())
 }
 
 /// Lines that are no command, or none yet.
@@ -98,20 +105,20 @@ const BAD_LINES: [&str; 36] = [
 ];
 
 #[test]
-fn bad_lines(rt: HostRuntime) -> Result<(), Fail> {
+fn bad_lines(rt: HostRuntime) {
     let alloc = rt.alloc();
-    for line in BAD_LINES {
-        let script = format!(in alloc; "new 1 8 4096\ntake 00\n{line}\nstate\n")?;
-        let printed = played(alloc, script.as_bytes())?;
-        assert_eq!(rt;
+    for line in &BAD_LINES {
+        let script = format!(in alloc; "new 1 8 4096\ntake 00\n{line}\nstate\n");
+        let printed = played(&rt, alloc, script.expect(&rt, "memory").as_bytes());
+        same_at(
+            &rt,
             shown(&printed),
             "nbdchain: 301 BadScript line 3\n",
-            "{line}"
+            *line,
         );
     }
-    let printed = played(alloc, b"# \xff\nnew 1 8 4096\nrun \xff\n")?;
-    assert_eq!(rt; shown(&printed), "nbdchain: 104 FileFault\n");
-    Ok(())
+    let printed = played(&rt, alloc, b"# \xff\nnew 1 8 4096\nrun \xff\n");
+    same_at(&rt, shown(&printed), "nbdchain: 104 FileFault\n", "no text");
 }
 
 /// What became of the program with some words and an empty input.
@@ -228,25 +235,19 @@ const BAD_WORDS: [&[&str]; 6] = [
 ];
 
 #[test]
-fn words(rt: HostRuntime) -> Result<(), Fail> {
+fn words(rt: HostRuntime) {
     for row in &WORDS_ROWS {
-        let Ran {
-            status,
-            output,
-            errors,
-        } = run_words(&rt, row.words);
-        assert_eq!(rt; status, row.status, "{:?}", row.words);
-        assert_eq!(rt; shown(&errors), row.errors, "{:?}", row.words);
-        assert_eq!(rt; shown(&output), row.output, "{:?}", row.words);
+        let ran = run_words(&rt, row.words);
+        same_at(&rt, ran.status, row.status, row.words);
+        same_at(&rt, shown(&ran.errors), row.errors, row.words);
+        same_at(&rt, shown(&ran.output), row.output, row.words);
     }
-    for words in BAD_WORDS {
-        let Ran {
-            status,
-            output,
-            errors,
-        } = run_words(&rt, words);
-        assert_eq!(rt; status, 2, "{words:?}");
-        assert!(rt; output.is_empty() && !errors.is_empty(), "{words:?}");
+    for words in &BAD_WORDS {
+        let ran = run_words(&rt, words);
+        same_at(&rt, ran.status, 2, *words);
+        assert!(rt;
+            ran.output.is_empty() && !ran.errors.is_empty(),
+            "{words:?}"
+        );
     }
-    Ok(())
 }

@@ -6,9 +6,9 @@ use nbd_codec::constants::{
     MAX_IN_FLIGHT, REPLY_HEADER, REQUEST_HEADER, REQUEST_MAGIC, SIMPLE_REPLY_MAGIC,
 };
 use nbd_codec::{ClientOption, Information, Reading, read_client_flags, read_option, read_request};
-use std::alloc::{AllocError, Global};
+use std::alloc::Global;
 use std::collections::VecDeque;
-use std::test::Fail;
+use std::process::Abort;
 
 /// The numbers of a request on the wire.
 #[derive(Clone, Copy)]
@@ -22,7 +22,7 @@ pub(crate) struct Header {
 
 impl Header {
     /// The bytes of the request with this payload.
-    pub(crate) fn with(&self, alloc: Global, payload: &[u8]) -> Result<Vec<u8>, AllocError> {
+    pub(crate) fn with(&self, rt: &impl Abort, alloc: Global, payload: &[u8]) -> Vec<u8> {
         let mut header = [0; REQUEST_HEADER];
         BigEndian::write_u32(&mut header, REQUEST_MAGIC);
         BigEndian::write_u16(&mut header[4..], self.flags);
@@ -30,9 +30,9 @@ impl Header {
         BigEndian::write_u64(&mut header[8..], self.cookie);
         BigEndian::write_u64(&mut header[16..], self.offset);
         BigEndian::write_u32(&mut header[24..], self.length);
-        let mut bytes = Vec::from_slice(alloc, &header)?;
-        bytes.extend_from_slice(payload)?;
-        Ok(bytes)
+        let mut bytes = Vec::from_slice(alloc, &header).expect(rt, "memory");
+        bytes.extend_from_slice(payload).expect(rt, "memory");
+        bytes
     }
 }
 
@@ -117,26 +117,25 @@ impl Client {
     }
 
     /// Its session takes a piece. Each request that is whole then is sent to the machine.
-    pub(crate) fn send(&mut self, plain: &mut Plain, piece: &[u8]) -> Result<(), Fail> {
-        self.input.extend_from_slice(piece)?;
+    pub(crate) fn send(&mut self, rt: &impl Abort, plain: &mut Plain, piece: &[u8]) {
+        self.input.extend_from_slice(piece).expect(rt, "memory");
         for _ in 0..self.input.len() {
-            let used = self.turn(plain)?;
+            let used = self.turn(rt, plain);
             if used == 0 {
                 break;
             }
             let rest = self.input.len().min(used);
-            self.input = Vec::from_slice(self.alloc, &self.input[rest..])?;
+            self.input = Vec::from_slice(self.alloc, &self.input[rest..]).expect(rt, "memory");
         }
-        Ok(())
     }
 
     /// Does what stands at the front of the input: how many bytes that uses up.
-    fn turn(&mut self, plain: &mut Plain) -> Result<usize, Fail> {
+    fn turn(&mut self, rt: &impl Abort, plain: &mut Plain) -> usize {
         match self.phase {
-            Phase::Flags => Ok(self.take_flags()),
-            Phase::Options => Ok(self.take_option()),
-            Phase::Requests => self.take_request(plain),
-            Phase::Over => Ok(0),
+            Phase::Flags => self.take_flags(),
+            Phase::Options => self.take_option(),
+            Phase::Requests => self.take_request(rt, plain),
+            Phase::Over => 0,
         }
     }
 
@@ -163,37 +162,38 @@ impl Client {
     }
 
     /// A request.
-    fn take_request(&mut self, plain: &mut Plain) -> Result<usize, Fail> {
+    fn take_request(&mut self, rt: &impl Abort, plain: &mut Plain) -> usize {
         let (turn, used) = match read_request(&self.input, plain.max_payload()) {
-            Reading::Value(request, used) => (plain.turn(self.session, &request)?, used),
-            Reading::More => return Ok(0),
+            Reading::Value(request, used) => (plain.turn(rt, self.session, &request), used),
+            Reading::More => return 0,
             Reading::Fault(_) => (Turn::Leave, self.input.len()),
         };
-        self.turns.push_back(turn)?;
+        self.turns.push_back(turn).expect(rt, "memory");
         if matches!(turn, Turn::Leave) {
             self.phase = Phase::Over;
         }
-        Ok(used)
+        used
     }
 
     /// Its session goes on: what it asks waits behind these demands.
-    pub(crate) fn go_on(&mut self, demands: &mut VecDeque<Demanded>) -> Result<(), AllocError> {
+    pub(crate) fn go_on(&mut self, rt: &impl Abort, demands: &mut VecDeque<Demanded>) {
         for _ in 0..self.turns.len() {
             if self.in_flight >= MAX_IN_FLIGHT {
                 break;
             }
             match self.turns.pop_front() {
                 Some(Turn::Ask(demanded)) => {
-                    demands.push_back(demanded)?;
+                    demands.push_back(demanded).expect(rt, "memory");
                     self.in_flight = self.in_flight.saturating_add(1);
                 }
                 Some(Turn::Own { cookie, error }) => {
-                    self.waiting.extend_from_slice(&bare_reply(cookie, error))?;
+                    self.waiting
+                        .extend_from_slice(&bare_reply(cookie, error))
+                        .expect(rt, "memory");
                 }
                 Some(Turn::Leave) | None => {}
             }
         }
-        Ok(())
     }
 
     /// Its input has ended, and with it what its session kept.

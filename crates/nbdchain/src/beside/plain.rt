@@ -5,9 +5,8 @@ use bytes::Bytes;
 use flush_barrier::SessionId;
 use nbd_codec::constants::{ERROR_IO, ERROR_NO_MEMORY, NO_ERROR, REPLY_HEADER, SIMPLE_REPLY_MAGIC};
 use nbd_codec::{Ask, Checked, Request as Coming, check};
-use std::alloc::{AllocError, Global};
+use std::alloc::Global;
 use std::process::Abort;
-use std::test::Fail;
 use volume::{Geometry, Write};
 use world_model::{Machine, Request};
 
@@ -87,15 +86,18 @@ pub(crate) struct Plain {
 
 impl Plain {
     /// The machine of a volume of zeros.
-    pub(crate) fn new(alloc: Global, geometry: Geometry) -> Result<Plain, Fail> {
+    pub(crate) fn new(rt: &impl Abort, alloc: Global, geometry: Geometry) -> Plain {
         let size = geometry.size() as usize;
-        let mut plain = Plain {
+        let zeros = vec![in alloc; 0; size].expect(rt, "memory");
+        let mut volumes = Vec::new(alloc);
+        volumes.push(zeros).expect(rt, "memory");
+        Plain {
             alloc,
             size,
             max_payload: geometry.max_payload,
             machine: Machine::new(alloc),
             line: Vec::new(alloc),
-            volumes: Vec::new(alloc),
+            volumes,
             owed: Vec::new(alloc),
             tally: Tally {
                 sent: 0,
@@ -105,9 +107,7 @@ impl Plain {
                 reads: 0,
                 refused: 0,
             },
-        };
-        plain.volumes.push(vec![in alloc; 0; size]?)?;
-        Ok(plain)
+        }
     }
 
     /// The longest payload, in bytes.
@@ -131,46 +131,48 @@ impl Plain {
     }
 
     /// What a session does with a request that came whole. What is to be asked of the volume is sent to the machine.
-    pub(crate) fn turn(&mut self, session: SessionId, coming: &Coming) -> Result<Turn, Fail> {
+    pub(crate) fn turn(&mut self, rt: &impl Abort, session: SessionId, coming: &Coming) -> Turn {
         let cookie = coming.cookie();
         match check(coming, self.size as u64, self.max_payload) {
             Checked::Volume(ask) => {
-                let request = request_of(self.alloc, ask, payload_of(coming))?;
-                let name = self.send(session, cookie, ask, request)?;
+                let request = request_of(rt, self.alloc, ask, payload_of(coming));
+                let name = self.send(rt, session, cookie, ask, request);
                 let is_write = matches!(ask, Ask::Write { .. });
-                Ok(Turn::Ask(Demanded { name, is_write }))
+                Turn::Ask(Demanded { name, is_write })
             }
-            Checked::Done => Ok(Turn::Own {
+            Checked::Done => Turn::Own {
                 cookie,
                 error: NO_ERROR,
-            }),
-            Checked::Refused(error) => Ok(Turn::Own {
+            },
+            Checked::Refused(error) => Turn::Own {
                 cookie,
                 error: error.number(),
-            }),
-            Checked::Disconnect => Ok(Turn::Leave),
+            },
+            Checked::Disconnect => Turn::Leave,
         }
     }
 
     /// The machine is sent a request: its name.
     fn send(
         &mut self,
+        rt: &impl Abort,
         session: SessionId,
         cookie: u64,
         ask: Ask,
         request: Request,
-    ) -> Result<u64, Fail> {
+    ) -> u64 {
         let mark = self.taken();
-        let name = send(&mut self.machine, session, cookie, request)?;
-        self.owed.push(Owed {
+        let name = send(rt, &mut self.machine, session, cookie, request);
+        let owed = Owed {
             name,
             session,
             cookie,
             ask,
             mark,
-        })?;
+        };
+        self.owed.push(owed).expect(rt, "memory");
         self.tally.sent = self.tally.sent.saturating_add(1);
-        Ok(name)
+        name
     }
 
     /// How many writes the machine has taken.
@@ -179,92 +181,88 @@ impl Plain {
     }
 
     /// The head gave the next number to the write of the request of this name.
-    pub(crate) fn number(&mut self, name: u64) -> Result<(), AllocError> {
-        self.line.push(name)?;
-        Ok(())
+    pub(crate) fn number(&mut self, rt: &impl Abort, name: u64) {
+        self.line.push(name).expect(rt, "memory");
     }
 
     /// The machine takes the numbered writes up to a front, in their order.
-    pub(crate) fn take_up_to(&mut self, rt: &impl Abort, front: u64) -> Result<(), Fail> {
+    pub(crate) fn take_up_to(&mut self, rt: &impl Abort, front: u64) {
         for place in self.taken()..front as usize {
-            let Some(name) = self.line.get(place).copied() else {
-                return Err(Fail::from("a front above all numbered writes"));
-            };
-            let taken = self.machine.take(name)?;
+            let numbered = self.line.get(place).copied();
+            let name = numbered.expect(rt, "a front of numbered writes");
+            let taken = self.machine.take(name).expect(rt, "memory");
             assert!(rt; taken, "the machine doesn't take request {name}");
-            self.keep_volume()?;
+            self.keep_volume(rt);
         }
-        Ok(())
     }
 
     /// The observer reads the machine's whole volume.
-    fn keep_volume(&mut self) -> Result<(), Fail> {
+    fn keep_volume(&mut self, rt: &impl Abort) {
         let request = Request::read(0, self.size as u64);
-        let name = send(&mut self.machine, OBSERVER, 0, request)?;
+        let name = send(rt, &mut self.machine, OBSERVER, 0, request);
         let front = self.volumes.len();
-        let Some(volume) = read(&mut self.machine, self.size, name, front)? else {
-            return Err(Fail::from("the machine isn't read"));
-        };
-        self.volumes.push(volume)?;
-        Ok(())
+        let volume = read(rt, &mut self.machine, self.size, name, front);
+        let volume = volume.expect(rt, "a machine that is read");
+        self.volumes.push(volume).expect(rt, "memory");
     }
 
     /// Whether the machine can tell a session this now, of one of its requests under the cookie. If so, it does.
-    pub(crate) fn tell(&mut self, session: SessionId, heard: Heard<'_>) -> Result<bool, Fail> {
+    pub(crate) fn tell(&mut self, rt: &impl Abort, session: SessionId, heard: Heard<'_>) -> bool {
         for place in 0..self.owed.len() {
-            if self.tell_at(place, session, heard)? {
-                return Ok(true);
+            if self.tell_at(rt, place, session, heard) {
+                return true;
             }
         }
-        Ok(false)
+        false
     }
 
     /// Whether it can tell this of the request at a place among those that are owed. If so, it does, and the request is gone.
     fn tell_at(
         &mut self,
+        rt: &impl Abort,
         place: usize,
         session: SessionId,
         heard: Heard<'_>,
-    ) -> Result<bool, Fail> {
+    ) -> bool {
         let Some(owed) = self.owed.get(place).copied() else {
-            return Ok(false);
+            return false;
         };
-        if owed.session != session || owed.cookie != heard.cookie || !self.shows(owed, heard)? {
-            return Ok(false);
+        if owed.session != session || owed.cookie != heard.cookie || !self.shows(rt, owed, heard) {
+            return false;
         }
         if place < self.owed.len() {
             self.owed.remove(place);
         }
         self.tally.add(heard.error, owed.ask);
-        Ok(true)
+        true
     }
 
     /// Whether the machine can show this answer to the request. If so, it does.
-    fn shows(&mut self, owed: Owed, heard: Heard<'_>) -> Result<bool, Fail> {
+    fn shows(&mut self, rt: &impl Abort, owed: Owed, heard: Heard<'_>) -> bool {
         match (heard.error, owed.ask) {
-            (NO_ERROR, Ask::Read { length, .. }) => Ok(
-                heard.payload.len() == length as usize && self.shows_read(owed, heard.payload)?,
-            ),
-            _ if !heard.payload.is_empty() => Ok(false),
-            (NO_ERROR, Ask::Write { fua, .. }) => Ok(self.shows_written(owed.name, fua)),
-            (NO_ERROR, Ask::Flush) => Ok(self.shows_flushed(owed.name)),
-            (ERROR_IO | ERROR_NO_MEMORY, _) => Ok(self.shows_refused(owed.name)),
-            _ => Ok(false),
+            (NO_ERROR, Ask::Read { length, .. }) => {
+                heard.payload.len() == length as usize && self.shows_read(rt, owed, heard.payload)
+            }
+            _ if !heard.payload.is_empty() => false,
+            (NO_ERROR, Ask::Write { fua, .. }) => self.shows_written(owed.name, fua),
+            (NO_ERROR, Ask::Flush) => self.shows_flushed(owed.name),
+            (ERROR_IO | ERROR_NO_MEMORY, _) => self.shows_refused(owed.name),
+            _ => false,
         }
     }
 
     /// Whether it can show these bytes to a READ: at a front from the READ's mark on.
-    fn shows_read(&mut self, owed: Owed, payload: &[u8]) -> Result<bool, Fail> {
+    fn shows_read(&mut self, rt: &impl Abort, owed: Owed, payload: &[u8]) -> bool {
         let Ask::Read { offset, .. } = owed.ask else {
-            return Ok(false);
+            return false;
         };
         for front in owed.mark..self.volumes.len() {
             if self.has_at(front, offset, payload) {
-                let read = read(&mut self.machine, self.size, owed.name, front)?;
-                return Ok(read.is_some_and(|bytes| bytes.as_slice() == payload));
+                let read = read(rt, &mut self.machine, self.size, owed.name, front);
+                return read.is_some_and(|bytes| bytes.as_slice() == payload);
             }
         }
-        Ok(false)
+        false
     }
 
     /// Whether these bytes stand at an offset of the volume at a front.
@@ -317,42 +315,44 @@ impl Plain {
 
 /// The machine is sent a request: its name.
 fn send(
+    rt: &impl Abort,
     machine: &mut Machine,
     session: SessionId,
     cookie: u64,
     request: Request,
-) -> Result<u64, Fail> {
-    if machine.is_full() {
-        return Err(Fail::from("the machine is full"));
-    }
-    Ok(machine.send(session, cookie, request)?)
+) -> u64 {
+    assert!(rt; !machine.is_full(), "the machine is full");
+    machine.send(session, cookie, request).expect(rt, "memory")
 }
 
 /// The READ of this name is answered at a front: its bytes, if it may be.
 fn read(
+    rt: &impl Abort,
     machine: &mut Machine,
     size: usize,
     name: u64,
     front: usize,
-) -> Result<Option<Vec<u8>>, Fail> {
+) -> Option<Vec<u8>> {
     if machine.is_full() {
-        return Ok(None);
+        return None;
     }
-    Ok(machine.answer_read(size, name, front)?)
+    machine.answer_read(size, name, front).expect(rt, "memory")
 }
 
 /// What is asked of the machine.
-fn request_of(alloc: Global, ask: Ask, payload: &[u8]) -> Result<Request, Fail> {
+fn request_of(rt: &impl Abort, alloc: Global, ask: Ask, payload: &[u8]) -> Request {
     match ask {
-        Ask::Read { offset, length } => Ok(Request::read(offset, u64::from(length))),
+        Ask::Read { offset, length } => Request::read(offset, u64::from(length)),
         Ask::Write { offset, fua, .. } => {
-            let write = Write::new(offset, Bytes::copy_from_slice(alloc, payload)?);
+            let payload = Bytes::copy_from_slice(alloc, payload).expect(rt, "memory");
+            let write = Write::new(offset, payload);
             if fua {
-                return Ok(Request::fua(write));
+                Request::fua(write)
+            } else {
+                Request::write(write)
             }
-            Ok(Request::write(write))
         }
-        Ask::Flush => Ok(Request::flush()),
+        Ask::Flush => Request::flush(),
     }
 }
 
