@@ -105,8 +105,8 @@ fn kept_writes(rt: HostRuntime) {
     let mut number = 4;
     for kept in table.after(3) {
         same(&rt, kept.number, number);
-        number += 1;
         assert!(rt; number < 10);
+        number += 1;
     }
     same(&rt, number, 6);
 }
@@ -124,8 +124,7 @@ fn full_tables(rt: HostRuntime) {
         apply_next(&rt, &mut table, &byte),
         Err(Refusal::TableFull),
     );
-    same(&rt, table.applied(), 1_024);
-    assert!(rt; table.forgotten() <= 1);
+    assert!(rt; table.forgotten() <= 1 && table.applied() == 1_024);
     table.forget_to(1);
     same(&rt, apply_next(&rt, &mut table, &byte), Ok(()));
 
