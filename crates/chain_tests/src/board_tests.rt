@@ -60,7 +60,7 @@ fn receipt(rt: &impl Abort, alloc: Global, slot: Slot, front: u64) -> Synced {
 fn a_board_answers_its_words(rt: HostRuntime) {
     let gauges = [3, 0, 0, 0, 0, 0, 0, 0];
     let (board, mut seats) = Board::new(rt.alloc(), 3, 1, gauges, 1).expect(&rt, "memory");
-    same(&rt, seats.len(), 1);
+    assert!(rt; seats.len() == 1);
     let seat = &mut seats[0];
     same(&rt, board.look(seat).number(), 3);
     same(&rt, board.raise(seat, 5).number(), 5);
