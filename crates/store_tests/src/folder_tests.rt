@@ -42,12 +42,23 @@ fn failure<R: Files<File = File> + AllocGlobal + Abort>(rt: &R, dir: &str) -> Fa
     open(rt, dir).err().expect(rt, "a failure")
 }
 
+// The folder isn't formatted, and so it is told.
+fn not_formatted<R: Files<File = File> + AllocGlobal + Abort>(
+    rt: &R,
+    dir: &str,
+    layout: Layout,
+    text: &str,
+) {
+    let failure = format(rt, dir, layout).err().expect(rt, "a failure");
+    prints(rt, rt.alloc(), &failure, text);
+}
+
 #[test]
 fn a_folder_of_three(rt: HostRuntime) {
     let folder = new_folder(&rt, process::id(rt.process()), "three");
     let dir = folder.as_str();
     let layout = Layout::new(8, 4_096, 8_214, 3).expect(&rt, "a layout");
-    format(&rt, dir, layout).expect(&rt, "the folder is formatted");
+    assert!(rt; format(&rt, dir, layout).is_ok());
     let path = path(&rt, dir, "config.disk");
     let config = fs::read(&rt, path.as_str()).expect(&rt, "the file's bytes");
     same(&rt, config.len(), PAIR_SIZE as usize);
@@ -72,9 +83,12 @@ fn nothing_is_overwritten(rt: HostRuntime) {
     let layout = Layout::new(8, 4_096, 8_214, 2).expect(&rt, "a layout");
     let last = path(&rt, dir, "slot1.disk");
     fs::write(&rt, last.as_str(), "kept").expect(&rt, "the file is written");
-    let failure = format(&rt, dir, layout).err().expect(&rt, "a failure");
-    let text = "104 FileFault slot1.disk: entity already exists";
-    prints(&rt, rt.alloc(), &failure, text);
+    not_formatted(
+        &rt,
+        dir,
+        layout,
+        "104 FileFault slot1.disk: entity already exists",
+    );
     let mut names = 0_u8;
     for entry in fs::read_dir(&rt, dir).expect(&rt, "the folder's entries") {
         let _entry = entry.expect(&rt, "an entry");
