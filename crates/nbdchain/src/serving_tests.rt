@@ -112,27 +112,6 @@ fn talk<R: Net<Listener = TcpListener, Stream = TcpStream> + Clock + AllocGlobal
     exchange(rt, alloc, &stream, last) && right
 }
 
-/// The program serves one session of the folder, whose client sends and gets this.
-fn serves<R>(rt: R, dir: &String, last: Exchange)
-where
-    R: Files<File = File>
-        + Net<Listener = TcpListener, Stream = TcpStream>
-        + AllocGlobal
-        + Threads
-        + Wait
-        + Clock
-        + Log
-        + Abort
-        + Copy
-        + Send
-        + 'static,
-{
-    let (port, dir) = (free_port(&rt), dir.clone().expect(&rt, "memory"));
-    let server = thread::spawn(&rt, move || serve_once(&rt, &dir, port)).expect(&rt, "a thread");
-    let right = talk(&rt, port, last);
-    assert!(rt; server.join(&rt) == 0 && right);
-}
-
 #[test]
 fn formatted_and_served(rt: HostRuntime) {
     let id = process::id(rt.process());
@@ -153,7 +132,15 @@ fn formatted_and_served(rt: HostRuntime) {
     ];
     let formatted = run_words(&rt, &words);
     assert_eq!(rt; shown(&formatted.output), "formatted 1 members, 8 blocks\n");
-    serves(rt, &dir, FIRST_WRITE);
-    serves(rt, &dir, FIRST_READ);
+    let (port, first_dir) = (free_port(&rt), dir.clone().expect(&rt, "memory"));
+    let first = thread::spawn(&rt, move || serve_once(&rt, &first_dir, port));
+    let first = first.expect(&rt, "a thread");
+    let wrote = talk(&rt, port, FIRST_WRITE);
+    assert!(rt; first.join(&rt) == 0 && wrote);
+    let (port, second_dir) = (free_port(&rt), dir.clone().expect(&rt, "memory"));
+    let second = thread::spawn(&rt, move || serve_once(&rt, &second_dir, port));
+    let second = second.expect(&rt, "a thread");
+    let read = talk(&rt, port, FIRST_READ);
+    assert!(rt; second.join(&rt) == 0 && read);
     fs::remove_dir_all(&rt, dir.as_str()).expect(&rt, "a folder to remove");
 }
