@@ -22,7 +22,7 @@ use Rattle.chain_steps.specs.declared.message.Message.TheVariants.{Ack, Put, Sub
 use Rattle.chain_steps.specs.declared.found.Found.{Found}
 use Rattle.chain_steps.specs.declared.found.Found.TheVariants.{Looked, Raised}
 use Rattle.world_model.specs.Chain.{Member, StandsFor, View, hop_of, looked_by, raised_by}
-use Rattle.world_model.specs.Counting.{all_before, all_behind}
+use Rattle.world_model.specs.Counting.{all_behind}
 use Rattle.world_model.specs.Machine.{State}
 use Rattle.world_model.specs.Order.{AreFronts, Hop}
 use Rattle.world_model.specs.OrderSteps.{reaches_at}

@@ -1,5 +1,5 @@
 -- What arming a member's disk changes: what is to happen to it, and nothing else.
-use Rattle.std.specs.Prelude.{◌≡◌, List, [], ◌∷◌, ◌++◌}
+use Rattle.std.specs.Prelude.{◌≡◌, [], ◌∷◌, ◌++◌}
 use Rattle.disk_model.specs.Event.{counted_from}
 use Rattle.disk_model.specs.Memory.{calls_of, script_of}
 use Rattle.disk_model.specs.declared.memory.MemDisk.{MemDisk}

@@ -78,8 +78,9 @@ impl FileDisk {
         self.last_error
     }
 
-    // The disk that a file is, which the caller has locked.
-    pub(crate) fn new(file: File, len: u64) -> Self
+    /// The disk that an open file is, of this length: as if nothing had failed yet. The caller has taken its lock, and what is
+    /// written in it is durable.
+    pub fn new(file: File, len: u64) -> Self
         ensures len { file_len result ≡ len }
         ensures new { IsNewlyOpened result }
     {

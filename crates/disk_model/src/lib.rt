@@ -18,6 +18,3 @@ pub use file::FileDisk;
 pub use memory::MemDisk;
 pub use part::Part;
 pub use script::{Event, Script};
-
-#[cfg(test)]
-mod file_tests;

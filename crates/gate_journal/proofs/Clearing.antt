@@ -1,13 +1,13 @@
 -- How both slots of a pair are written, one after the other.
-use Rattle.std.proofs.Common.{◌≡◌, ◌⊎◌, inl, inr, ⊎_elim, ℕ, ◌+◌, ◌*◌, ◌<◌, ◌≤◌, List, [], ◌∷◌, ◌++◌, length, get_or, take, drop, replicate, false, true, None, Some, Result, Ok, Err, OnOk, refl, sym, ◌∙◌, ap, subst, arith, append_assoc}
+use Rattle.std.proofs.Common.{◌≡◌, inl, inr, ⊎_elim, ℕ, ◌+◌, ◌*◌, ◌<◌, ◌≤◌, List, [], ◌∷◌, ◌++◌, length, take, drop, replicate, false, true, None, Result, Ok, Err, OnOk, refl, sym, ◌∙◌, ap, subst, arith, append_assoc}
 use Rattle.std.proofs.lemmas.List.{length-take, length-drop, take_at, take-append-drop}
 use Rattle.byteorder.specs.Endian.{big_bytes}
-use Rattle.disk_model.specs.Disk.{Elapses, Follows, Holds, LeavesOnly, NothingNew, Only, Torn}
+use Rattle.disk_model.specs.Disk.{Elapses, Follows, Holds, LeavesOnly, NothingNew, Torn}
 use Rattle.disk_model.specs.Frames.{both, goes_on_inside, others_keep}
 use Rattle.disk_model.specs.Moments.{then_run, weaker}
 use Rattle.disk_model.specs.Part.{inside, IsApart, LeftInside, TouchesOnly}
 use Rattle.disk_model.specs.declared.part.Part.{Part}
-use Rattle.gate_journal.specs.Pair.{Entry, HasGate, HoldsSlot, IsTornIn, Uncovers, entry_encoding, slot_bytes}
+use Rattle.gate_journal.specs.Pair.{HasGate, HoldsSlot, IsTornIn, Uncovers, entry_encoding, slot_bytes}
 use Rattle.gate_journal.specs.Reading.{HoldsAt}
 use Rattle.gate_journal.proofs.Entries.{heads_apart}
 use Rattle.gate_journal.proofs.Pairs.{range_bytes}

@@ -1,5 +1,5 @@
 -- One slot of a pair: which entry its bytes hold, and what a write leaves of it.
-use Rattle.std.proofs.Common.{◌≡◌, ◌≢◌, ◌⊎◌, inl, inr, ℕ, ◌+◌, ◌^◌, ◌<◌, ◌≤◌, Bool, true, false, List, [], ◌∷◌, ◌++◌, length, get_or, take, drop, Option, Some, None, refl, sym, ◌∙◌, ap, subst, arith, append_assoc, length-append, length-drop, length-take, take-append-drop}
+use Rattle.std.proofs.Common.{◌≡◌, ◌⊎◌, inl, inr, ℕ, ◌+◌, ◌^◌, ◌<◌, ◌≤◌, Bool, true, false, List, [], ◌∷◌, ◌++◌, length, get_or, take, drop, Option, Some, None, refl, sym, ◌∙◌, ap, subst, arith, append_assoc, length-append, length-drop, take-append-drop}
 use Rattle.std.proofs.lemmas.Bool.{cases_eq}
 use Rattle.std.proofs.lemmas.List.{drop_more, length-take-le, take_at}
 use Rattle.std.specs.Option.{SomeIff}
@@ -10,7 +10,7 @@ use Rattle.gate_journal.specs.Pair.{Entry, IsEntry, HasGate, HoldsSlot, closing,
 use Rattle.gate_journal.specs.PairSlot.{entry_behind}
 use Rattle.gate_journal.specs.Reading.{HoldsAt}
 use Rattle.gate_journal.specs.declared.pair_slot.EntryHead.{EntryHead}
-use Rattle.gate_journal.proofs.Appending.{torn_behind, put_behind, torn_gate, put_gate}
+use Rattle.gate_journal.proofs.Appending.{torn_behind, put_behind, torn_gate}
 use Rattle.gate_journal.proofs.Lists.{same_halves}
 use Rattle.gate_journal.proofs.Encodings.{numbers_apart}
 use Rattle.gate_journal.proofs.Standing.{stands_before}

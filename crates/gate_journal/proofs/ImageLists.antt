@@ -1,6 +1,6 @@
 -- Images of blocks, each block once.
 use Rattle.std.proofs.Common.{◌≡◌, ◌≢◌, ℕ, suc, ◌+◌, ◌<◌, ◌≤◌, Bool, true, false, List, [], ◌∷◌, length, map, get_or, set, take, replicate, inl, inr, sym, ◌∙◌, ap, subst, arith, eqb, below_more}
-use Rattle.std.specs.Prelude.{AllPairs, Any}
+use Rattle.std.specs.Prelude.{AllPairs}
 use Rattle.std.specs.List.{IsDistinct, list_any}
 use Rattle.std.proofs.lemmas.Bool.{cases_eq, cases_lt, eqb-true, ne_eqb}
 use Rattle.std.proofs.lemmas.List.{get_or_default, get_or_past, get_or-replicate, get_or-set_other, get_or-set_same, get_or-take, length-map, length-replicate, length-set, length-take, take_more, get_or-map}

@@ -1,10 +1,10 @@
 -- What a pair is that was read.
-use Rattle.std.proofs.Common.{◌≡◌, ◌⊎◌, ⊎_elim, ℕ, ◌+◌, ◌-◌, ◌<◌, List, Option, Some, None, Bool, true, false, if◌then◌else◌, nat_lt, refl, sym, ◌∙◌, ap, subst, arith, Vec, Global}
+use Rattle.std.proofs.Common.{◌≡◌, ◌⊎◌, ⊎_elim, ℕ, ◌-◌, ◌<◌, List, Option, Some, None, Bool, true, false, if◌then◌else◌, nat_lt, refl, sym, ◌∙◌, ap, subst, arith, Vec, Global}
 use Rattle.disk_model.specs.Disk.{Only}
 use Rattle.disk_model.specs.Frames.{only_inside}
 use Rattle.disk_model.specs.Part.{inside}
 use Rattle.disk_model.specs.declared.part.Part.{Part}
-use Rattle.gate_journal.specs.Pair.{Entry, HasGate, HoldsPair, IsPayloadOf, IsSettledPair, Pair, Slots, entry_of, last_number, newer_slot, newest, next_slot, slot_bytes}
+use Rattle.gate_journal.specs.Pair.{Entry, HoldsPair, IsPayloadOf, IsSettledPair, Pair, Slots, entry_of, last_number, newer_slot, newest, next_slot, slot_bytes}
 use Rattle.gate_journal.specs.PairSlot.{IsHeadOf, entry_behind}
 use Rattle.gate_journal.specs.declared.pair_slot.Head.{Head}
 

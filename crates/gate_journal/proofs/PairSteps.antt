@@ -1,12 +1,12 @@
 -- What the two halves of a store leave of a pair.
-use Rattle.std.proofs.Common.{◌≡◌, ◌⊎◌, inl, inr, ⊎_elim, ℕ, zero, suc, ◌+◌, ◌-◌, ◌*◌, ◌<◌, ◌≤◌, Bool, true, false, List, length, Option, Some, None, if◌then◌else◌, nat_lt, refl, sym, ◌∙◌, ap, subst, arith}
+use Rattle.std.proofs.Common.{◌≡◌, ◌⊎◌, inl, inr, ⊎_elim, ℕ, ◌+◌, ◌-◌, ◌*◌, ◌<◌, ◌≤◌, Bool, true, false, List, Option, Some, None, if◌then◌else◌, nat_lt, refl, sym, ◌∙◌, ap, subst, arith}
 use Rattle.std.proofs.lemmas.Bool.Decides.{nat_tests}
 use Rattle.disk_model.specs.Disk.{LeavesOnly, Only}
 use Rattle.disk_model.specs.Frames.{only_inside, started_inside}
 use Rattle.disk_model.specs.Moments.{weaker}
-use Rattle.disk_model.specs.Part.{inside, LeftInside, TouchesOnly}
+use Rattle.disk_model.specs.Part.{inside, TouchesOnly}
 use Rattle.disk_model.specs.declared.part.Part.{Part}
-use Rattle.gate_journal.specs.Pair.{Entry, HasGate, HoldsPair, HoldsSlot, HoldsClosing, HoldsStored, IsEntry, IsSettledPair, Pair, Slots, entry_of, last_number, newer_slot, newest, next_slot, slot_bytes, stored, with_entry}
+use Rattle.gate_journal.specs.Pair.{Entry, HasGate, HoldsPair, HoldsSlot, HoldsClosing, HoldsStored, IsSettledPair, Pair, Slots, entry_of, last_number, newer_slot, newest, next_slot, slot_bytes, stored, with_entry}
 use Rattle.gate_journal.proofs.Entries.{held_open, none_behind}
 use Rattle.gate_journal.proofs.Pairs.{pair_from, pair_with, range_bytes, slot_of_pair, slots_run}
 

@@ -1,12 +1,12 @@
 -- Both slots of a pair: what they hold while one of them is written.
-use Rattle.std.proofs.Common.{◌≡◌, ◌≢◌, ◌⊎◌, inl, inr, ℕ, zero, suc, ◌+◌, ◌-◌, ◌*◌, ◌^◌, ◌<◌, ◌≤◌, Bool, true, false, List, take, drop, Option, Some, None, refl, sym, ◌∙◌, ap, subst, arith}
+use Rattle.std.proofs.Common.{◌≡◌, ◌⊎◌, inl, inr, ℕ, zero, suc, ◌+◌, ◌-◌, ◌*◌, ◌^◌, ◌<◌, ◌≤◌, List, take, drop, Option, refl, sym, ◌∙◌, ap, subst, arith}
 use Rattle.std.proofs.lemmas.List.{drop-drop, drop-take, take-take}
 use Rattle.disk_model.specs.Disk.{LeavesOnly, Only}
 use Rattle.disk_model.specs.Frames.{both, others_keep}
 use Rattle.disk_model.specs.Moments.{weaker}
 use Rattle.disk_model.specs.Part.{inside, IsApart, LeftInside, TouchesOnly}
 use Rattle.disk_model.specs.declared.part.Part.{Part}
-use Rattle.gate_journal.specs.Pair.{Entry, HasGate, HoldsPair, HoldsSlot, HoldsClosing, HoldsStored, IsSettledPair, Pair, Slots, closing, entry_of, last_number, newer_slot, newest, next_slot, slot_bytes, stored, with_entry}
+use Rattle.gate_journal.specs.Pair.{Entry, HoldsPair, HoldsSlot, Slots, entry_of, slot_bytes, with_entry}
 
 -- each slot by itself makes the pair
 pub pair_from : (into : ℕ) → into < 2 → (slots : Slots) (area : List ℕ) → HoldsSlot (entry_of into slots) (slot_bytes into area) → HoldsSlot (entry_of (1 - into) slots) (slot_bytes (1 - into) area) → HoldsPair slots area

@@ -1,6 +1,6 @@
 -- A member's disk after a cut, and why it may not return: lemmas.
 use Rattle.std.proofs.Common.{◌≡◌, ℕ, zero, suc, ◌<◌, ◌≤◌, List, [], ◌∷◌, ◌++◌, length, map, refl, ap, sym, subst, ◌∙◌, inl, inr, arith}
-use Rattle.std.specs.Prelude.{◌⊎◌, All, Err, IfErr, IfOk, IfSome, IsErrAnd, None, Ok, Option, Result, Some, slice_get}
+use Rattle.std.specs.Prelude.{◌⊎◌, All, Err, IfErr, IfSome, IsErrAnd, None, Ok, Option, Result, Some, slice_get}
 use Rattle.std.specs.List.{AllZip}
 use Rattle.std.proofs.lemmas.List.{get_or-map, length-map}
 use Rattle.std.proofs.lemmas.List.Elements.{All-head, All-tail}
@@ -13,7 +13,7 @@ use Rattle.home_blocks.specs.Home.{IsNoVolume, IsOtherVersion}
 use Rattle.local_store.specs.About.{About}
 use Rattle.home_blocks.specs.Places.{disk_size_of}
 use Rattle.local_store.specs.Meaning.{HasDamagedArea, IsOpenable, IsUnfinished, Means}
-use Rattle.local_store.specs.Refusal.{IsNotOfDevice, IsOfFormatting, IsOfOpening}
+use Rattle.local_store.specs.Refusal.{IsNotOfDevice, IsOfOpening}
 use Rattle.local_store.specs.declared.refusal.Refusal as store
 use Rattle.local_store.specs.declared.refusal.Refusal.TheVariants as stores
 use Rattle.volume.specs.declared.geometry.Geometry.{Geometry}
@@ -26,7 +26,7 @@ use Rattle.life.specs.Refusal.{BreaksOff, EndsAtReturn, IsOfMemory, IsOfReopenin
 use Rattle.life.specs.declared.era.Answers.{Answers}
 use Rattle.life.specs.declared.era.Era.{Era}
 use Rattle.life.specs.declared.refusal.Refusal.{Refusal}
-use Rattle.life.specs.declared.refusal.Refusal.TheVariants.{Memory, Store}
+use Rattle.life.specs.declared.refusal.Refusal.TheVariants.{Store}
 use Rattle.life.proofs.Owners.{StayOwn, own_of}
 use Rattle.life.proofs.Starting.{IsStore, about_of_store, all_mapped, keeps_volume, leaves_now}
 

@@ -178,29 +178,25 @@ fn beginning(words: &[&str]) -> Result<ScriptCommand, LineError> {
     }
 }
 
-/// A request from a session's client.
+/// A request from a session's client. What has no payload is read first, so that no fault finds one to drop.
 fn request_command(alloc: Global, words: &[&str]) -> Result<ScriptCommand, LineError> {
     match words {
         ["write", session, cookie, offset, payload] => {
-            let payload = bytes(alloc, payload)?;
-            request(session, RequestKind::Write, cookie, offset, payload)
+            let head = head_of(RequestKind::Write, session, cookie, offset)?;
+            request(head, bytes(alloc, payload)?)
         }
         ["fua", session, cookie, offset, payload] => {
-            let payload = bytes(alloc, payload)?;
-            request(session, RequestKind::Fua, cookie, offset, payload)
+            let head = head_of(RequestKind::Fua, session, cookie, offset)?;
+            request(head, bytes(alloc, payload)?)
         }
-        ["read", session, cookie, offset, len] => Ok(ScriptCommand::Request {
-            session: SessionId(number(session)?),
-            request: ClientRequest {
-                kind: RequestKind::Read,
-                cookie: number(cookie)?,
-                offset: number(offset)?,
-                length: length(len)?,
-                payload: Vec::new(alloc),
-            },
-        }),
+        ["read", session, cookie, offset, len] => {
+            let head = head_of(RequestKind::Read, session, cookie, offset)?;
+            let length = length(len)?;
+            Ok(head.with(length, Vec::new(alloc)))
+        }
         ["flush", session, cookie] => {
-            request(session, RequestKind::Flush, cookie, "0", Vec::new(alloc))
+            let head = head_of(RequestKind::Flush, session, cookie, "0")?;
+            Ok(head.with(0, Vec::new(alloc)))
         }
         _ => Err(LineError::Malformed),
     }
@@ -228,24 +224,59 @@ fn crash_command(words: &[&str]) -> Result<ScriptCommand, LineError> {
     }
 }
 
-/// A request with this payload.
-fn request(
-    session: &str,
+/// What a request has beside its length and its payload.
+#[derive(Clone, Copy)]
+struct RequestHead {
     kind: RequestKind,
+    session: SessionId,
+    cookie: u64,
+    offset: u64,
+}
+
+impl RequestHead {
+    /// The request with this length and payload.
+    fn with(self, length: u32, payload: Vec<u8>) -> ScriptCommand {
+        let RequestHead {
+            kind,
+            session,
+            cookie,
+            offset,
+        } = self;
+        ScriptCommand::Request {
+            session,
+            request: ClientRequest {
+                kind,
+                cookie,
+                offset,
+                length,
+                payload,
+            },
+        }
+    }
+}
+
+/// The head of a request, from its words.
+fn head_of(
+    kind: RequestKind,
+    session: &str,
     cookie: &str,
     offset: &str,
-    payload: Vec<u8>,
-) -> Result<ScriptCommand, LineError> {
-    Ok(ScriptCommand::Request {
+) -> Result<RequestHead, LineError> {
+    Ok(RequestHead {
+        kind,
         session: SessionId(number(session)?),
-        request: ClientRequest {
-            kind,
-            cookie: number(cookie)?,
-            offset: number(offset)?,
-            length: u32::try_from(payload.len()).map_err(|_| LineError::Malformed)?,
-            payload,
-        },
+        cookie: number(cookie)?,
+        offset: number(offset)?,
     })
+}
+
+/// A request that is as long as its payload.
+fn request(head: RequestHead, payload: Vec<u8>) -> Result<ScriptCommand, LineError> {
+    if payload.len() > u32::MAX as usize {
+        return Err(LineError::Malformed);
+    }
+    let length = payload.len() as u32;
+    Ok(head.with(length, payload))
 }
 
 /// What a member is told by this word.

@@ -2,6 +2,7 @@
 ghost use Rattle.std.specs.Prelude.{◌≡◌, ◌≤◌};
 
 use crate::comparing::{prints, same, same_at};
+use crate::folders::{new_folder, path};
 use disk_model::{Cut, Disk, DiskError, Event, FileDisk, MemDisk, Script};
 use folder::{Failure, FileName, Layout, Refusal, format, open};
 use gate_journal::{Image, PAIR_SIZE, Slot};
@@ -14,18 +15,6 @@ use std::string::String;
 // What the configuration's disk begins with behind a formatting for three members.
 const FIRST: [u8; 61] =
     *b"\x01\0\0\0\0\0\0\0\x01\0\0\0\x30CRAQCONF\x00\x00\x00\x01\x00\x00\x00\x00\x00\x00\x00\x01\x03\x00\x00\x00\x00\x00\x00\x00\x00\x01\x01\x00\x00\x00\x00\x00\x00\x00\x01\x02\x00\x00\x00\x00\x00\x00\x00\x01";
-
-// A new folder of this name, for this process alone.
-fn new_folder<R: Files<File = File> + AllocGlobal + Abort>(rt: &R, id: u32, name: &str) -> String {
-    let folder = format!(in rt.alloc(); "/tmp/folder.{name}.{id}").expect(rt, "memory");
-    fs::create_dir(rt, folder.as_str()).expect(rt, "a new folder");
-    folder
-}
-
-// The path of a file in a folder.
-fn path<R: AllocGlobal + Abort>(rt: &R, dir: &str, file: &str) -> String {
-    format!(in rt.alloc(); "{dir}/{file}").expect(rt, "memory")
-}
 
 // Source, front and epoch of a folder that is opened.
 fn opened<R: Files<File = File> + AllocGlobal + Abort>(rt: &R, dir: &str) -> (u8, u64, u64) {

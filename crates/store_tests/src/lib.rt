@@ -15,9 +15,13 @@ mod disk_model_tests;
 #[cfg(test)]
 mod disks;
 #[cfg(test)]
+mod file_tests;
+#[cfg(test)]
 mod flusher_tests;
 #[cfg(test)]
 mod folder_tests;
+#[cfg(test)]
+mod folders;
 #[cfg(test)]
 mod gate_journal_tests;
 #[cfg(test)]

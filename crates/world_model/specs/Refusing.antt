@@ -1,5 +1,5 @@
 -- Why members of a chain stop, and which requests are refused.
-use Rattle.std.specs.Prelude.{◌≡◌, ◌≢◌, ℕ, List, [], All}
+use Rattle.std.specs.Prelude.{◌≢◌, ℕ, List, [], All}
 use Rattle.std.specs.List.{flat_map}
 use Rattle.std.specs.Option.{option_to_list}
 use Rattle.flush_barrier.specs.declared.error_code.ErrorCode.TheVariants.{Io, NoMemory}

@@ -1,6 +1,6 @@
-use Rattle.std.proofs.Common.{◌≡◌, ◌∙◌, ◌+◌, ◌≤◌, ◌<◌, [], ◌∷◌, List, ℕ, length, refl, sym, subst, arith}
+use Rattle.std.proofs.Common.{◌≡◌, ◌∙◌, List, ℕ, length, refl, subst, arith}
 use Rattle.std.proofs.lemmas.Result.{on_ok_weaker}
-use Rattle.disk_model.specs.Disk.{Holds, LeavesOnly, Torn}
+use Rattle.disk_model.specs.Disk.{LeavesOnly, Torn}
 use Rattle.disk_model.specs.Frames.{only_inside, touches_then}
 use Rattle.disk_model.specs.Moments.{then_run, weaker}
 use Rattle.disk_model.specs.Part.{inside, LeftInside}

@@ -1,10 +1,10 @@
-use Rattle.std.proofs.Common.{◌≡◌, ◌⊎◌, inl, inr, ℕ, ◌+◌, ◌*◌, ◌<◌, ◌≤◌, List, length, refl, sym, ◌∙◌, ap, subst, arith}
-use Rattle.disk_model.specs.Disk.{Holds, LeavesOnly}
+use Rattle.std.proofs.Common.{◌≡◌, inl, inr, ℕ, List, length, refl, sym, ◌∙◌, ap, subst, arith}
+use Rattle.disk_model.specs.Disk.{Holds}
 use Rattle.disk_model.specs.Frames.{touches_more, touches_then}
 use Rattle.disk_model.specs.Moments.{weaker}
 use Rattle.disk_model.specs.Part.{inside, IsApart}
 use Rattle.gate_journal.specs.Pair.{IsTornIn, slot_bytes}
-use Rattle.gate_journal.proofs.Clearing.{on_ok_always, torn_in, one_written, both_written, both_synced, BothTorn}
+use Rattle.gate_journal.proofs.Clearing.{on_ok_always, torn_in, one_written, both_written, both_synced}
 use Rattle.gate_journal.proofs.Pairs.{other_range, range_bytes}
 use Rattle.gate_journal.proofs.Runs.{Tears}
 use Rattle.gate_journal.proofs.pair.write_both.Goals as goal

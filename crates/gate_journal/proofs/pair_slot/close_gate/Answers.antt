@@ -1,8 +1,8 @@
-use Rattle.std.proofs.Common.{◌⊎◌, true, false, Option, None, length, refl, subst}
+use Rattle.std.proofs.Common.{◌⊎◌, true, false, None, refl, subst}
 use Rattle.disk_model.specs.Disk.{Torn}
 use Rattle.disk_model.specs.Moments.{weaker}
 use Rattle.disk_model.specs.Part.{inside}
-use Rattle.gate_journal.specs.Pair.{HasGate, HoldsSlot, closing}
+use Rattle.gate_journal.specs.Pair.{HasGate, HoldsSlot}
 use Rattle.gate_journal.specs.Runs.{WasTorn}
 use Rattle.gate_journal.proofs.Entries.{closing_torn}
 use Rattle.gate_journal.proofs.pair_slot.close_gate.Goals as goal

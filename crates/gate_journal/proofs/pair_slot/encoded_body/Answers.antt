@@ -1,4 +1,4 @@
-use Rattle.std.proofs.Common.{◌+◌, length, drop, refl, arith}
+use Rattle.std.proofs.Common.{length, refl}
 use Rattle.byteorder.specs.Endian.{big_bytes}
 use Rattle.byteorder.specs.Numbers.{length-bytes_high_first}
 use Rattle.gate_journal.proofs.Entries.{overwritten}

@@ -1,6 +1,6 @@
 use Rattle.std.proofs.Common.{◌≡◌, true, ◌+◌, ◌<◌, ◌++◌, ◌∷◌, ℕ, List, get_or, length, take, drop, ap, refl, subst, sym, ◌∙◌, arith, rules, length-drop}
 use Rattle.std.proofs.lemmas.List.{drop-drop, get_or-drop, take_all}
-use Rattle.byteorder.specs.Endian.{big_bytes, big_from}
+use Rattle.byteorder.specs.Endian.{big_from}
 use Rattle.disk_model.specs.Part.{inside}
 use Rattle.gate_journal.specs.Pair.{HasGate}
 use Rattle.gate_journal.proofs.Entries.{at_front, entry_by_head, none_behind}

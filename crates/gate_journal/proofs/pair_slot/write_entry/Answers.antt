@@ -1,11 +1,10 @@
-use Rattle.std.proofs.Common.{◌≡◌, ◌⊎◌, inl, ◌+◌, ◌∙◌, ◌++◌, ◌∷◌, [], ℕ, List, Some, None, OnOk, length, ap, subst, arith}
+use Rattle.std.proofs.Common.{◌≡◌, ◌⊎◌, inl, ℕ, List, Some, None, length, subst, arith}
 use Rattle.std.proofs.lemmas.Result.{on_ok_weaker}
 use Rattle.disk_model.specs.Disk.{Torn}
 use Rattle.disk_model.specs.Frames.{touches_then}
 use Rattle.disk_model.specs.Moments.{then_run, weaker}
 use Rattle.disk_model.specs.Part.{inside}
-use Rattle.gate_journal.specs.Pair.{Entry, HoldsSlot, IsEntry, entry_body, entry_encoding}
-use Rattle.gate_journal.specs.Reading.{HoldsAt}
+use Rattle.gate_journal.specs.Pair.{Entry, HoldsSlot, IsEntry}
 use Rattle.gate_journal.specs.Runs.{WasTorn}
 use Rattle.gate_journal.proofs.Entries.{behind_torn, entry_stands, opening_torn}
 use Rattle.gate_journal.proofs.Standing.{length-inside}

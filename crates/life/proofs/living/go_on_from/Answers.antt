@@ -1,4 +1,4 @@
-use Rattle.std.proofs.Common.{◌≡◌, sym, subst, ◌∙◌}
+use Rattle.std.proofs.Common.{◌≡◌, subst, ◌∙◌}
 use Rattle.std.specs.Prelude.{IfSome}
 use Rattle.disk_model.specs.Calm.{calm}
 use Rattle.disk_model.specs.Disk.{NothingNew, Only}

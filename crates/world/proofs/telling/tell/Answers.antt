@@ -1,4 +1,4 @@
-use Rattle.std.proofs.Common.{[], ◌++◌, ap, ◌∙◌}
+use Rattle.std.proofs.Common.{◌++◌, ap, ◌∙◌}
 use Rattle.world.proofs.TellingSteps.{told_out}
 use Rattle.world.proofs.telling.tell.Goals as goal
 

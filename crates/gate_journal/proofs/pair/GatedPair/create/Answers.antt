@@ -1,5 +1,4 @@
-use Rattle.std.proofs.Common.{◌≡◌, ◌⊎◌, inl, inr, ⊎_elim, true, false, ◌+◌, ◌∷◌, ◌++◌, List, ℕ, Some, None, drop, refl, subst, arith}
-use Rattle.disk_model.specs.Disk.{LeavesOnly}
+use Rattle.std.proofs.Common.{inl, inr, ⊎_elim, true, false, List, ℕ, None, refl}
 use Rattle.disk_model.specs.Frames.{only_inside, touches_then}
 use Rattle.disk_model.specs.Moments.{then_run, weaker}
 use Rattle.disk_model.specs.Part.{inside, LeftInside}

@@ -1,4 +1,4 @@
-use Rattle.std.proofs.Common.{◌≡◌, Bool, true, ◌+◌, ◌-◌, ◌<◌, ◌≤◌, ℕ, List, Some, OnOk, length, subst, sym, arith}
+use Rattle.std.proofs.Common.{◌≡◌, Bool, true, ◌+◌, ◌-◌, ◌<◌, ℕ, List, Some, OnOk, length, subst, sym, arith}
 use Rattle.std.proofs.lemmas.Result.{on_ok_weaker}
 use Rattle.disk_model.specs.Disk.{LeavesOnly}
 use Rattle.disk_model.specs.Frames.{touches_more}
