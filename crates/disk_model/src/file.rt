@@ -78,8 +78,8 @@ impl FileDisk {
         self.last_error
     }
 
-    /// The disk that an open file is, of this length: as if nothing had failed yet. The caller has taken its lock, and what is
-    /// written in it is durable.
+    /// The disk that an open file is, `len` bytes long, as if nothing had failed yet. The caller has taken its lock, and what is
+    /// in it is durable. Where the file is shorter, a read behind its end fails with 101.
     pub fn new(file: File, len: u64) -> Self
         ensures len { file_len result ≡ len }
         ensures new { IsNewlyOpened result }
