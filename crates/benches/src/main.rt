@@ -9,14 +9,12 @@ use std::env;
 use std::thread::Threads;
 use std::time::Clock;
 
-// No module may have a crate's name, so these three are in the plural: `boards`, `chains`, `worlds`.
+// No module may have a crate's name, so this one is in the plural: `boards`.
 mod boards;
-mod chains;
 mod journal;
 mod report;
 mod table;
 mod wire;
-mod worlds;
 
 /// The word that measures.
 const TIME: &str = "time";
@@ -28,18 +26,14 @@ enum Bench {
     Journal,
     Board,
     Wire,
-    Chain,
-    World,
 }
 
 /// All benches, in the order in which they are played.
-const BENCHES: [Bench; 6] = [
+const BENCHES: [Bench; 4] = [
     Bench::Table,
     Bench::Journal,
     Bench::Board,
     Bench::Wire,
-    Bench::Chain,
-    Bench::World,
 ];
 
 impl Bench {
@@ -50,8 +44,6 @@ impl Bench {
             Bench::Journal => "journal",
             Bench::Board => "board",
             Bench::Wire => "wire",
-            Bench::Chain => "chain",
-            Bench::World => "world",
         }
     }
 
@@ -67,8 +59,6 @@ impl Bench {
             Bench::Journal => journal::run(rt, timed),
             Bench::Board => boards::run(rt, timed),
             Bench::Wire => wire::run(rt, timed),
-            Bench::Chain => chains::run(rt, timed),
-            Bench::World => worlds::run(rt, timed),
         }
     }
 }
@@ -78,7 +68,7 @@ fn main(rt: HostRuntime) -> anyhow::Result<()> {
     for word in &words {
         if !is_known(word) {
             bail!(
-                "unknown word {word}; the words are table, journal, board, wire, chain, world and time"
+                "unknown word {word}; the words are table, journal, board, wire and time"
             );
         }
     }

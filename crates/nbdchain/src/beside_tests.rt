@@ -361,7 +361,6 @@ fn lives(rt: &impl Abort, alloc: Global, members: u8, seed: u64)
         disk = play.alone(rt, &mut beside, disk, cut == CUTS);
     }
     let Tally {
-        sent: _,
         writes,
         fuas,
         flushes,

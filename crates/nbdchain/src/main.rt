@@ -28,23 +28,13 @@ pub use simulator::{Refusal, sim_on};
 #[cfg(test)]
 mod beside;
 #[cfg(test)]
-mod beside_rows;
-#[cfg(test)]
 mod beside_tests;
 #[cfg(test)]
-mod chain_rows;
-#[cfg(test)]
-mod crash_rows;
-#[cfg(test)]
-mod crash_tests;
-#[cfg(test)]
-mod long_tests;
+mod disk_tests;
 #[cfg(test)]
 mod serving_tests;
 #[cfg(test)]
 mod session_tests;
-#[cfg(test)]
-mod stray_rows;
 #[cfg(test)]
 mod tests;
 

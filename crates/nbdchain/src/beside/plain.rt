@@ -44,10 +44,9 @@ struct Owed {
     mark: usize,
 }
 
-/// How many requests were sent to the machine, and how they were answered.
+/// How many requests were answered by the machine, and how.
 #[derive(Clone, Copy, Debug)]
 pub(crate) struct Tally {
-    pub(crate) sent: u64,
     pub(crate) writes: u64,
     pub(crate) fuas: u64,
     pub(crate) flushes: u64,
@@ -100,7 +99,6 @@ impl Plain {
             volumes,
             owed: Vec::new(alloc),
             tally: Tally {
-                sent: 0,
                 writes: 0,
                 fuas: 0,
                 flushes: 0,
@@ -171,7 +169,6 @@ impl Plain {
             mark,
         };
         self.owed.push(owed).expect(rt, "memory");
-        self.tally.sent = self.tally.sent.saturating_add(1);
         name
     }
 

@@ -1,0 +1,125 @@
+"""What the gate and the launcher take of Rattle's kit. All that they know of it stands here.
+
+The kit's command `rt` is a program in Python, with the module `rtlib` beside it. They are loaded from where `rt` is found, so that a
+crate is read, proved, judged, linked and run here by the very code that `rt ci` uses. One thing differs: a proof keeps its work in the
+crate's `out/`, so that mutants and tests are checked over what this very run has proved. The verdict line then ends in the words
+`incremental=trusted`, which `rt ci` doesn't take, and which are taken here.
+"""
+import importlib.machinery
+import importlib.util
+import io
+import os
+import re
+import shutil
+import sys
+import tempfile
+
+HERE = os.path.dirname(os.path.realpath(__file__))
+# The repository: this one, or another that a test of these tools made.
+ROOT = os.environ.get("GATE_ROOT") or os.path.dirname(HERE)
+
+
+class NoKit(Exception):
+    """There is no command `rt` on the PATH."""
+
+
+def load(path, name):
+    loader = importlib.machinery.SourceFileLoader(name, path)
+    made = importlib.util.module_from_spec(importlib.util.spec_from_loader(name, loader))
+    sys.modules[name] = made
+    loader.exec_module(made)
+    return made
+
+
+def find():
+    """The kit's `rt`, as a module."""
+    found = shutil.which("rt")
+    if not found:
+        raise NoKit("Rattle's command rt is not on the PATH")
+    return load(os.path.realpath(found), "rt")
+
+
+rt = find()
+rtlib = rt.rtlib
+# A verdict over what this run has kept.
+rtlib.VERDICT = re.compile(rtlib.VERDICT.pattern.replace(r"\n\Z", r"( incremental=trusted)?\n\Z"), re.M)
+KEPT = rtlib.KEPT
+ONE_JOB = ["--jobs", "1"]
+
+
+def crates(root=ROOT):
+    """The crates of crates.txt, lowest first; it ends the program where the folder isn't as the kit wants it."""
+    os.chdir(root)
+    # Its first call sets a signal's handler, which only the main thread may.
+    rtlib.guarded()
+    rt.Crate.allowed = rt.handles_of(root)
+    rt.Crate.cuts_libraries = False
+    return rt.crates_of(root)
+
+
+def named(name, root=ROOT):
+    """The crate of a name."""
+    for crate in crates(root):
+        if crate.name == name:
+            return crate
+    sys.exit(f"crates.txt has no crate {name}")
+
+
+def prove(crate, jobs, compilers=tuple(rt.BACKENDS)):
+    """Proves a library or a program over what stands in its out/, and builds it, a program by each of the compilers; 0 where all is well."""
+    words = [*crate.words(["--jobs", str(jobs)], keeps=False), *KEPT]
+    if not crate.is_program:
+        # The stamp has other commands take the library as built.
+        stamp, kept = crate.stamp(), f"{crate.folder}/out/rlib/stamp"
+        shutil.rmtree(os.path.dirname(kept), ignore_errors=True)
+        os.makedirs(os.path.dirname(kept))
+        status = crate.prove(["build", *words, "-o", crate.rlib])
+        if status == 0 and stamp == crate.stamp():
+            with open(kept, "w", encoding="utf-8") as it:
+                it.write(stamp)
+        return status
+    for backend in compilers:
+        status = build(crate, words, backend, f"out/{crate.name}{rt.BACKENDS[backend]}")
+        if status:
+            return status
+    return 0
+
+
+def prove_tests(crate, jobs):
+    """Proves the crate's tests, over what its own proof kept, and builds them by LLVM."""
+    words = [*crate.words(["--jobs", str(jobs)], tests=True, keeps=False), *KEPT]
+    return build(crate, words, "llvm", f"out/{crate.name}_tests")
+
+
+def build(crate, words, backend, to):
+    """Proves, compiles and links a program."""
+    toolchain = ["--toolchain", f"{rtlib.KIT}/toolchain", "--backend", backend]
+    return crate.prove(["build", *words, *toolchain, "-o", f"{to}.o"]) or crate.link(f"{to}.o", to)
+
+
+def text_fault(crate, every):
+    """Why the crate's text is refused before any proof, if it is, by the rules of `rt ci`."""
+    said = io.StringIO()
+    stderr, sys.stderr = sys.stderr, said
+    try:
+        rtlib.stop_on_links(crate.folder)
+        rtlib.stop_on_unread(crate.folder, every)
+        rtlib.stop_on_text(crate, "verdict")
+        rt.stop_on_words(crate)
+    except SystemExit:
+        return said.getvalue().strip()
+    finally:
+        sys.stderr = stderr
+    code = rtlib.code_of(crate.folder)
+    beyond = [it for it, words in rt.REACHES.items() if it not in crate.allowed and re.search(words, code)]
+    if beyond:
+        return f"it names what only the handle {beyond[0]} reaches"
+    if re.search(rt.RENAMES, code):
+        return "it renames std, or takes it whole"
+    if re.search(rt.IGNORED, code):
+        return "it has a test under #[ignore]"
+    with tempfile.TemporaryFile("w+") as out:
+        if rtlib.fmt(crate.folder, "--check", out):
+            out.seek(0)
+            return f"rt fmt lays it out otherwise: {out.read().strip()[:300]}"
+    return None
