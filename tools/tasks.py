@@ -1,11 +1,20 @@
 """Commands that run beside each other: each in a process of its own, whose time of the processor is told."""
 import os
+import re
 import subprocess
 import sys
+import threading
 import time
+from concurrent.futures import FIRST_COMPLETED, ThreadPoolExecutor, wait
 from dataclasses import dataclass
 
 import kit
+
+# The kinds of tasks that may use several processors.
+SHARED = ("proof", "tests")
+MOST_JOBS = 4
+# What each processor more takes of the memory that a check takes.
+MEMORY_A_JOB = 0.6
 
 
 @dataclass
@@ -28,7 +37,7 @@ class Done:
 
 @dataclass
 class Task:
-    """A command of tools/, and the keys of those that it waits for. `kind` is `proof`, `tests`, `edits` or `run`."""
+    """A command of tools/, and the keys of those that it waits for. `kind` is `proof`, `tests`, `edits` or a run's."""
 
     crate: object
     kind: str
@@ -56,31 +65,97 @@ def command(name, *words):
     return [sys.executable, f"{kit.HERE}/{name}", *words]
 
 
-def weight(task):
-    """How much is to do: the lines of the crate's code, those of its tests' crates for tests."""
-    return task.crate.count(rb"\n") if task.kind in ("proof", "tests") else 0
-
-
-def run_all(tasks, logs, tell=lambda task, done: None):
-    """Runs tasks side by side, on all processors, the longest chain first. What each came to, by its key."""
-
-    def call(task, given, jobs):
-        log = f"{logs}/{task.crate.name}.{task.kind}.log"
-        if all(given[it].is_well for it in task.waits):
-            words = [*task.words, "--jobs", str(jobs)] if task.kind in ("proof", "tests") else task.words
-            done = run(words, log)
-        else:
-            done = Done(None, log)
-        tell(task, done)
-        return done
-
-    lanes = {}
-    for task in tasks:
-        waits = [it for it in task.waits if it in {other.key for other in tasks}]
-        lanes[task.key] = (waits, weight(task), kit.rt.need(task.crate), lambda given, jobs, task=task: call(task, given, jobs))
-    return kit.rt.in_lanes(lanes)
-
-
 def proof(crate, waits, *words):
     """The proof of a crate, once those below it that are still to be proved are."""
     return Task(crate, "proof", command("prove", crate.name, *words), waits)
+
+
+def minutes_of(crates):
+    """About how many minutes of the processor each crate's proof takes, by its name: as docs/GATE.md has them, else by its lines."""
+    page = kit.rtlib.text_of(f"{kit.ROOT}/docs/GATE.md") or ""
+    told = {name: float(it) for name, it in re.findall(r"(?m)^\| `(\w+)` \| ([\d.]+) \|", page)}
+    return {it.name: told.get(it.name, it.count(rb"\n") / 300) for it in crates}
+
+
+class Lanes:
+    """Runs tasks side by side, one a processor, as many as memory holds; those first that the longest chain of others waits for. The
+    first of all gets a second processor, and where others don't need them, more."""
+
+    def __init__(self, tasks, logs, tell):
+        self.tasks = {it.key: it for it in tasks}
+        self.logs, self.tell, self.given, self.running, self.telling = logs, tell, {}, {}, threading.Lock()
+        fixed = os.environ.get("RT_JOBS", "")
+        self.lanes = int(fixed) if fixed.isdigit() and fixed != "0" else kit.rt.processors()
+        self.memory = 0.85 * kit.rt.free()
+        minutes = minutes_of([it.crate for it in tasks])
+        self.behind = {}
+        for key in reversed(self.in_order()):
+            own = minutes[key[0]] if key[1] in SHARED else 0.1
+            self.behind[key] = own + max([self.behind[other] for other, it in self.tasks.items() if key in it.waits], default=0)
+
+    def in_order(self):
+        """The keys, each behind those that it waits for."""
+        order, seen = [], set()
+
+        def visit(key):
+            if key not in seen and key in self.tasks:
+                seen.add(key)
+                for it in self.tasks[key].waits:
+                    visit(it)
+                order.append(key)
+
+        for key in self.tasks:
+            visit(key)
+        return order
+
+    def call(self, task, jobs):
+        log = f"{self.logs}/{task.crate.name}.{task.kind.replace(' ', '-')}.log"
+        if all(it not in self.given or self.given[it].is_well for it in task.waits):
+            done = run([*task.words, "--jobs", str(jobs)] if task.kind in SHARED else task.words, log)
+        else:
+            done = Done(None, log)
+        with self.telling:
+            self.tell(task, done)
+        return done
+
+    def jobs_for(self, task, idle, ready):
+        """How many processors the task may use: the first of all tasks that are left gets at least two."""
+        if task.kind not in SHARED:
+            return 1
+        is_first = self.behind[task.key] >= max(self.behind[it] for it in self.tasks if it not in self.given)
+        return max(1, min(MOST_JOBS, idle, max(2 if is_first else 1, idle // ready)))
+
+    def memory_for(self, task, jobs):
+        return kit.rt.need(task.crate) * (1 + MEMORY_A_JOB * (jobs - 1))
+
+    def start(self, pool, left):
+        """Starts what can be started now."""
+        ready = [it for it in left if all(key in self.given or key not in self.tasks for key in self.tasks[it].waits)]
+        for at, key in enumerate(ready):
+            task = self.tasks[key]
+            idle = self.lanes - sum(jobs for _, jobs, _ in self.running.values())
+            if idle <= 0:
+                return
+            jobs = self.jobs_for(task, idle, len(ready) - at)
+            room = self.memory - sum(it for _, _, it in self.running.values())
+            while jobs > 1 and self.memory_for(task, jobs) > room:
+                jobs -= 1
+            if self.running and self.memory_for(task, jobs) > room:
+                continue
+            left.remove(key)
+            self.running[pool.submit(self.call, task, jobs)] = key, jobs, self.memory_for(task, jobs)
+
+    def all_run(self):
+        left = sorted(self.tasks, key=lambda it: -self.behind[it])
+        with ThreadPoolExecutor(self.lanes) as pool:
+            while left or self.running:
+                self.start(pool, left)
+                for it in wait(self.running, return_when=FIRST_COMPLETED).done:
+                    key, _, _ = self.running.pop(it)
+                    self.given[key] = it.result()
+        return self.given
+
+
+def run_all(tasks, logs, tell=lambda task, done: None):
+    """Runs tasks side by side on all processors. What each came to, by its key."""
+    return Lanes(tasks, logs, tell).all_run()
