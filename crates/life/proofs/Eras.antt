@@ -64,7 +64,7 @@ module _ {S : Type 0} (premise : Type 0) (about : S → About) (keeps : S → Li
       let stays : bytes_of mid.chain ≡ bytes_of old.chain = sym joined_then.size ∙ ap (λ e. e.size) one.remain.export ∙ joined.size in
       let stands_then = subst (λ n. StandsFor n one.w plays.1) (sym stays) plays.4 in
       let exported : mid.sessions.export ≡ export = one.remain.export ∙ fresh.has in
-      let again : export_of mid.chain.geometry ≡ export = exported_as mid joined_then ∙ exported in
+      let again : export_of mid.chain.geometry ≡ export = exported_as about keeps may_leave_now mid joined_then ∙ exported in
       let (m, here, cut) = zip_there (λ m left. IsCutFrom may_leave_now disk era.cut m.node.store left) mid.chain.members goes.disks era.returned goes.returns goes.cut goes.there in
       let (may, later) = recovers about keeps may_leave_now restarts mid one.w plays.1 era.returned m (given_of goes.returns) goes.meaning new one_meaning one.shows stands_then here cut.left goes.means (ap export_of goes.sizes) goes.begins in (
         after plays.1 (Restart goes.meaning.front),
@@ -93,7 +93,7 @@ module _ {S : Type 0} (premise : Type 0) (about : S → About) (keeps : S → Li
   pub eras_more : (export : Export) (eras : List Era) (answers : List Answers) (old : Seen S) (s : State) (mid : Seen S) (r : State) (new : Seen S) (t : State) (era : Era) (these : Answers)
       → Lead export eras answers old s mid r → Leads export era these.items.items mid r new t → Lead export (eras ++ era ∷ []) (answers ++ these ∷ []) old s new t
   eras_more export [] [] old s mid r new t era these (same, stays) did =
-      (new, t, subst (λ w. Leads export era these.items.items w s new t) same (subst (λ x. Leads export era these.items.items mid x new t) stays did), refl, refl)
+      (new, t, subst (λ w. Leads export era these.items.items w s new t) same (subst (λ x. Leads export era these.items.items mid x new t) stays did), (refl, refl))
   eras_more export [] (a ∷ answers) old s mid r new t era these leads did = absurd leads
   eras_more export (e ∷ eras) [] old s mid r new t era these leads did = absurd leads
   eras_more export (e ∷ eras) (a ∷ answers) old s mid r new t era these (next, between, one, later) did = (next, between, one, eras_more export eras answers next between mid r new t era these later did)

@@ -17,6 +17,7 @@ use Rattle.nbd_session.specs.declared.answer.Export.{Export}
 use Rattle.version_table.specs.Held.{writes_upto}
 use Rattle.volume.specs.Writes.{patched, volume_of}
 use Rattle.volume.specs.declared.geometry.Geometry.{Geometry}
+use Rattle.chain_steps.specs.Node.{NodeState}
 use Rattle.chain_steps.specs.Steps.{volume_at}
 use Rattle.chain_steps.specs.declared.cause.Cause.{Cause}
 use Rattle.world_model.specs.Chain.{StandsFor, View}
@@ -270,7 +271,7 @@ module _ {S : Type 0} (about : S → About) (keeps : S → List ℕ → Type 0) 
       same_members v size s stands = stands
 
   -- the export is that of the chain's sizes
-  exported_as : (w : Seen S) → IsJoined w → export_of w.chain.geometry ≡ w.sessions.export
+  pub exported_as : (w : Seen S) → IsJoined w → export_of w.chain.geometry ≡ w.sessions.export
   exported_as w joined = rw (joined.size, joined.payload) refl
 
   -- ---- what is left of disks
@@ -291,7 +292,7 @@ module _ {S : Type 0} (about : S → About) (keeps : S → List ℕ → Type 0) 
         front = front;
         owed = owed;
         taken = taken;
-        means = subst (λ l. Means (meaning_with (record (about m.node.store) { front = front }) l) bytes) (rw (← node) volume) is;
+        means = subst (λ l. Means (meaning_with (record (about m.node.store) { front = front }) l) bytes) (ap (λ (n : NodeState). volume_at own.volume n front) (sym node) ∙ volume) is;
       }
     where
       same_members : (v : View) (size : ℕ) (s : State) → StandsFor size v s → StandsFor size (with_members v v.members) s

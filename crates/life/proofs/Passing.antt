@@ -8,7 +8,7 @@ use Rattle.local_store.specs.About.{About}
 use Rattle.world_model.specs.Chain.{StandsFor, View}
 use Rattle.world_model.specs.Event.{ClientEvent}
 use Rattle.world_model.specs.Life.{Era, Happening, HappeningsAreOfOneVolume, all_events}
-use Rattle.world_model.specs.Machine.{Plays}
+use Rattle.world_model.specs.Machine.{Plays, State}
 use Rattle.nbd_session.specs.Demand.{Asked}
 use Rattle.world_model.specs.Runs.{plays_nothing, plays_then}
 use Rattle.chain.specs.Chain.{bytes_of}

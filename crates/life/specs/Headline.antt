@@ -98,7 +98,6 @@ module _ {S : Type 0} (premise : Type 0) (about : S → About) (keeps : S → Li
   pub record EraLeads (export : Export) (era : Era) (answers : List Answer) (old : Seen S) (s : State) (new : Seen S) (t : State) : Type 0 where
     pub end : Seen S
     pub played : DeedsLead premise about keeps is_pending may_leave_now moment left_since failures disk era.deeds.items answers old end
-
     -- one run of the machine, without a restart, shows what clients saw
     pub events : List ClientEvent
     pub lawful : IsLawfulEra export (zip era.deeds.items answers) events
@@ -107,10 +106,8 @@ module _ {S : Type 0} (premise : Type 0) (about : S → About) (keeps : S → Li
     pub state : State
     pub runs : RunsOn s moves state
     pub shows : shown export.size s moves ≡ events
-
     -- whatever a stop may leave of a member's disk then has what is owed
     pub disks : All (λ m. (bytes : List ℕ) → may_leave_now m.node.store bytes → HasWhatIsOwed export.size state (about m.node.store) bytes) end.chain.members
-
     -- the chain goes on from a disk, and the machine from its front
     pub goes_on : GoesOnFrom about keeps may_leave_now disk era end new
     pub may : May state (Restart goes_on.meaning.front)

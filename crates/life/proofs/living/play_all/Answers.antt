@@ -48,7 +48,7 @@ loop-deed-preserved c =
           (leads_more (Unit {0}) about_of_store keeps_volume pends_in leaves_now moment_in left_in failures_in disk_in (take i deeds) answers c.args.world.now c.loop-deed.world c.play_deed-answer.new.world deed answer long inv.plays c.play_deed-answer.ensures.does runs));
       pass = subst (λ (l : Trace). AreOfOneVolume about_of_store keeps_volume leaves_now l no_one c.args.world.now c.play_deed-answer.new.world) (sym told)
           (turn_more about_of_store keeps_volume leaves_now c.lives_are_of_one_volume.ensures.happenings c.args.world.now c.loop-deed.world c.play_deed-answer.new.world c.sound.ensures.joined c.sound-in-loop-deed.ensures.joined
-          (zip (take i deeds) answers) deed answer c.sound-2-in-loop-deed.ensures.sessions inv.pass c.play_deed-answer.ensures.one_volume);
+          (zip (take i deeds) answers) deed answer c.sound-in-loop-deed-2.ensures.sessions inv.pass c.play_deed-answer.ensures.one_volume);
       runs = runs;
       many = let sum = length-append answers (answer ∷ []) in omega (arith, inv.many, ap length items, sum);
       count = omega (arith, inv.count, c.push_reserved.ensures.len);
