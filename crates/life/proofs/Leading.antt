@@ -1,16 +1,12 @@
--- One deed, and one era, behind others: lemmas.
+-- One deed more: lemmas.
 use Rattle.std.proofs.Common.{◌≡◌, ℕ, List, [], ◌∷◌, ◌++◌, length, refl, subst, arith}
-use Rattle.chain_steps.specs.declared.cause.Cause.{Cause}
 use Rattle.disk_model.specs.declared.memory.MemDisk.{MemDisk}
 use Rattle.local_store.specs.About.{About}
-use Rattle.volume.specs.declared.geometry.Geometry.{Geometry}
 use Rattle.world.specs.World.{Seen}
 use Rattle.life.specs.Does.{DoesDeed}
-use Rattle.life.specs.Plays.{DeedsLead, EraLeads, ErasLead, HasMetStop, IsPlayed}
+use Rattle.life.specs.Plays.{DeedsLead, HasMetStop}
 use Rattle.life.specs.declared.answer.Answer.{Answer}
-use Rattle.life.specs.declared.era.Answers.{Answers}
 use Rattle.life.specs.declared.era.Deed.{Deed}
-use Rattle.life.specs.declared.era.Era.{Era}
 
 module _ {S : Type 0} (premise : Type 0) (about : S → About) (keeps : S → List ℕ → Type 0) (is_pending : S → ℕ → Type 0) (may_leave_now : S → List ℕ → Type 0) (moment : S → ℕ)
     (left_since : S → ℕ → List ℕ → Type 0) (failures : S → ℕ) (disk : S → MemDisk) where
@@ -19,12 +15,6 @@ module _ {S : Type 0} (premise : Type 0) (about : S → About) (keeps : S → Li
 
   abbrev Does : Deed → Answer → Seen S → Seen S → Type 0
   Does = DoesDeed premise about keeps is_pending may_leave_now moment left_since failures disk
-
-  abbrev Eras : List Era → List Answers → List (List Cause) → Seen S → Seen S → Type 0
-  Eras = ErasLead premise about keeps is_pending may_leave_now moment left_since failures disk
-
-  abbrev OneEra : Era → List Answer → List Cause → Seen S → Seen S → Type 0
-  OneEra = EraLeads premise about keeps is_pending may_leave_now moment left_since failures disk
 
   -- one deed more
   pub leads_more : (deeds : List Deed) (answers : List Answer) (old mid new : Seen S) (deed : Deed) (answer : Answer) → length answers ≡ length deeds → Lead deeds answers old mid
@@ -43,23 +33,3 @@ module _ {S : Type 0} (premise : Type 0) (about : S → About) (keeps : S → Li
   leads_to_stop (d ∷ deeds) [] old mid new deed answer rest many leads did met = absurd (omega (arith, many))
   leads_to_stop (d ∷ deeds) (a ∷ answers) old mid new deed answer rest many (next, first, on, later) did met =
       (next, first, on, leads_to_stop deeds answers next mid new deed answer rest (omega (arith, many)) later did met)
-
-  -- one era more
-  pub eras_more : (eras : List Era) (answers : List Answers) (stops : List (List Cause)) (old mid new : Seen S) (era : Era) (these : Answers) (causes : List Cause) → Eras eras answers stops old mid
-      → OneEra era these.items.items causes mid new → Eras (eras ++ era ∷ []) (answers ++ these ∷ []) (stops ++ causes ∷ []) old new
-  eras_more [] [] [] old mid new era these causes leads did = (new, subst (λ w. OneEra era these.items.items causes w new) leads did, refl)
-  eras_more [] [] (c ∷ stops) old mid new era these causes leads did = absurd leads
-  eras_more [] (a ∷ answers) stops old mid new era these causes leads did = absurd leads
-  eras_more (e ∷ eras) [] stops old mid new era these causes leads did = absurd leads
-  eras_more (e ∷ eras) (a ∷ answers) [] old mid new era these causes leads did = absurd leads
-  eras_more (e ∷ eras) (a ∷ answers) (c ∷ stops) old mid new era these causes (next, first, later) did = (next, first, eras_more eras answers stops next mid new era these causes later did)
-
-  pub plays_on : (geometry : Geometry) (members : ℕ) (eras : List Era) (answers : List Answers) (stops : List (List Cause)) (mid new : Seen S) (era : Era) (these : Answers) (causes : List Cause)
-      → IsPlayed premise about keeps is_pending may_leave_now moment left_since failures disk geometry members eras answers stops mid → OneEra era these.items.items causes mid new
-      → IsPlayed premise about keeps is_pending may_leave_now moment left_since failures disk geometry members (eras ++ era ∷ []) (answers ++ these ∷ []) (stops ++ causes ∷ []) new
-  plays_on geometry members eras answers stops mid new era these causes played leads = record {
-    first = played.first;
-    many = played.many;
-    begins = played.begins;
-    plays = eras_more eras answers stops played.first mid new era these causes played.plays leads;
-  }

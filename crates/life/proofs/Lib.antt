@@ -1,5 +1,6 @@
 mod Answering
 mod Beside
+mod Eras
 mod Leading
 mod Lives
 mod Owners

@@ -1,11 +1,12 @@
--- One era after another: lemmas.
-use Rattle.std.proofs.Common.{◌≡◌, ℕ, List, [], ◌∷◌, ◌++◌, length, refl, ap, sym, subst, ◌∙◌, inl, inr, arith}
+-- One deed after another, and one era after another: lemmas.
+use Rattle.std.proofs.Common.{◌≡◌, ℕ, ◌+◌, ◌≤◌, Bool, true, false, List, [], ◌∷◌, ◌++◌, length, take, ltb, refl, ap, sym, subst, ◌∙◌, inl, inr, arith}
 use Rattle.std.specs.Prelude.{◌==◌, ◌*◌, All, None, Option, Some, fold, get_or, slice_get, zip}
 use Rattle.std.specs.List.{AllZip}
-use Rattle.std.proofs.lemmas.Bool.{eqb-true}
+use Rattle.std.proofs.lemmas.Bool.{eqb-true, ltb-false, ltb-true}
 use Rattle.std.proofs.lemmas.Grind.{flat_map-append}
-use Rattle.std.proofs.lemmas.List.{append_assoc, append-nil}
+use Rattle.std.proofs.lemmas.List.{append_assoc, append-nil, length-append, take-append-le, take_all}
 use Rattle.std.proofs.lemmas.List.Quantifiers.{position-Some}
+use Rattle.disk_model.specs.declared.memory.MemDisk.{MemDisk}
 use Rattle.flush_barrier.specs.declared.session_id.SessionId.{SessionId}
 use Rattle.local_store.specs.About.{About, meaning_with}
 use Rattle.local_store.specs.Meaning.{Meaning, Means}
@@ -16,13 +17,14 @@ use Rattle.nbd_session.specs.declared.answer.Export.{Export}
 use Rattle.version_table.specs.Held.{writes_upto}
 use Rattle.volume.specs.Writes.{patched, volume_of}
 use Rattle.volume.specs.declared.geometry.Geometry.{Geometry}
+use Rattle.chain_steps.specs.Node.{NodeState}
 use Rattle.chain_steps.specs.Steps.{volume_at}
 use Rattle.chain_steps.specs.declared.cause.Cause.{Cause}
 use Rattle.world_model.specs.Chain.{StandsFor, View}
-use Rattle.world_model.specs.ChainLaws.{FirstChain, IsBeginning, RestartsChain, with_members}
+use Rattle.world_model.specs.ChainLaws.{FirstChain, IsBeginning, IsOnEachDisk, RestartsChain, with_members}
 use Rattle.world_model.specs.Event.{ClientEvent}
-use Rattle.world_model.specs.Life.{HappeningsAreOfOneVolume}
-use Rattle.world_model.specs.Machine.{May, Restart, State, after, shown, start}
+use Rattle.world_model.specs.Life.{HappeningsAreOfOneVolume, all_events}
+use Rattle.world_model.specs.Machine.{May, Restart, State, after, machine_volume, shown, start}
 use Rattle.world_model.specs.Refusing.{RefusalsHavePleas, StopsHaveCauses}
 use Rattle.chain.specs.Chain.{bytes_of}
 use Rattle.chain.specs.Member.{IsShown, Linked}
@@ -32,26 +34,18 @@ use Rattle.clients.specs.Laws.{FirstHasNone, IsLawfulFor, OutputsAreLawful}
 use Rattle.clients.proofs.Places.{same_id}
 use Rattle.world.specs.World.{HappensSo, IsJoined, IsOfOneVolume, Seen, Shows}
 use Rattle.life.specs.Begun.{BeginsWith, export_of}
-use Rattle.life.specs.Headline.{AreRefusedSo, IsLawfulEra, IsLawfulSession, IsOneLife, RestartsBetween, Trace, fed_in, handed_in, told_in}
-use Rattle.life.specs.Lived.{Continues, IsFresh, Lives}
-use Rattle.life.specs.Plays.{causes_of}
+use Rattle.life.specs.Headline.{AreRefusedSo, EraLeads, ErasLead, Fit, HasWhatIsOwed, IsLawfulEra, IsLawfulSession, IsOneLife, Trace, fed_in, handed_in}
+use Rattle.life.specs.Lived.{AreOfOneVolume, HappenInTurn, HappenedUntil, IsFresh}
+use Rattle.life.specs.Plays.{DeedsLead, GoesOnFrom, causes_of}
 use Rattle.life.specs.declared.era.Answers.{Answers}
 use Rattle.life.specs.declared.era.Era.{Era}
-use Rattle.life.proofs.Beside.{all_more}
-use Rattle.life.proofs.Passing.{goes_plays, pass_as, passes_then}
+use Rattle.life.proofs.Passing.{goes_plays, happens_as, happens_then, none_happens}
 use Rattle.life.proofs.Pleas.{refused_so}
 use Rattle.life.specs.Played.{fed_by, handed_by}
 use Rattle.life.specs.declared.answer.Answer.{Answer}
 use Rattle.life.specs.declared.era.Deed.{Deed}
 
 -- ---- lists
-
-pub told_more : (eras : List Era) (answers : List Answers) (era : Era) (these : Answers) → length answers ≡ length eras
-    → told_in (eras ++ era ∷ []) (answers ++ these ∷ []) ≡ told_in eras answers ++ zip era.deeds.items these.items.items ∷ []
-told_more [] [] era these same = refl
-told_more [] (a ∷ answers) era these same = absurd (omega (arith, same))
-told_more (e ∷ eras) [] era these same = absurd (omega (arith, same))
-told_more (e ∷ eras) (a ∷ answers) era these same = ap (λ l. zip e.deeds.items a.items.items ∷ l) (told_more eras answers era these (omega (arith, same)))
 
 pub zip_more : {A B : Type 0} (xs : List A) (ys : List B) (x : A) (y : B) → length ys ≡ length xs → zip (xs ++ x ∷ []) (ys ++ y ∷ []) ≡ zip xs ys ++ (x, y) ∷ []
 zip_more [] [] x y same = refl
@@ -71,12 +65,10 @@ zip_less [] (b ∷ ys) more same = absurd (omega (arith, same))
 zip_less (a ∷ xs) [] more same = absurd (omega (arith, same))
 zip_less (a ∷ xs) (b ∷ ys) more same = ap (λ l. (a, b) ∷ l) (zip_less xs ys more (omega (arith, same)))
 
--- ---- the machine
-
-pub restarts_more : (size : ℕ) (s t : State) (eras : List (List ClientEvent)) (era : List ClientEvent) (u : State) → RestartsBetween size s eras t → RestartsBetween size t (era ∷ []) u
-    → RestartsBetween size s (eras ++ era ∷ []) u
-restarts_more size s t [] era u same later = subst (λ x. RestartsBetween size x (era ∷ []) u) same later
-restarts_more size s t (e ∷ eras) era u (moves, end, front, on, seen, may, rest) later = (moves, end, front, on, seen, may, restarts_more size (after end (Restart front)) t eras era u rest later)
+-- what each list has, of one list more
+pub events_more : (each : List (List ClientEvent)) (one : List ClientEvent) → all_events (each ++ one ∷ []) ≡ all_events each ++ one
+events_more [] one = append-nil one
+events_more (e ∷ each) one = ap (λ l. e ++ l) (events_more each one) ∙ sym (append_assoc e (all_events each) one)
 
 -- ---- an era of sessions
 
@@ -119,10 +111,10 @@ was_nothing : {A : Type 0} (xs ys more : List A) → xs ≡ ys ++ more → ys �
 was_nothing xs ys more is none = is ∙ ap (λ l. l ++ more) none
 
 module _ {S : Type 0} (about : S → About) (keeps : S → List ℕ → Type 0) (may_leave_now : S → List ℕ → Type 0) where
-  -- an era of sessions that all began in it
-  pub era_lawful : (old new : Seen S) (told : Trace) (dropped : SessionId → List ℕ) (v : View) (one : HappensSo about keeps may_leave_now old new (fed_in told) (λ id. handed_in told id ++ dropped id) v) → FirstHasNone → OutputsAreLawful
-      → old.sessions.clients ≡ [] → AreSessions new.sessions → IsLawfulEra new.sessions.export told one.events
-  era_lawful old new told dropped v one first lawful none are = record {
+  -- what came until then, of sessions that all began since
+  pub fits : (old new : Seen S) (told : Trace) (dropped : SessionId → List ℕ) (v : View) (events : List ClientEvent) (one : HappensSo about keeps may_leave_now old new (fed_in told) (λ id. handed_in told id ++ dropped id) v)
+      → one.events ≡ events → FirstHasNone → OutputsAreLawful → old.sessions.clients ≡ [] → AreSessions new.sessions → Fit new.sessions.export told events
+  fits old new told dropped v events one are first lawful none sessions = subst (Fit new.sessions.export told) are (record {
     asked = one.asked;
     lawful = λ id.
         let ext = extends id in
@@ -132,9 +124,9 @@ module _ {S : Type 0} (about : S → About) (keeps : S → List ℕ → Type 0) 
         let asked = was_nothing h.asked [] (one.asked id) ext.asked refl in
         let replies = was_nothing h.replies [] (replies_in id one.events) ext.replies refl in
         lawful_less new.sessions.export (fed_in told id) (handed_in told id) (dropped id) (one.asked id) (replies_in id one.events)
-        (rw (← fed, ← handed, ← asked, ← replies) (lawful_in new.sessions later lawful all are id));
+        (rw (← fed, ← handed, ← asked, ← replies) (lawful_in new.sessions later lawful all sessions id));
     sent = one.sent;
-  }
+  })
     where
       going : AllGo old.sessions.clients (λ id. nothing)
       going = subst (λ cs. AllGo cs (λ id. nothing)) (sym none) first
@@ -148,15 +140,109 @@ module _ {S : Type 0} (about : S → About) (keeps : S → List ℕ → Type 0) 
       extends : (id : SessionId) → Extends nothing (later id) (fed_in told id) (handed_in told id ++ dropped id) (one.asked id) (replies_in id one.events)
       extends = (one.go_on (λ id. nothing) going).2
 
+  -- an era of sessions that all began in it
+  pub era_lawful : (old new : Seen S) (told : Trace) (dropped : SessionId → List ℕ) (v : View) (export : Export) (turn : HappenInTurn about keeps may_leave_now told dropped old new v) → FirstHasNone → OutputsAreLawful
+      → old.sessions.clients ≡ [] → AreSessions new.sessions → old.sessions.export ≡ export → IsLawfulEra export told turn.happens.events
+  era_lawful old new told dropped v export turn first lawful none sessions has = record {
+    each = turn.each;
+    last = turn.last;
+    are = turn.are;
+    many = turn.many;
+    so_far = λ n within.
+        let so = turn.so_far n within in
+        let (one, same) = happens_as about keeps may_leave_now old so.at (fed_in (take n told)) (fed_in (take n told)) (handed_in (take n told)) (λ id. handed_in (take n told) id ++ no_one id) (λ id. refl) (λ id. sym (append-nil (handed_in (take n told) id))) v so.happens in
+        subst (λ e. Fit e (take n told) (all_events (take n turn.each))) (so.happens.remain.export ∙ has)
+        (fits old so.at (take n told) no_one v (all_events (take n turn.each)) one (same ∙ so.are) first lawful none so.sessions);
+    whole = subst (λ e. Fit e told turn.happens.events) (turn.happens.remain.export ∙ has) (fits old new told dropped v turn.happens.events turn.happens refl first lawful none sessions);
+  }
+
+  -- ---- one deed after another
+
+  -- before the first
+  pub none_turn : (w : Seen S) → AreSessions w.sessions → AreOfOneVolume about keeps may_leave_now [] no_one w w
+  none_turn w sessions v s shows stands =
+      let (one, none) = none_happens about keeps may_leave_now w v shows in
+      record {
+        each = [];
+        last = [];
+        many = refl;
+        so_far = λ n within. until n (omega (arith, within)) one none;
+        happens = one;
+        are = none;
+      }
+    where
+      until : (n : ℕ) → n ≡ 0 → (one : HappensSo about keeps may_leave_now w w no_one no_one v) → one.events ≡ [] → HappenedUntil about keeps may_leave_now w v (take n []) (all_events (take n []))
+      until n zeroth one none = subst (λ m. HappenedUntil about keeps may_leave_now w v (take m []) (all_events (take m []))) (sym zeroth) (record { at = w; sessions = sessions; happens = one; are = none })
+
+  module _ (law : HappeningsAreOfOneVolume) (old mid new : Seen S) (joined : IsJoined old) (joined_then : IsJoined mid) (told : Trace) (deed : Deed) (answer : Answer) where
+    abbrev More : Trace
+    More = told ++ (deed, answer) ∷ []
+
+    fed_more : (id : SessionId) → fed_in told id ++ fed_by deed answer id ≡ fed_in More id
+    fed_more id = sym (flat_map-append (λ (one : Deed × Answer). fed_by one.0 one.1 id) told ((deed, answer) ∷ []) ∙ ap (λ l. fed_in told id ++ l) (append-nil (fed_by deed answer id)))
+
+    handed_more : (id : SessionId) → (handed_in told id ++ no_one id) ++ handed_by deed answer id ≡ handed_in More id
+    handed_more id = ap (λ l. l ++ handed_by deed answer id) (append-nil (handed_in told id))
+        ∙ sym (flat_map-append (λ (one : Deed × Answer). handed_by one.0 one.1 id) told ((deed, answer) ∷ []) ∙ ap (λ l. handed_in told id ++ l) (append-nil (handed_by deed answer id)))
+
+    -- one deed more
+    pub turn_more : AreSessions new.sessions → AreOfOneVolume about keeps may_leave_now told no_one old mid → IsOfOneVolume about keeps may_leave_now (fed_by deed answer) (handed_by deed answer) mid new
+        → AreOfOneVolume about keeps may_leave_now More no_one old new
+    turn_more sessions before one v s shows stands =
+        let turn = before v s shows stands in
+        let (more, both, are) = happens_then about keeps may_leave_now law old mid new joined joined_then (fed_in told) (fed_by deed answer) (λ id. handed_in told id ++ no_one id) (handed_by deed answer) v s stands turn.happens one in
+        let (until, same) = happens_as about keeps may_leave_now old new (λ id. fed_in told id ++ fed_by deed answer id) (fed_in More) (λ id. (handed_in told id ++ no_one id) ++ handed_by deed answer id) (handed_in More) fed_more handed_more v both in
+        let (whole, still) = happens_as about keeps may_leave_now old new (fed_in More) (fed_in More) (handed_in More) (λ id. handed_in More id ++ no_one id) (λ id. refl) (λ id. sym (append-nil (handed_in More id))) v until in
+        let each = turn.each ++ (turn.last ++ more) ∷ [] in
+        let shown : until.events ≡ all_events each = same ∙ are ∙ ap (λ l. l ++ more) turn.are ∙ append_assoc (all_events turn.each) turn.last more ∙ sym (events_more turn.each (turn.last ++ more)) in
+        record {
+          each = each;
+          last = [];
+          many = let one = length-append turn.each ((turn.last ++ more) ∷ []) in let other = length-append told ((deed, answer) ∷ []) in omega (arith, one, other, turn.many);
+          so_far = λ n within. by_place turn more n within (ltb (length told) n) refl (record { at = new; sessions = sessions; happens = until; are = shown });
+          happens = whole;
+          are = still ∙ shown ∙ sym (append-nil (all_events each));
+        }
+      where
+        by_place : (turn : HappenInTurn about keeps may_leave_now told no_one old mid v) (more : List ClientEvent) (n : ℕ) → n ≤ length More → (is_all : Bool) → ltb (length told) n ≡ is_all
+            → HappenedUntil about keeps may_leave_now old v More (all_events (turn.each ++ (turn.last ++ more) ∷ []))
+            → HappenedUntil about keeps may_leave_now old v (take n More) (all_events (take n (turn.each ++ (turn.last ++ more) ∷ [])))
+        by_place turn more n within true above all =
+            let beyond = ltb-true (length told) n above in
+            let one = length-append turn.each ((turn.last ++ more) ∷ []) in
+            subst (λ l. HappenedUntil about keeps may_leave_now old v l (all_events (take n (turn.each ++ (turn.last ++ more) ∷ [])))) (sym (take_all n More (let other = length-append told ((deed, answer) ∷ []) in omega (arith, other, beyond))))
+            (subst (λ l. HappenedUntil about keeps may_leave_now old v More (all_events l)) (sym (take_all n (turn.each ++ (turn.last ++ more) ∷ []) (omega (arith, one, turn.many, beyond)))) all)
+        by_place turn more n within false above all =
+            let below = ltb-false (length told) n above in
+            subst (λ l. HappenedUntil about keeps may_leave_now old v l (all_events (take n (turn.each ++ (turn.last ++ more) ∷ [])))) (sym (take-append-le n told ((deed, answer) ∷ []) below))
+            (subst (λ l. HappenedUntil about keeps may_leave_now old v (take n told) (all_events l)) (sym (take-append-le n turn.each ((turn.last ++ more) ∷ []) (omega (arith, turn.many, below)))) (turn.so_far n below))
+
+    -- one in which a stop was met: what it told is dropped
+    pub turn_to_stop : ((id : SessionId) → fed_by deed answer id ≡ []) → AreOfOneVolume about keeps may_leave_now told no_one old mid
+        → IsOfOneVolume about keeps may_leave_now (fed_by deed answer) (handed_by deed answer) mid new → AreOfOneVolume about keeps may_leave_now told (handed_by deed answer) old new
+    turn_to_stop unfed before one v s shows stands =
+        let turn = before v s shows stands in
+        let (more, both, are) = happens_then about keeps may_leave_now law old mid new joined joined_then (fed_in told) (fed_by deed answer) (λ id. handed_in told id ++ no_one id) (handed_by deed answer) v s stands turn.happens one in
+        let (whole, same) = happens_as about keeps may_leave_now old new (λ id. fed_in told id ++ fed_by deed answer id) (fed_in told) (λ id. (handed_in told id ++ no_one id) ++ handed_by deed answer id) (λ id. handed_in told id ++ handed_by deed answer id)
+        (λ id. ap (λ l. fed_in told id ++ l) (unfed id) ∙ append-nil (fed_in told id)) (λ id. ap (λ l. l ++ handed_by deed answer id) (append-nil (handed_in told id))) v both in
+        record {
+          each = turn.each;
+          last = turn.last ++ more;
+          many = turn.many;
+          so_far = turn.so_far;
+          happens = whole;
+          are = same ∙ are ∙ ap (λ l. l ++ more) turn.are ∙ append_assoc (all_events turn.each) turn.last more;
+        }
+
   -- ---- a cut
 
-  -- what a disk is left with is some front of its member, and the machine restarts there
+  -- what a disk is left with means a front of its member, and the machine restarts there
   pub recovers : RestartsChain → (old : Seen S) (v : View) (s : State) (at : ℕ) (m : Linked S) (c : List ℕ) (meaning : Meaning) (new : Seen S)
       → ((one other : Meaning) (bytes : List ℕ) → Means one bytes → Means other bytes → one ≡ other)
       → Shows about keeps may_leave_now old v → StandsFor (bytes_of old.chain) v s → slice_get old.chain.members at ≡ Some m → may_leave_now m.node.store c → Means meaning c
       → export_of meaning.geometry ≡ export_of old.chain.geometry
       → BeginsWith about keeps may_leave_now meaning.geometry meaning.front meaning.volume new
-      → (front : ℕ) × May s (Restart front) × IsFresh about keeps may_leave_now (bytes_of old.chain) (export_of old.chain.geometry) new (after s (Restart front))
+      → May s (Restart meaning.front) × IsFresh about keeps may_leave_now (bytes_of old.chain) (export_of old.chain.geometry) new (after s (Restart meaning.front))
   recovers law old v s at m c meaning new one_meaning shows stands here left means sizes begun =
       let place = cell_of old.chain.members at m here in
       let twin = twin_of (IsShown about keeps may_leave_now (bytes_of old.chain)) place.above m place.below v.members (subst (λ l. AllZip (IsShown about keeps may_leave_now (bytes_of old.chain)) l v.members) place.split shows.chain.members) in
@@ -168,8 +254,8 @@ module _ {S : Type 0} (about : S → About) (keeps : S → List ℕ → Type 0) 
       let begins : IsBeginning front (fold patched own.volume (writes_upto own.node.table front)) begun.view =
       rw node (subst (λ f. IsBeginning f (volume_at own.volume m.node.state front) begun.view) (ap (λ x. x.front) same) (subst (λ l. IsBeginning meaning.front l begun.view) (ap (λ x. x.volume) same) begun.begins)) in
       let did = law (bytes_of old.chain) v twin.over own twin.under s front begun.view
-      (subst (λ ms. StandsFor (bytes_of old.chain) (with_members v ms) s) twin.are (same_members v (bytes_of old.chain) s stands)) (rw node durable) (rw node known) begins in (
-        front,
+      (subst (λ ms. StandsFor (bytes_of old.chain) (with_members v ms) s) twin.are (same_members v (bytes_of old.chain) s stands)) (rw node durable) (rw node known) begins in
+      subst (λ f. May s (Restart f) × IsFresh about keeps may_leave_now (bytes_of old.chain) (export_of old.chain.geometry) new (after s (Restart f))) (sym (ap (λ x. x.front) same)) (
         did.0,
         record {
           view = begun.view;
@@ -185,105 +271,29 @@ module _ {S : Type 0} (about : S → About) (keeps : S → List ℕ → Type 0) 
       same_members v size s stands = stands
 
   -- the export is that of the chain's sizes
-  exported_as : (w : Seen S) → IsJoined w → export_of w.chain.geometry ≡ w.sessions.export
+  pub exported_as : (w : Seen S) → IsJoined w → export_of w.chain.geometry ≡ w.sessions.export
   exported_as w joined = rw (joined.size, joined.payload) refl
 
-  -- ---- a life
+  -- ---- what is left of disks
 
-  pub era_continues : HappeningsAreOfOneVolume → RefusalsHavePleas → StopsHaveCauses → RestartsChain → FirstHasNone → OutputsAreLawful
-      → ((one other : Meaning) (bytes : List ℕ) → Means one bytes → Means other bytes → one ≡ other)
-      → (old mid new : Seen S) (told : Trace) (dropped : SessionId → List ℕ) (at : ℕ) (m : Linked S) (c : List ℕ) (meaning : Meaning) → IsJoined old → IsJoined mid → AreSessions mid.sessions
-      → IsOfOneVolume about keeps may_leave_now (fed_in told) (λ id. handed_in told id ++ dropped id) old mid
-      → slice_get mid.chain.members at ≡ Some m → may_leave_now m.node.store c → Means meaning c
-      → export_of meaning.geometry ≡ export_of mid.chain.geometry
-      → BeginsWith about keeps may_leave_now meaning.geometry meaning.front meaning.volume new
-      → Continues about keeps may_leave_now told (causes_of mid) old new
-  era_continues happenings pleas causes restarts first lawful one_meaning old mid new told dropped at m c meaning joined joined_then are pass here left means sizes begun export s fresh =
-      let size : export.size ≡ bytes_of old.chain = ap (λ e. e.size) (sym fresh.has) ∙ joined.size in
-      let stands = subst (λ n. StandsFor n fresh.view s) size fresh.stands in
-      let one = pass fresh.view s fresh.shows stands in
-      let plays = goes_plays happenings (bytes_of old.chain) fresh.view one.w one.events one.goes s stands in
-      let stays : bytes_of mid.chain ≡ bytes_of old.chain = sym joined_then.size ∙ ap (λ e. e.size) one.remain.export ∙ joined.size in
-      let rec_ = recovers restarts mid one.w plays.1 at m c meaning new one_meaning one.shows (subst (λ n. StandsFor n one.w plays.1) (sym stays) plays.4) here left means sizes begun in
-      let exported : mid.sessions.export ≡ export = one.remain.export ∙ fresh.has in
-      let again : export_of mid.chain.geometry ≡ export = exported_as mid joined_then ∙ exported in
+  -- whatever a stop may leave of each member's disk has what is owed
+  pub each_disk : IsOnEachDisk → (w : Seen S) (v : View) (s : State) → Shows about keeps may_leave_now w v → StandsFor (bytes_of w.chain) v s
+      → (at : ℕ) (m : Linked S) → slice_get w.chain.members at ≡ Some m → (bytes : List ℕ) → may_leave_now m.node.store bytes → HasWhatIsOwed (bytes_of w.chain) s (about m.node.store) bytes
+  each_disk law w v s shows stands at m here bytes left =
+      let place = cell_of w.chain.members at m here in
+      let twin = twin_of (IsShown about keeps may_leave_now (bytes_of w.chain)) place.above m place.below v.members (subst (λ l. AllZip (IsShown about keeps may_leave_now (bytes_of w.chain)) l v.members) place.split shows.chain.members) in
+      let so = twin.fits in
+      let own = twin.own in
+      let (front, durable, known, is) = so.left bytes left in
+      let node : own.node ≡ m.node.state = ap (λ x. x.node) so.is in
+      let (owed, taken, volume) = law (bytes_of w.chain) v twin.over own twin.under s front
+      (subst (λ ms. StandsFor (bytes_of w.chain) (with_members v ms) s) twin.are (same_members v (bytes_of w.chain) s stands)) (rw node durable) (rw node known) in
       record {
-        events = one.events;
-        lawful = subst (λ e. IsLawfulEra e told one.events) exported (era_lawful old mid told dropped fresh.view one first lawful fresh.no_clients are);
-        refused = refused_so about keeps may_leave_now pleas causes (bytes_of old.chain) old mid fresh.view one.w one.events fresh.shows one.shows fresh.runs one.goes;
-        moves = plays.0;
-        end = plays.1;
-        front = rec_.0;
-        on = plays.2;
-        seen = subst (λ n. shown n s plays.0 ≡ one.events) (sym size) plays.3;
-        may = rec_.1;
-        fresh = subst (λ n. IsFresh about keeps may_leave_now n export new (after plays.1 (Restart rec_.0))) (stays ∙ sym size)
-            (subst (λ e. IsFresh about keeps may_leave_now (bytes_of mid.chain) e new (after plays.1 (Restart rec_.0))) again rec_.2);
+        front = front;
+        owed = owed;
+        taken = taken;
+        means = subst (λ l. Means (meaning_with (record (about m.node.store) { front = front }) l) bytes) (ap (λ (n : NodeState). volume_at own.volume n front) (sym node) ∙ volume) is;
       }
-
-  -- one deed more
-  pub pass_more : HappeningsAreOfOneVolume → (old mid new : Seen S) → IsJoined old → IsJoined mid → (told : Trace) (deed : Deed) (answer : Answer)
-      → IsOfOneVolume about keeps may_leave_now (fed_in told) (handed_in told) old mid → IsOfOneVolume about keeps may_leave_now (fed_by deed answer) (handed_by deed answer) mid new
-      → IsOfOneVolume about keeps may_leave_now (fed_in (told ++ (deed, answer) ∷ [])) (handed_in (told ++ (deed, answer) ∷ [])) old new
-  pass_more law old mid new joined joined_then told deed answer first one =
-      pass_as about keeps may_leave_now old new (λ id. fed_in told id ++ fed_by deed answer id) (fed_in (told ++ (deed, answer) ∷ [])) (λ id. handed_in told id ++ handed_by deed answer id) (handed_in (told ++ (deed, answer) ∷ []))
-      (λ id. sym (flat_map-append (fed_one id) told ((deed, answer) ∷ []) ∙ ap (λ l. fed_in told id ++ l) (append-nil (fed_by deed answer id))))
-      (λ id. sym (flat_map-append (handed_one id) told ((deed, answer) ∷ []) ∙ ap (λ l. handed_in told id ++ l) (append-nil (handed_by deed answer id))))
-      (passes_then about keeps may_leave_now law old mid new joined joined_then (fed_in told) (fed_by deed answer) (handed_in told) (handed_by deed answer) first one)
     where
-      fed_one : SessionId → Deed × Answer → List ℕ
-      fed_one id one = fed_by one.0 one.1 id
-
-      handed_one : SessionId → Deed × Answer → List ℕ
-      handed_one id one = handed_by one.0 one.1 id
-
-  -- one deed more, in which a stop was met: what it told is dropped
-  pub pass_to_stop : HappeningsAreOfOneVolume → (old mid new : Seen S) → IsJoined old → IsJoined mid → (told : Trace) (deed : Deed) (answer : Answer) → ((id : SessionId) → fed_by deed answer id ≡ [])
-      → IsOfOneVolume about keeps may_leave_now (fed_in told) (handed_in told) old mid → IsOfOneVolume about keeps may_leave_now (fed_by deed answer) (handed_by deed answer) mid new
-      → IsOfOneVolume about keeps may_leave_now (fed_in told) (λ id. handed_in told id ++ handed_by deed answer id) old new
-  pass_to_stop law old mid new joined joined_then told deed answer unfed first one =
-      pass_as about keeps may_leave_now old new (λ id. fed_in told id ++ fed_by deed answer id) (fed_in told) (λ id. handed_in told id ++ handed_by deed answer id) (λ id. handed_in told id ++ handed_by deed answer id)
-      (λ id. ap (λ l. fed_in told id ++ l) (unfed id) ∙ append-nil (fed_in told id)) (λ id. refl)
-      (passes_then about keeps may_leave_now law old mid new joined joined_then (fed_in told) (fed_by deed answer) (handed_in told) (handed_by deed answer) first one)
-
-  -- nothing is dropped where none was met
-  pub pass_whole : (old new : Seen S) (told : Trace) → IsOfOneVolume about keeps may_leave_now (fed_in told) (handed_in told) old new
-      → IsOfOneVolume about keeps may_leave_now (fed_in told) (λ id. handed_in told id ++ no_one id) old new
-  pass_whole old new told one = pass_as about keeps may_leave_now old new (fed_in told) (fed_in told) (handed_in told) (λ id. handed_in told id ++ no_one id) (λ id. refl) (λ id. sym (append-nil (handed_in told id))) one
-
-  pub begins_life : FirstChain → (geometry : Geometry) (w : Seen S) → BeginsWith about keeps may_leave_now geometry 0 (volume_of (4096 * geometry.blocks) []) w
-      → Lives about keeps may_leave_now (4096 * geometry.blocks) (export_of geometry) [] [] w
-  begins_life first geometry w begun = record {
-    events = [];
-    lawful = tt;
-    refused = tt;
-    end = start;
-    runs = refl;
-    fresh = record { view = begun.view; shows = begun.shows; stands = first (4096 * geometry.blocks) begun.view begun.begins; no_clients = begun.no_clients; has = begun.export; runs = begun.runs };
-  }
-
-  pub lives_on : (export : Export) (eras : List Trace) (told : Trace) (stops : List (List Cause)) (causes : List Cause) (old new : Seen S) → Lives about keeps may_leave_now export.size export eras stops old
-      → Continues about keeps may_leave_now told causes old new → Lives about keeps may_leave_now export.size export (eras ++ told ∷ []) (stops ++ causes ∷ []) new
-  lives_on export eras told stops causes old new was continues =
-      let did = continues export was.end was.fresh in
-      record {
-        events = was.events ++ did.events ∷ [];
-        lawful = all_more (IsLawfulEra export) eras was.events told did.events was.lawful did.lawful;
-        refused = all_more AreRefusedSo stops was.events causes did.events was.refused did.refused;
-        end = after did.end (Restart did.front);
-        runs = restarts_more export.size start was.end was.events did.events (after did.end (Restart did.front)) was.runs (did.moves, did.end, did.front, did.on, did.seen, did.may, refl);
-        fresh = did.fresh;
-      }
-
-  pub one_life : (size : ℕ) (export : Export) (eras : List Trace) (WasPlayed : List (List Cause) → Type 0) (stops : List (List Cause)) (w : Seen S) → WasPlayed stops → Lives about keeps may_leave_now size export eras stops w
-      → IsOneLife size export eras WasPlayed (λ end. (v : View) × Shows about keeps may_leave_now w v × StandsFor size v end)
-  one_life size export eras WasPlayed stops w played lives = record {
-    events = lives.events;
-    lawful = lives.lawful;
-    stops = stops;
-    played = played;
-    refused = lives.refused;
-    end = lives.end;
-    runs = lives.runs;
-    so = (lives.fresh.view, lives.fresh.shows, lives.fresh.stands);
-  }
+      same_members : (v : View) (size : ℕ) (s : State) → StandsFor size v s → StandsFor size (with_members v v.members) s
+      same_members v size s stands = stands

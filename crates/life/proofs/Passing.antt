@@ -8,12 +8,12 @@ use Rattle.local_store.specs.About.{About}
 use Rattle.world_model.specs.Chain.{StandsFor, View}
 use Rattle.world_model.specs.Event.{ClientEvent}
 use Rattle.world_model.specs.Life.{Era, Happening, HappeningsAreOfOneVolume, all_events}
-use Rattle.world_model.specs.Machine.{Plays}
+use Rattle.world_model.specs.Machine.{Plays, State}
 use Rattle.nbd_session.specs.Demand.{Asked}
 use Rattle.world_model.specs.Runs.{plays_nothing, plays_then}
 use Rattle.chain.specs.Chain.{bytes_of}
 use Rattle.clients.specs.Clients.{Sessions, held_under, no_one, place_of}
-use Rattle.world.specs.World.{AskWhatWasSent, Goes, IsJoined, IsOfOneVolume, Remain, Seen, sent_by, sent_in}
+use Rattle.world.specs.World.{AskWhatWasSent, Goes, HappensSo, IsJoined, IsOfOneVolume, Remain, Seen, Shows, sent_by, sent_in}
 use Rattle.world.proofs.Sending.{none_asked}
 use Rattle.world.proofs.Going.{goes_nowhere, goes_on}
 use Rattle.world.proofs.GoingOn.{go_on_as, go_on_still, go_on_then}
@@ -32,17 +32,21 @@ pub goes_plays : HappeningsAreOfOneVolume → (size : ℕ) (v w : View) (events 
 goes_plays law size v w events goes = subst (Plays size (StandsFor size v) (StandsFor size w)) goes.all (era_plays law size goes.happenings v w goes.each goes.era)
 
 module _ {S : Type 0} (about : S → About) (keeps : S → List ℕ → Type 0) (may_leave_now : S → List ℕ → Type 0) where
-  pub none_pass : (w : Seen S) → IsOfOneVolume about keeps may_leave_now no_one no_one w w
-  none_pass w v s shows stands = record {
-    w = v;
-    events = [];
-    asked = no_one;
-    shows = shows;
-    goes = goes_nowhere v;
-    go_on = go_on_still w.sessions.clients;
-    sent = none_asked;
-    remain = record { places = λ id place there. there; came = λ id place there. inl there; many = omega arith; export = refl };
-  }
+  -- nothing happened
+  pub none_happens : (w : Seen S) (v : View) → Shows about keeps may_leave_now w v → (one : HappensSo about keeps may_leave_now w w no_one no_one v) × (one.events ≡ [])
+  none_happens w v shows = (
+    record {
+      w = v;
+      events = [];
+      asked = no_one;
+      shows = shows;
+      goes = goes_nowhere v;
+      go_on = go_on_still w.sessions.clients;
+      sent = none_asked;
+      remain = record { places = λ id place there. there; came = λ id place there. inl there; many = omega arith; export = refl };
+    },
+    refl,
+  )
 
   -- who isn't there wasn't there before
   not_before : (a b : Sessions) → Remain a b → (id : SessionId) (was : Option ℕ) → place_of id a.clients ≡ was → place_of id b.clients ≡ None → place_of id a.clients ≡ None
@@ -75,36 +79,40 @@ module _ {S : Type 0} (about : S → About) (keeps : S → List ℕ → Type 0) 
         ∙ ap (λ l. map (held_under id) (asked id) ++ l) (two id)
         ∙ sym (map-append (held_under id) (asked id) (asked2 id))
 
-    pub passes_then : IsOfOneVolume about keeps may_leave_now fed handed old mid → IsOfOneVolume about keeps may_leave_now fed2 handed2 mid new
-        → IsOfOneVolume about keeps may_leave_now (λ id. fed id ++ fed2 id) (λ id. handed id ++ handed2 id) old new
-    passes_then first second v s shows stands =
-        let one = first v s shows stands in
+    -- what happened in a world, and then in the one that it led to, happens in it
+    pub happens_then : (v : View) (s : State) → StandsFor (bytes_of old.chain) v s → (one : HappensSo about keeps may_leave_now old mid fed handed v) → IsOfOneVolume about keeps may_leave_now fed2 handed2 mid new
+        → (more : List ClientEvent) × (both : HappensSo about keeps may_leave_now old new (λ id. fed id ++ fed2 id) (λ id. handed id ++ handed2 id) v) × (both.events ≡ one.events ++ more)
+    happens_then v s stands one second =
         let size = size_stays one.remain in
         let plays = goes_plays law (bytes_of old.chain) v one.w one.events one.goes s stands in
-        let two = second one.w plays.1 one.shows (subst (λ n. StandsFor n one.w plays.1) (sym size) plays.4) in
-        record {
-          w = two.w;
-          events = one.events ++ two.events;
-          asked = λ id. one.asked id ++ two.asked id;
-          shows = two.shows;
-          goes = goes_on v one.w two.w one.events two.events one.goes (subst (λ n. Goes n one.w two.w two.events) size two.goes);
-          go_on = go_on_then old.sessions.clients mid.sessions.clients new.sessions.clients fed fed2 handed handed2 one.asked two.asked one.events two.events one.go_on two.go_on;
-          sent = sent_then one.asked two.asked one.events two.events one.sent two.sent;
-          remain = remain_then old.sessions mid.sessions new.sessions one.remain two.remain;
-        }
+        let two = second one.w plays.1 one.shows (subst (λ n. StandsFor n one.w plays.1) (sym size) plays.4) in (
+          two.events,
+          record {
+            w = two.w;
+            events = one.events ++ two.events;
+            asked = λ id. one.asked id ++ two.asked id;
+            shows = two.shows;
+            goes = goes_on v one.w two.w one.events two.events one.goes (subst (λ n. Goes n one.w two.w two.events) size two.goes);
+            go_on = go_on_then old.sessions.clients mid.sessions.clients new.sessions.clients fed fed2 handed handed2 one.asked two.asked one.events two.events one.go_on two.go_on;
+            sent = sent_then one.asked two.asked one.events two.events one.sent two.sent;
+            remain = remain_then old.sessions mid.sessions new.sessions one.remain two.remain;
+          },
+          refl,
+        )
 
   -- the same, told otherwise
-  pub pass_as : (old new : Seen S) (fed fed2 handed handed2 : SessionId → List ℕ) → ((id : SessionId) → fed id ≡ fed2 id) → ((id : SessionId) → handed id ≡ handed2 id)
-      → IsOfOneVolume about keeps may_leave_now fed handed old new → IsOfOneVolume about keeps may_leave_now fed2 handed2 old new
-  pass_as old new fed fed2 handed handed2 feds handeds pass v s shows stands =
-      let one = pass v s shows stands in
-      record {
-        w = one.w;
-        events = one.events;
-        asked = one.asked;
-        shows = one.shows;
-        goes = one.goes;
-        go_on = go_on_as old.sessions.clients new.sessions.clients fed fed2 handed handed2 one.asked one.asked one.events feds handeds (λ id. refl) one.go_on;
-        sent = one.sent;
-        remain = one.remain;
-      }
+  pub happens_as : (old new : Seen S) (fed fed2 handed handed2 : SessionId → List ℕ) → ((id : SessionId) → fed id ≡ fed2 id) → ((id : SessionId) → handed id ≡ handed2 id)
+      → (v : View) (one : HappensSo about keeps may_leave_now old new fed handed v) → (other : HappensSo about keeps may_leave_now old new fed2 handed2 v) × (other.events ≡ one.events)
+  happens_as old new fed fed2 handed handed2 feds handeds v one = (
+    record {
+      w = one.w;
+      events = one.events;
+      asked = one.asked;
+      shows = one.shows;
+      goes = one.goes;
+      go_on = go_on_as old.sessions.clients new.sessions.clients fed fed2 handed handed2 one.asked one.asked one.events feds handeds (λ id. refl) one.go_on;
+      sent = one.sent;
+      remain = one.remain;
+    },
+    refl,
+  )

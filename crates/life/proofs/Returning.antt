@@ -8,6 +8,7 @@ use Rattle.chain.specs.Chain.{Chained, bytes_of}
 use Rattle.chain.specs.Member.{IsShown, Linked}
 use Rattle.chain.proofs.Cells.{place_of as cell_of, twin_of}
 use Rattle.disk_model.specs.Memory.{given_of}
+use Rattle.disk_model.specs.declared.content.Cut.{Cut}
 use Rattle.disk_model.specs.declared.memory.MemDisk.{MemDisk}
 use Rattle.home_blocks.specs.Home.{IsNoVolume, IsOtherVersion}
 use Rattle.local_store.specs.About.{About}
@@ -17,18 +18,19 @@ use Rattle.local_store.specs.Refusal.{IsNotOfDevice, IsOfOpening}
 use Rattle.local_store.specs.declared.refusal.Refusal as store
 use Rattle.local_store.specs.declared.refusal.Refusal.TheVariants as stores
 use Rattle.volume.specs.declared.geometry.Geometry.{Geometry}
+use Rattle.nbd_session.specs.declared.answer.Export.{Export}
 use Rattle.world.specs.World.{Seen, Shows}
+use Rattle.world_model.specs.Machine.{State}
 use Rattle.world_model.specs.Chain.{View}
 use Rattle.life.specs.Begun.{AreOnDisks, IsCutFrom, IsOfMember}
-use Rattle.chain_steps.specs.declared.cause.Cause.{Cause}
-use Rattle.life.specs.Plays.{ErasLead}
+use Rattle.life.specs.Headline.{ErasLead}
 use Rattle.life.specs.Refusal.{BreaksOff, EndsAtReturn, IsOfMemory, IsOfReopening, ReturnsNobody}
 use Rattle.life.specs.declared.era.Answers.{Answers}
 use Rattle.life.specs.declared.era.Era.{Era}
 use Rattle.life.specs.declared.refusal.Refusal.{Refusal}
 use Rattle.life.specs.declared.refusal.Refusal.TheVariants.{Store}
 use Rattle.life.proofs.Owners.{StayOwn, own_of}
-use Rattle.life.proofs.Starting.{IsStore, about_of_store, all_mapped, keeps_volume, leaves_now}
+use Rattle.life.proofs.Starting.{IsStore, about_of_store, all_mapped, disk_in, keeps_volume, leaves_now}
 
 -- what is so of what is there
 pub if_some : {A : Type 0} (o : Option A) (P : A → Type 0) → ((x : A) → o ≡ Some x → P x) → IfSome o P
@@ -67,8 +69,8 @@ many_stay about old new stays = sym (length-map new.members (own_of about)) ∙ 
 
 -- it is its member's, with the sizes of the chain's volume
 pub cut_of_member : (old : Seen IsStore) (v : View) (at : ℕ) (m : Linked IsStore) (disk : MemDisk) → Shows about_of_store keeps_volume leaves_now old v → slice_get old.chain.members at ≡ Some m
-    → IsCutFrom leaves_now m.node.store disk → AreOnDisks about_of_store old → (is : IsOfMember disk) × (is.meaning.geometry ≡ old.chain.geometry)
-cut_of_member old v at m disk shows here cut on =
+    → (kind : Cut) → IsCutFrom leaves_now disk_in kind m.node.store disk → AreOnDisks about_of_store old → (is : IsOfMember disk) × (is.meaning.geometry ≡ old.chain.geometry)
+cut_of_member old v at m disk shows here kind cut on =
     let place = cell_of old.chain.members at m here in
     let twin = twin_of (IsShown about_of_store keeps_volume leaves_now (bytes_of old.chain)) place.above m place.below v.members
     (subst (λ l. AllZip (IsShown about_of_store keeps_volume leaves_now (bytes_of old.chain)) l v.members) place.split shows.chain.members) in
@@ -114,21 +116,20 @@ reopening_of_memory stores.Unfinished told calm = absurd told
 reopening_of_memory stores.Backwards told calm = absurd told
 
 module _ {S : Type 0} (premise : Type 0) (about : S → About) (keeps : S → List ℕ → Type 0) (is_pending : S → ℕ → Type 0) (may_leave_now : S → List ℕ → Type 0) (moment : S → ℕ)
-    (left_since : S → ℕ → List ℕ → Type 0) (failures : S → ℕ) (disk : S → MemDisk) where
-  returns_nobody : (eras : List Era) (answers : List Answers) (stops : List (List Cause)) (first w : Seen S) (members : ℕ) (era : Era) (rest : List Era)
-      → ErasLead premise about keeps is_pending may_leave_now moment left_since failures disk eras answers stops first w → length first.chain.members ≡ members → length w.chain.members ≤ era.returned
-      → ReturnsNobody members (eras ++ era ∷ rest)
-  returns_nobody [] [] [] first w members era rest leads many beyond = inl (omega (arith, beyond, many, ap (λ (x : Seen S). length x.chain.members) leads))
-  returns_nobody [] [] (c ∷ stops) first w members era rest leads many beyond = absurd leads
-  returns_nobody [] (a ∷ answers) stops first w members era rest leads many beyond = absurd leads
-  returns_nobody (e ∷ eras) [] stops first w members era rest leads many beyond = absurd leads
-  returns_nobody (e ∷ eras) (a ∷ answers) [] first w members era rest leads many beyond = absurd leads
-  returns_nobody (e ∷ eras) (a ∷ answers) (c ∷ stops) first w members era rest (next, (end, lead, causes, goes), later) many beyond =
-      inr (returns_nobody eras answers stops next w 1 era rest later goes.alone beyond)
+    (left_since : S → ℕ → List ℕ → Type 0) (failures : S → ℕ) (disk : S → MemDisk) (export : Export) where
+  abbrev Lead : List Era → List Answers → Seen S → State → Seen S → State → Type 0
+  Lead = ErasLead premise about keeps is_pending may_leave_now moment left_since failures disk export
+
+  returns_nobody : (eras : List Era) (answers : List Answers) (first : Seen S) (s : State) (w : Seen S) (t : State) (members : ℕ) (era : Era) (rest : List Era)
+      → Lead eras answers first s w t → length first.chain.members ≡ members → length w.chain.members ≤ era.returned → ReturnsNobody members (eras ++ era ∷ rest)
+  returns_nobody [] [] first s w t members era rest (same, stays) many beyond = inl (omega (arith, beyond, many, ap (λ (x : Seen S). length x.chain.members) same))
+  returns_nobody [] (a ∷ answers) first s w t members era rest leads many beyond = absurd leads
+  returns_nobody (e ∷ eras) [] first s w t members era rest leads many beyond = absurd leads
+  returns_nobody (e ∷ eras) (a ∷ answers) first s w t members era rest (next, between, one, later) many beyond =
+      inr (returns_nobody eras answers next between w t 1 era rest later one.goes_on.alone beyond)
 
   -- an era breaks off the life
-  pub breaks_off : (refusal : Refusal) (eras : List Era) (answers : List Answers) (stops : List (List Cause)) (first w : Seen S) (members : ℕ) (era : Era) (rest : List Era)
-      → ErasLead premise about keeps is_pending may_leave_now moment left_since failures disk eras answers stops first w → length first.chain.members ≡ members
-      → EndsAtReturn (length w.chain.members) era.returned refusal → BreaksOff members (eras ++ era ∷ rest) refusal
-  breaks_off refusal eras answers stops first w members era rest leads many (inl memory) = inl memory
-  breaks_off refusal eras answers stops first w members era rest leads many (inr (none, beyond)) = inr (none, returns_nobody eras answers stops first w members era rest leads many beyond)
+  pub breaks_off : (refusal : Refusal) (eras : List Era) (answers : List Answers) (first : Seen S) (s : State) (w : Seen S) (t : State) (members : ℕ) (era : Era) (rest : List Era)
+      → Lead eras answers first s w t → length first.chain.members ≡ members → EndsAtReturn (length w.chain.members) era.returned refusal → BreaksOff members (eras ++ era ∷ rest) refusal
+  breaks_off refusal eras answers first s w t members era rest leads many (inl memory) = inl memory
+  breaks_off refusal eras answers first s w t members era rest leads many (inr (none, beyond)) = inr (none, returns_nobody eras answers first s w t members era rest leads many beyond)

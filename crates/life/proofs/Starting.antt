@@ -8,7 +8,6 @@ use Rattle.std.proofs.lemmas.List.FromFn.{get_or-map-range_with_len, length-map-
 use Rattle.chain.specs.Chain.{Chained}
 use Rattle.chain.specs.Chain as chain
 use Rattle.chain.specs.LoneBoard.{Words}
-use Rattle.chain_steps.specs.declared.cause.Cause.{Cause}
 use Rattle.chain.specs.Opening.{AreEven, beginning_of, recorded_in, words_of}
 use Rattle.clients.specs.Clients.{Sessions}
 use Rattle.configurations.specs.Record.{AreMembers, Record}
@@ -19,12 +18,15 @@ use Rattle.disk_model.specs.declared.memory.MemDisk.{MemDisk}
 use Rattle.local_store.specs.About.{About, about_of}
 use Rattle.local_store.specs.Store.{IsStored}
 use Rattle.local_store.specs.declared.store.Store.{Store}
+use Rattle.nbd_session.specs.declared.answer.Export.{Export}
 use Rattle.volume.specs.declared.geometry.Geometry.{Geometry}
 use Rattle.world.specs.World.{HasNoClients, Seen, Shows}
 use Rattle.world_model.specs.Chain.{View}
 use Rattle.world_model.specs.ChainLaws.{IsBeginning}
+use Rattle.world_model.specs.Machine.{State}
 use Rattle.life.specs.Begun.{AreOnDisks, BeginsWith, export_of, first_about}
-use Rattle.life.specs.Plays.{DeedsLead, IsPlayed}
+use Rattle.life.specs.Headline.{ErasLead}
+use Rattle.life.specs.Plays.{DeedsLead}
 use Rattle.life.specs.declared.answer.Answer.{Answer}
 use Rattle.life.specs.declared.era.Answers.{Answers}
 use Rattle.life.specs.declared.era.Deed.{Deed}
@@ -173,8 +175,8 @@ disk_in s = s.disk
 abbrev pub LeadOnDisks : List Deed → List Answer → Seen IsStore → Seen IsStore → Type 0
 LeadOnDisks = DeedsLead (Unit {0}) about_of_store keeps_volume pends_in leaves_now moment_in left_in failures_in disk_in
 
-abbrev pub PlayedOnDisks : Geometry → ℕ → List Era → List Answers → List (List Cause) → Seen IsStore → Type 0
-PlayedOnDisks = IsPlayed (Unit {0}) about_of_store keeps_volume pends_in leaves_now moment_in left_in failures_in disk_in
+abbrev pub ErasOnDisks : Export → List Era → List Answers → Seen IsStore → State → Seen IsStore → State → Type 0
+ErasOnDisks = ErasLead (Unit {0}) about_of_store keeps_volume pends_in leaves_now moment_in left_in failures_in disk_in
 
 pub first_begins : (geometry : Geometry) (n : ℕ) (stores : List IsStore) (w : Seen IsStore) → map about_of_store stores ≡ map (first_about geometry) (range_with_len 0 n) → 0 < n → All (keeps_zeros geometry) stores
     → IfSome (slice_get stores 0) (λ first. (volume : List ℕ) → All (λ s. keeps_volume s volume) stores → BeginsWith about_of_store keeps_volume leaves_now (about_of_store first).geometry (about_of_store first).front volume w)

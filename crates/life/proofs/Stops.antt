@@ -19,7 +19,7 @@ use Rattle.life.specs.declared.era.Deed.TheVariants as deeds
 use Rattle.life.specs.declared.step.Step.TheVariants.{Connect, Bytes, End, HandOut, Member}
 use Rattle.life.proofs.Owners.{takes_in}
 
-there_at : {A : Type 0} (xs : List A) (at : ℕ) → at < length xs → (x : A) × (slice_get xs at ≡ Some x)
+pub there_at : {A : Type 0} (xs : List A) (at : ℕ) → at < length xs → (x : A) × (slice_get xs at ≡ Some x)
 there_at [] at within = absurd (omega (arith, within))
 there_at (x ∷ xs) zero within = (x, refl)
 there_at (x ∷ xs) (suc at) within = there_at xs at (omega (arith, within))

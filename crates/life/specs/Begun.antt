@@ -1,7 +1,9 @@
 -- A world that begins, and what its disks are after a cut.
 use Rattle.std.specs.Prelude.{◌≡◌, ℕ, ◌*◌, ◌<◌, ◌≤◌, false, All, List, [], None, length}
 use Rattle.disk_model.specs.Disk.{Only}
-use Rattle.disk_model.specs.Memory.{given_of, may_be_left}
+use Rattle.disk_model.specs.Content.{left_by}
+use Rattle.disk_model.specs.Memory.{bytes_of, given_of, may_be_left, unsynced_of}
+use Rattle.disk_model.specs.declared.content.Cut.{Cut}
 use Rattle.disk_model.specs.declared.memory.MemDisk.{MemDisk}
 use Rattle.home_blocks.specs.Places.{disk_size_of}
 use Rattle.local_store.specs.About.{About}
@@ -34,8 +36,10 @@ pub record BeginsWith {S : Type 0} (about : S → About) (keeps : S → List ℕ
   pub no_clients : w.sessions.clients ≡ []
   pub runs : AllRun w
 
--- the disk holds a content that a stop may leave of the store's, and nothing else any more
-pub record IsCutFrom {S : Type 0} (may_leave_now : S → List ℕ → Type 0) (store : S) (disk : MemDisk) : Type 0 where
+-- The disk holds what this cut leaves of the store's: of what was written since the last sync all, or none. That is one content that a stop
+-- may leave of it, and nothing else may be left any more.
+pub record IsCutFrom {S : Type 0} (may_leave_now : S → List ℕ → Type 0) (own : S → MemDisk) (cut : Cut) (store : S) (disk : MemDisk) : Type 0 where
+  pub content : given_of disk ≡ left_by cut (bytes_of (own store)) (unsynced_of (own store))
   pub left : may_leave_now store (given_of disk)
   pub only : Only (given_of disk) (may_be_left disk)
 

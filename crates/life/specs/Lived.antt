@@ -1,15 +1,17 @@
--- An era of a life, and the eras before it.
-use Rattle.std.specs.Prelude.{◌≡◌, ℕ, List, []}
-use Rattle.std.specs.List.{AllZip}
+-- What an era is while it is played: the contract of what plays its deeds.
+use Rattle.std.specs.Prelude.{◌≡◌, ℕ, ◌≤◌, List, [], ◌++◌, length, take}
+use Rattle.flush_barrier.specs.declared.session_id.SessionId.{SessionId}
 use Rattle.local_store.specs.About.{About}
-use Rattle.chain_steps.specs.declared.cause.Cause.{Cause}
 use Rattle.nbd_session.specs.declared.answer.Export.{Export}
+use Rattle.clients.specs.Clients.{AreSessions}
+use Rattle.chain.specs.Chain.{bytes_of}
 use Rattle.world_model.specs.Chain.{StandsFor, View}
 use Rattle.world_model.specs.Event.{ClientEvent}
-use Rattle.world_model.specs.Machine.{May, Move, Restart, RunsOn, State, after, shown, start}
-use Rattle.world.specs.World.{Seen, Shows}
+use Rattle.world_model.specs.Life.{all_events}
+use Rattle.world_model.specs.Machine.{State}
+use Rattle.world.specs.World.{HappensSo, Seen, Shows}
 use Rattle.life.specs.Begun.{AllRun}
-use Rattle.life.specs.Headline.{AreRefusedSo, IsLawfulEra, RestartsBetween, Trace}
+use Rattle.life.specs.Headline.{Trace, fed_in, handed_in}
 
 -- The world stands for this state of the machine, has no clients, and all its members run.
 pub record IsFresh {S : Type 0} (about : S → About) (keeps : S → List ℕ → Type 0) (may_leave_now : S → List ℕ → Type 0) (size : ℕ) (export : Export) (w : Seen S) (s : State) : Type 0 where
@@ -20,30 +22,23 @@ pub record IsFresh {S : Type 0} (about : S → About) (keeps : S → List ℕ �
   pub has : w.sessions.export ≡ export
   pub runs : AllRun w
 
--- an era was lawful, at whose end members had stopped for these causes; one run of the machine without a restart shows it, and then the machine
--- restarts
-pub record Continued {S : Type 0} (about : S → About) (keeps : S → List ℕ → Type 0) (may_leave_now : S → List ℕ → Type 0) (size : ℕ) (export : Export) (told : Trace) (stops : List Cause) (s : State) (new : Seen S) : Type 0 where
-  pub events : List ClientEvent
-  pub lawful : IsLawfulEra export told events
-  pub refused : AreRefusedSo stops events
-  pub moves : List Move
-  pub end : State
-  pub front : ℕ
-  pub on : RunsOn s moves end
-  pub seen : shown size s moves ≡ events
-  pub may : May end (Restart front)
-  pub fresh : IsFresh about keeps may_leave_now size export new (after end (Restart front))
+-- These deeds can happen in a world that is shown so, whose clients see these events.
+pub record HappenedUntil {S : Type 0} (about : S → About) (keeps : S → List ℕ → Type 0) (may_leave_now : S → List ℕ → Type 0) (old : Seen S) (v : View) (told : Trace) (events : List ClientEvent) : Type 0 where
+  pub at : Seen S
+  pub sessions : AreSessions at.sessions
+  pub happens : HappensSo about keeps may_leave_now old at (fed_in told) (handed_in told) v
+  pub are : happens.events ≡ events
 
--- whatever the world stood for, it went on so
-abbrev pub Continues : {S : Type 0} → (S → About) → (S → List ℕ → Type 0) → (S → List ℕ → Type 0) → Trace → List Cause → Seen S → Seen S → Type 0
-Continues about keeps may_leave_now told stops old new =
-    (export : Export) (s : State) → IsFresh about keeps may_leave_now export.size export old s → Continued about keeps may_leave_now export.size export told stops s new
+-- These deeds can happen in it one after another, and behind them one of which nothing went out but what was dropped.
+pub record HappenInTurn {S : Type 0} (about : S → About) (keeps : S → List ℕ → Type 0) (may_leave_now : S → List ℕ → Type 0) (told : Trace) (dropped : SessionId → List ℕ) (old new : Seen S) (v : View) : Type 0 where
+  pub each : List (List ClientEvent)
+  pub last : List ClientEvent
+  pub many : length each ≡ length told
+  pub so_far : (n : ℕ) → n ≤ length told → HappenedUntil about keeps may_leave_now old v (take n told) (all_events (take n each))
+  pub happens : HappensSo about keeps may_leave_now old new (fed_in told) (λ id. handed_in told id ++ dropped id) v
+  pub are : happens.events ≡ all_events each ++ last
 
--- these eras were, and the world goes on
-pub record Lives {S : Type 0} (about : S → About) (keeps : S → List ℕ → Type 0) (may_leave_now : S → List ℕ → Type 0) (size : ℕ) (export : Export) (eras : List Trace) (stops : List (List Cause)) (w : Seen S) : Type 0 where
-  pub events : List (List ClientEvent)
-  pub lawful : AllZip (IsLawfulEra export) eras events
-  pub refused : AllZip AreRefusedSo stops events
-  pub end : State
-  pub runs : RestartsBetween size start events end
-  pub fresh : IsFresh about keeps may_leave_now size export w end
+-- whatever state of the one volume the world stood for
+abbrev pub AreOfOneVolume : {S : Type 0} → (S → About) → (S → List ℕ → Type 0) → (S → List ℕ → Type 0) → Trace → (dropped : SessionId → List ℕ) → Seen S → Seen S → Type 0
+AreOfOneVolume about keeps may_leave_now told dropped old new =
+    (v : View) (s : State) → Shows about keeps may_leave_now old v → StandsFor (bytes_of old.chain) v s → HappenInTurn about keeps may_leave_now told dropped old new v

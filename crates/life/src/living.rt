@@ -1,6 +1,5 @@
 //! Whole lives.
-ghost use Rattle.std.specs.Prelude.{◌≡◌, ◌*◌, ◌<◌, ◌≤◌, ◌↔◌, ◌++◌, ℕ, IfErr, IfOk, IfSome, IsTrue, List, Some, length, slice_get, zip};
-ghost use Rattle.chain_steps.specs.declared.cause.Cause.{Cause as Stopping};
+ghost use Rattle.std.specs.Prelude.{◌≡◌, ◌<◌, ◌≤◌, ◌↔◌, ℕ, IfErr, IfOk, IfSome, IsTrue, List, Some, length, slice_get, zip};
 ghost use Rattle.clients.specs.Clients.{no_one};
 ghost use Rattle.disk_model.specs.Disk.{Only};
 ghost use Rattle.disk_model.specs.Memory.{given_of, may_be_left};
@@ -8,17 +7,16 @@ ghost use Rattle.flush_barrier.specs.declared.session_id.SessionId.{SessionId};
 ghost use Rattle.disk_model.specs.declared.memory.MemDisk.{MemDisk};
 ghost use Rattle.local_store.specs.Meaning.{Meaning, Means};
 ghost use Rattle.std.specs.List.{AllZip};
-ghost use Rattle.life.specs.Begun.{AreOnDisks, BeginsWith, IsOfMember, export_of};
-ghost use Rattle.life.specs.Headline.{IsOneLife, fed_in, handed_in, told_in};
-ghost use Rattle.life.specs.Lived.{Continues, IsFresh};
+ghost use Rattle.life.specs.Begun.{AreOnDisks, BeginsWith, IsOfMember};
+ghost use Rattle.life.specs.Does.{DoesDeed, IsArmed};
+ghost use Rattle.life.specs.Headline.{EraLeads, IsOneLife};
+ghost use Rattle.life.specs.Lived.{AreOfOneVolume, IsFresh};
+ghost use Rattle.life.specs.Played.{fed_by, handed_by};
+ghost use Rattle.life.specs.Plays.{DeedsLead, HasMetStop};
 ghost use Rattle.life.specs.Refusal.{BreaksOff, EndsAtReturn, IsOfMemory};
 ghost use Rattle.nbd_session.specs.declared.answer.Export.{Export};
-ghost use Rattle.world_model.specs.Chain.{StandsFor, View};
 ghost use Rattle.world_model.specs.Machine.{State};
-ghost use Rattle.life.specs.Does.{DoesDeed, IsArmed};
-ghost use Rattle.life.specs.Played.{fed_by, handed_by};
-ghost use Rattle.life.specs.Plays.{DeedsLead, EraLeads, HasMetStop, IsPlayed};
-ghost use Rattle.world.specs.World.{IsOfOneVolume, Shows};
+ghost use Rattle.world.specs.World.{IsOfOneVolume};
 
 use crate::answer::{Answer, MEMORY};
 use crate::beginning::begin;
@@ -34,7 +32,9 @@ use local_store::{Store, StoreLike, disks_mean_one};
 use std::alloc::{AllocError, Global};
 use volume::Geometry;
 use world::{Told, World};
-use world_model::{chains_begin_again, lives_are_of_one_volume, refusals_have_pleas};
+use world_model::{
+    chains_begin_again, each_disk_has_what_is_owed, lives_are_of_one_volume, refusals_have_pleas,
+};
 
 /// What became of a life.
 pub struct Lived {
@@ -56,10 +56,8 @@ pub fn live(alloc: Global, geometry: Geometry, members: u8, eras: &[Era]) -> Res
     requires some { 0 < members }
     requires few { members ≤ 8 }
     ensures all { IfOk result (λ lived. AllZip (λ era answers. length answers.items.items ≤ length era.deeds.items) eras.now lived.answers.items) }
-    ensures one_life { IfOk result (λ lived. IsOneLife (4096 * geometry.blocks) (export_of geometry) (told_in eras.now lived.answers.items)
-        (λ stops. IsPlayed ⟦<Store<MemDisk> as StoreLike>⟧.keeps_model ⟦<Store<MemDisk> as StoreLike>⟧.about ⟦<Store<MemDisk> as StoreLike>⟧.keeps ⟦<Store<MemDisk> as StoreLike>⟧.is_pending ⟦<Store<MemDisk> as StoreLike>⟧.may_leave_now ⟦<Store<MemDisk> as StoreLike>⟧.moment ⟦<Store<MemDisk> as StoreLike>⟧.may_have_left_since ⟦<Store<MemDisk> as StoreLike>⟧.failures (λ s. s.disk)
-        geometry members eras.now lived.answers.items stops lived.world)
-        (λ end. (v : View) × Shows ⟦<Store<MemDisk> as StoreLike>⟧.about ⟦<Store<MemDisk> as StoreLike>⟧.keeps ⟦<Store<MemDisk> as StoreLike>⟧.may_leave_now lived.world v × StandsFor (4096 * geometry.blocks) v end)) }
+    ensures one_life { IfOk result (λ lived. IsOneLife ⟦<Store<MemDisk> as StoreLike>⟧.keeps_model ⟦<Store<MemDisk> as StoreLike>⟧.about ⟦<Store<MemDisk> as StoreLike>⟧.keeps ⟦<Store<MemDisk> as StoreLike>⟧.is_pending ⟦<Store<MemDisk> as StoreLike>⟧.may_leave_now ⟦<Store<MemDisk> as StoreLike>⟧.moment ⟦<Store<MemDisk> as StoreLike>⟧.may_have_left_since ⟦<Store<MemDisk> as StoreLike>⟧.failures (λ s. s.disk)
+        geometry members eras.now lived.answers.items lived.world) }
     ensures refused { IfErr result (BreaksOff members eras.now) }
 {
     chains_begin_again();
@@ -83,13 +81,15 @@ fn live_era(
     requires disks { AreOnDisks ⟦<Store<MemDisk> as StoreLike>⟧.about world }
     ensures disks { IfOk result (λ lived. AreOnDisks ⟦<Store<MemDisk> as StoreLike>⟧.about lived.1) }
     ensures all { IfOk result (λ lived. length lived.0.items ≤ length era.now.deeds.items) }
-    ensures lived { IfOk result (λ lived. (stops : List Stopping) × EraLeads ⟦<Store<MemDisk> as StoreLike>⟧.keeps_model ⟦<Store<MemDisk> as StoreLike>⟧.about ⟦<Store<MemDisk> as StoreLike>⟧.keeps ⟦<Store<MemDisk> as StoreLike>⟧.is_pending ⟦<Store<MemDisk> as StoreLike>⟧.may_leave_now ⟦<Store<MemDisk> as StoreLike>⟧.moment ⟦<Store<MemDisk> as StoreLike>⟧.may_have_left_since ⟦<Store<MemDisk> as StoreLike>⟧.failures (λ s. s.disk)
-        era.now lived.0.items stops world lived.1
-        × Continues ⟦<Store<MemDisk> as StoreLike>⟧.about ⟦<Store<MemDisk> as StoreLike>⟧.keeps ⟦<Store<MemDisk> as StoreLike>⟧.may_leave_now (zip era.now.deeds.items lived.0.items) stops world lived.1) }
+    ensures lived { IfOk result (λ lived. (export : Export) (s : State) → IsFresh ⟦<Store<MemDisk> as StoreLike>⟧.about ⟦<Store<MemDisk> as StoreLike>⟧.keeps ⟦<Store<MemDisk> as StoreLike>⟧.may_leave_now export.size export world s
+        → (t : State) × EraLeads ⟦<Store<MemDisk> as StoreLike>⟧.keeps_model ⟦<Store<MemDisk> as StoreLike>⟧.about ⟦<Store<MemDisk> as StoreLike>⟧.keeps ⟦<Store<MemDisk> as StoreLike>⟧.is_pending ⟦<Store<MemDisk> as StoreLike>⟧.may_leave_now ⟦<Store<MemDisk> as StoreLike>⟧.moment ⟦<Store<MemDisk> as StoreLike>⟧.may_have_left_since ⟦<Store<MemDisk> as StoreLike>⟧.failures (λ s. s.disk)
+        export era.now lived.0.items world s lived.1 t
+        × IsFresh ⟦<Store<MemDisk> as StoreLike>⟧.about ⟦<Store<MemDisk> as StoreLike>⟧.keeps ⟦<Store<MemDisk> as StoreLike>⟧.may_leave_now export.size export lived.1 t) }
     ensures refused { IfErr result (EndsAtReturn (length world.chain.members) era.now.returned) }
 {
     disks_mean_one();
     chains_begin_again();
+    each_disk_has_what_is_owed();
     lives_are_of_one_volume();
     refusals_have_pleas();
     sessions_are_lawful();
@@ -119,8 +119,8 @@ fn play_all(
     ensures plays { IfOk result (λ answers. DeedsLead ⟦<Store<MemDisk> as StoreLike>⟧.keeps_model ⟦<Store<MemDisk> as StoreLike>⟧.about ⟦<Store<MemDisk> as StoreLike>⟧.keeps ⟦<Store<MemDisk> as StoreLike>⟧.is_pending ⟦<Store<MemDisk> as StoreLike>⟧.may_leave_now
         ⟦<Store<MemDisk> as StoreLike>⟧.moment ⟦<Store<MemDisk> as StoreLike>⟧.may_have_left_since ⟦<Store<MemDisk> as StoreLike>⟧.failures (λ s. s.disk)
         deeds.now answers.items world.old world.new) }
-    ensures pass { IfOk result (λ answers. (dropped : SessionId → List ℕ) × IsOfOneVolume ⟦<Store<MemDisk> as StoreLike>⟧.about ⟦<Store<MemDisk> as StoreLike>⟧.keeps ⟦<Store<MemDisk> as StoreLike>⟧.may_leave_now
-        (fed_in (zip deeds.now answers.items)) (λ id. handed_in (zip deeds.now answers.items) id ++ dropped id) world.old world.new) }
+    ensures pass { IfOk result (λ answers. (dropped : SessionId → List ℕ) × AreOfOneVolume ⟦<Store<MemDisk> as StoreLike>⟧.about ⟦<Store<MemDisk> as StoreLike>⟧.keeps ⟦<Store<MemDisk> as StoreLike>⟧.may_leave_now
+        (zip deeds.now answers.items) dropped world.old world.new) }
 {
     lives_are_of_one_volume();
     world.sound();
@@ -128,6 +128,7 @@ fn play_all(
     for deed in deeds {
         world.sound();
         let answer = play_deed(alloc, world, deed);
+        world.sound();
         if has_met_stop(world) {
             return Ok(answers);
         }

@@ -1,18 +1,15 @@
-use Rattle.std.proofs.Common.{◌≡◌, ◌≤◌, ◌+◌, ◌*◌, ◌++◌, [], ◌∷◌, List, length, drop, take, refl, ap, subst, sym, ◌∙◌, inl, arith}
-use Rattle.std.specs.Prelude.{zip}
+use Rattle.std.proofs.Common.{◌≡◌, ◌≤◌, ◌+◌, ◌++◌, [], ◌∷◌, List, length, drop, take, refl, ap, subst, sym, ◌∙◌, inl, arith}
 use Rattle.std.specs.List.{AllZip}
-use Rattle.std.proofs.lemmas.List.{append_assoc, length-append, length-take-le, take-append-drop, take_all, take_more}
+use Rattle.std.proofs.lemmas.List.{append_assoc, length-append, take-append-drop, take_all, take_more}
+use Rattle.world_model.specs.Machine.{start}
 use Rattle.life.specs.Begun.{export_of}
-use Rattle.life.specs.Headline.{Trace, told_in}
-use Rattle.life.specs.Lived.{Lives}
+use Rattle.life.specs.Refusal.{BreaksOff}
 use Rattle.life.specs.declared.era.Answers.{Answers}
 use Rattle.life.specs.declared.era.Era.{Era}
 use Rattle.life.proofs.Beside.{all_more}
-use Rattle.life.proofs.Lives.{begins_life, lives_on, one_life, told_more}
-use Rattle.life.proofs.Leading.{plays_on}
-use Rattle.life.specs.Refusal.{BreaksOff}
+use Rattle.life.proofs.Eras.{eras_more, first_fresh, one_life}
 use Rattle.life.proofs.Returning.{breaks_off, passed_on}
-use Rattle.life.proofs.Starting.{PlayedOnDisks, about_of_store, disk_in, failures_in, keeps_volume, leaves_now, left_in, moment_in, pends_in}
+use Rattle.life.proofs.Starting.{ErasOnDisks, about_of_store, disk_in, failures_in, keeps_volume, leaves_now, left_in, moment_in, pends_in}
 use Rattle.life.proofs.living.live.Goals as goal
 
 -- at most an answer to each deed
@@ -22,13 +19,12 @@ IsAll era answers = length answers.items.items ≤ length era.deeds.items
 pub loop-era-init : goal.loop-era-init
 loop-era-init c = record {
   disks = c.in_ok-world.ensures.disks;
-  lives = (
-    [],
-    subst (λ (l : List Answers). PlayedOnDisks c.args.geometry c.args.members [] l [] c.in_ok-world.world) (sym c.in_ok-answers.ensures.items)
-        (record { first = c.in_ok-world.world; many = c.in_ok-world.ensures.many; begins = c.in_ok-world.ensures.begins; plays = refl }),
-    subst (λ (l : List Answers). Lives about_of_store keeps_volume leaves_now (4096 * c.args.geometry.blocks) (export_of c.args.geometry) (told_in [] l) [] c.in_ok-world.world) (sym c.in_ok-answers.ensures.items)
-        (begins_life about_of_store keeps_volume leaves_now c.chains_begin_again.ensures.first c.args.geometry c.in_ok-world.world c.in_ok-world.ensures.begins),
-  );
+  first = c.in_ok-world.world;
+  first_many = c.in_ok-world.ensures.many;
+  begins = c.in_ok-world.ensures.begins;
+  state = start;
+  leads = subst (λ (l : List Answers). ErasOnDisks (export_of c.args.geometry) [] l c.in_ok-world.world start c.in_ok-world.world start) (sym c.in_ok-answers.ensures.items) (refl, refl);
+  fresh = first_fresh (Unit {0}) about_of_store keeps_volume pends_in leaves_now moment_in left_in failures_in disk_in c.chains_begin_again.ensures.first c.args.geometry c.in_ok-world.world c.in_ok-world.ensures.begins;
   all = subst (AllZip IsAll []) (sym c.in_ok-answers.ensures.items) tt;
   many = ap length c.in_ok-answers.ensures.items;
   count = c.in_ok-answers.ensures.len;
@@ -41,8 +37,7 @@ push_reserved-requires c = omega (arith, c.loop-era.invariant.count, c.loop-era.
 pub loop-era-preserved : goal.loop-era-preserved
 loop-era-preserved c =
     let inv = c.loop-era.invariant in
-    let (stops, played, lives) = inv.lives in
-    let (causes, leads, continues) = c.in_ok-told.ensures.lived in
+    let (state, did, fresh) = c.in_ok-told.ensures.lived (export_of c.args.geometry) inv.state inv.fresh in
     let i = c.loop-era.era-index in
     let eras = c.args.eras.now in
     let era = c.era-item.result in
@@ -51,19 +46,16 @@ loop-era-preserved c =
     let new = c.push_reserved.new.self.items in
     let items : new ≡ answers ++ these ∷ [] = c.push_reserved.ensures.items in
     let here : take (i + 1) eras ≡ take i eras ++ era ∷ [] = take_more eras i era c.loop-era-test.true ∙ ap (λ (e : Era). take i eras ++ e ∷ []) (sym c.era-item.is) in
-    let long : length answers ≡ length (take i eras) = inv.many ∙ sym (length-take-le i eras (omega (arith, c.loop-era-test.true))) in
-    let told : told_in (take (i + 1) eras) new ≡ told_in (take i eras) answers ++ zip era.deeds.items c.in_ok-told.told.items ∷ [] =
-    ap (λ (l : List Era). told_in l new) here ∙ ap (told_in (take i eras ++ era ∷ [])) items ∙ told_more (take i eras) answers era these long in
     record {
       disks = c.in_ok-told.ensures.disks;
-      lives = (
-        stops ++ causes ∷ [],
-        subst (λ (l : List Era). PlayedOnDisks c.args.geometry c.args.members l new (stops ++ causes ∷ []) c.in_ok-told.next) (sym here)
-            (subst (λ (l : List Answers). PlayedOnDisks c.args.geometry c.args.members (take i eras ++ era ∷ []) l (stops ++ causes ∷ []) c.in_ok-told.next) (sym items)
-            (plays_on (Unit {0}) about_of_store keeps_volume pends_in leaves_now moment_in left_in failures_in disk_in c.args.geometry c.args.members (take i eras) answers stops c.loop-era.world c.in_ok-told.next era these causes played leads)),
-        subst (λ (l : List Trace). Lives about_of_store keeps_volume leaves_now (4096 * c.args.geometry.blocks) (export_of c.args.geometry) l (stops ++ causes ∷ []) c.in_ok-told.next) (sym told)
-            (lives_on about_of_store keeps_volume leaves_now (export_of c.args.geometry) (told_in (take i eras) answers) (zip era.deeds.items c.in_ok-told.told.items) stops causes c.loop-era.world c.in_ok-told.next lives continues),
-      );
+      first = inv.first;
+      first_many = inv.first_many;
+      begins = inv.begins;
+      state = state;
+      leads = subst (λ (l : List Era). ErasOnDisks (export_of c.args.geometry) l new inv.first start c.in_ok-told.next state) (sym here)
+          (subst (λ (l : List Answers). ErasOnDisks (export_of c.args.geometry) (take i eras ++ era ∷ []) l inv.first start c.in_ok-told.next state) (sym items)
+          (eras_more (Unit {0}) about_of_store keeps_volume pends_in leaves_now moment_in left_in failures_in disk_in (export_of c.args.geometry) (take i eras) answers inv.first start c.loop-era.world inv.state c.in_ok-told.next state era these inv.leads did));
+      fresh = fresh;
       all = subst (λ (l : List Era). AllZip IsAll l new) (sym here)
           (subst (AllZip IsAll (take i eras ++ era ∷ [])) (sym items) (all_more IsAll (take i eras) answers era these inv.all c.in_ok-told.ensures.all));
       many = let sum = length-append answers (these ∷ []) in omega (arith, inv.many, ap length items, sum);
@@ -76,19 +68,17 @@ returns-clause-all c = subst (λ (l : List Era). AllZip IsAll l c.loop-era.answe
 
 pub returns-clause-one_life : goal.returns-clause-one_life
 returns-clause-one_life c =
-    let (stops, played, lives) = c.loop-era.invariant.lives in
+    let inv = c.loop-era.invariant in
     let whole = take_all c.loop-era.era-index c.args.eras.now c.loop-era-test.false in
-    one_life about_of_store keeps_volume leaves_now (4096 * c.args.geometry.blocks) (export_of c.args.geometry) (told_in c.args.eras.now c.loop-era.answers.items)
-    (λ l. PlayedOnDisks c.args.geometry c.args.members c.args.eras.now c.loop-era.answers.items l c.loop-era.world) stops c.loop-era.world
-    (subst (λ (l : List Era). PlayedOnDisks c.args.geometry c.args.members l c.loop-era.answers.items stops c.loop-era.world) whole played)
-    (subst (λ (l : List Era). Lives about_of_store keeps_volume leaves_now (4096 * c.args.geometry.blocks) (export_of c.args.geometry) (told_in l c.loop-era.answers.items) stops c.loop-era.world) whole lives)
+    one_life (Unit {0}) about_of_store keeps_volume pends_in leaves_now moment_in left_in failures_in disk_in c.args.geometry c.args.members c.args.eras.now c.loop-era.answers.items inv.first c.loop-era.world inv.state inv.first_many inv.begins
+    (subst (λ (l : List Era). ErasOnDisks (export_of c.args.geometry) l c.loop-era.answers.items inv.first start c.loop-era.world inv.state) whole inv.leads) inv.fresh
 
 pub live_era-requires-clause-fresh : goal.live_era-requires-clause-fresh
-live_era-requires-clause-fresh c = let (stops, played, lives) = c.loop-era.invariant.lives in (export_of c.args.geometry, lives.end, lives.fresh)
+live_era-requires-clause-fresh c = (export_of c.args.geometry, c.loop-era.invariant.state, c.loop-era.invariant.fresh)
 
 pub returns-in_err-told-clause-refused : goal.returns-in_err-told-clause-refused
 returns-in_err-told-clause-refused c =
-    let (stops, played, lives) = c.loop-era.invariant.lives in
+    let inv = c.loop-era.invariant in
     let i = c.loop-era.era-index in
     let eras = c.args.eras.now in
     let era = c.era-item.result in
@@ -96,8 +86,8 @@ returns-in_err-told-clause-refused c =
     let whole : take i eras ++ era ∷ drop (i + 1) eras ≡ eras = sym (append_assoc (take i eras) (era ∷ []) (drop (i + 1) eras)) ∙ ap (λ (l : List Era). l ++ drop (i + 1) eras) (sym here) ∙ take-append-drop (i + 1) eras in
     passed_on c.from_residual-in_err-told.result c.in_err-told.field-0.0 (BreaksOff c.args.members c.args.eras.now) c.from_residual-in_err-told.ensures.1
     (subst (λ (l : List Era). BreaksOff c.args.members l c.in_err-told.field-0.0) whole
-    (breaks_off (Unit {0}) about_of_store keeps_volume pends_in leaves_now moment_in left_in failures_in disk_in c.in_err-told.field-0.0 (take i eras) c.loop-era.answers.items stops played.first c.loop-era.world c.args.members era (drop (i + 1) eras)
-    played.plays played.many c.in_err-told.ensures.refused))
+    (breaks_off (Unit {0}) about_of_store keeps_volume pends_in leaves_now moment_in left_in failures_in disk_in (export_of c.args.geometry) c.in_err-told.field-0.0 (take i eras) c.loop-era.answers.items inv.first start c.loop-era.world inv.state c.args.members
+    era (drop (i + 1) eras) inv.leads inv.first_many c.in_err-told.ensures.refused))
 
 pub returns-in_err-world-clause-refused : goal.returns-in_err-world-clause-refused
 returns-in_err-world-clause-refused c =

@@ -1,13 +1,12 @@
 use Rattle.std.proofs.Common.{◌≡◌, ◌+◌, ◌++◌, [], ◌∷◌, List, false, true, length, drop, take, refl, ap, subst, sym, ◌∙◌, arith}
 use Rattle.std.specs.Prelude.{zip}
 use Rattle.std.proofs.lemmas.List.{append_assoc, length-append, length-take-le, take-append-drop, take_all, take_more}
-use Rattle.life.specs.Headline.{Trace, fed_in, handed_in}
-use Rattle.world.specs.World.{IsOfOneVolume}
+use Rattle.life.specs.Headline.{Trace}
+use Rattle.life.specs.Lived.{AreOfOneVolume}
 use Rattle.life.specs.Played.{handed_by}
 use Rattle.life.specs.declared.answer.Answer.{Answer}
 use Rattle.life.specs.declared.era.Deed.{Deed}
-use Rattle.life.proofs.Lives.{pass_more, pass_to_stop, pass_whole, zip_less, zip_more}
-use Rattle.life.proofs.Passing.{none_pass}
+use Rattle.life.proofs.Lives.{none_turn, turn_more, turn_to_stop, zip_less, zip_more}
 use Rattle.life.proofs.Leading.{leads_more, leads_to_stop}
 use Rattle.life.proofs.Stops.{unfed}
 use Rattle.life.specs.Plays.{HasMetStop}
@@ -18,8 +17,8 @@ use Rattle.life.proofs.living.play_all.Goals as goal
 pub loop-deed-init : goal.loop-deed-init
 loop-deed-init c = record {
   plays = subst (λ (l : List Answer). LeadOnDisks [] l c.args.world.now c.args.world.now) (sym c.in_ok-answers.ensures.items) refl;
-  pass = subst (λ (l : List Answer). IsOfOneVolume about_of_store keeps_volume leaves_now (fed_in (zip [] l)) (handed_in (zip [] l)) c.args.world.now c.args.world.now) (sym c.in_ok-answers.ensures.items)
-      (none_pass about_of_store keeps_volume leaves_now c.args.world.now);
+  pass = subst (λ (l : List Answer). AreOfOneVolume about_of_store keeps_volume leaves_now (zip [] l) no_one c.args.world.now c.args.world.now) (sym c.in_ok-answers.ensures.items)
+      (none_turn about_of_store keeps_volume leaves_now c.args.world.now c.sound.ensures.sessions);
   runs = c.requires;
   many = ap length c.in_ok-answers.ensures.items;
   count = c.in_ok-answers.ensures.len;
@@ -47,9 +46,9 @@ loop-deed-preserved c =
       plays = subst (λ (l : List Deed). LeadOnDisks l c.push_reserved.new.self.items c.args.world.now c.play_deed-answer.new.world) (sym here)
           (subst (λ (l : List Answer). LeadOnDisks (take i deeds ++ deed ∷ []) l c.args.world.now c.play_deed-answer.new.world) (sym items)
           (leads_more (Unit {0}) about_of_store keeps_volume pends_in leaves_now moment_in left_in failures_in disk_in (take i deeds) answers c.args.world.now c.loop-deed.world c.play_deed-answer.new.world deed answer long inv.plays c.play_deed-answer.ensures.does runs));
-      pass = subst (λ (l : Trace). IsOfOneVolume about_of_store keeps_volume leaves_now (fed_in l) (handed_in l) c.args.world.now c.play_deed-answer.new.world) (sym told)
-          (pass_more about_of_store keeps_volume leaves_now c.lives_are_of_one_volume.ensures.happenings c.args.world.now c.loop-deed.world c.play_deed-answer.new.world c.sound.ensures.joined c.sound-in-loop-deed.ensures.joined
-          (zip (take i deeds) answers) deed answer inv.pass c.play_deed-answer.ensures.one_volume);
+      pass = subst (λ (l : Trace). AreOfOneVolume about_of_store keeps_volume leaves_now l no_one c.args.world.now c.play_deed-answer.new.world) (sym told)
+          (turn_more about_of_store keeps_volume leaves_now c.lives_are_of_one_volume.ensures.happenings c.args.world.now c.loop-deed.world c.play_deed-answer.new.world c.sound.ensures.joined c.sound-in-loop-deed.ensures.joined
+          (zip (take i deeds) answers) deed answer c.sound-in-loop-deed-2.ensures.sessions inv.pass c.play_deed-answer.ensures.one_volume);
       runs = runs;
       many = let sum = length-append answers (answer ∷ []) in omega (arith, inv.many, ap length items, sum);
       count = omega (arith, inv.count, c.push_reserved.ensures.len);
@@ -85,8 +84,8 @@ returns-then-has_met_stop-clause-pass c =
     let told : zip deeds answers ≡ zip (take i deeds) answers = ap (λ (l : List Deed). zip l answers) (sym (take-append-drop i deeds)) ∙ zip_less (take i deeds) answers (drop i deeds) long in
     let met : HasMetStop c.play_deed-answer.new.world = c.has_met_stop.ensures.0 c.if-has_met_stop.true in (
       handed_by deed answer,
-      subst (λ (l : Trace). IsOfOneVolume about_of_store keeps_volume leaves_now (fed_in l) (λ id. handed_in l id ++ handed_by deed answer id) c.args.world.now c.play_deed-answer.new.world) (sym told)
-          (pass_to_stop about_of_store keeps_volume leaves_now c.lives_are_of_one_volume.ensures.happenings c.args.world.now c.loop-deed.world c.play_deed-answer.new.world c.sound.ensures.joined c.sound-in-loop-deed.ensures.joined
+      subst (λ (l : Trace). AreOfOneVolume about_of_store keeps_volume leaves_now l (handed_by deed answer) c.args.world.now c.play_deed-answer.new.world) (sym told)
+          (turn_to_stop about_of_store keeps_volume leaves_now c.lives_are_of_one_volume.ensures.happenings c.args.world.now c.loop-deed.world c.play_deed-answer.new.world c.sound.ensures.joined c.sound-in-loop-deed.ensures.joined
           (zip (take i deeds) answers) deed answer
           (unfed (Unit {0}) about_of_store keeps_volume pends_in leaves_now moment_in left_in failures_in disk_in deed answer c.loop-deed.world c.play_deed-answer.new.world c.play_deed-answer.ensures.does inv.runs met)
           inv.pass c.play_deed-answer.ensures.one_volume),
@@ -102,7 +101,6 @@ returns-clause-plays c = subst (λ (l : List Deed). LeadOnDisks l c.loop-deed.an
 pub returns-clause-pass : goal.returns-clause-pass
 returns-clause-pass c = (
   no_one,
-  subst (λ (l : List Deed). IsOfOneVolume about_of_store keeps_volume leaves_now (fed_in (zip l c.loop-deed.answers.items)) (λ id. handed_in (zip l c.loop-deed.answers.items) id ++ no_one id) c.args.world.now c.loop-deed.world)
-      (take_all c.loop-deed.deed-index c.args.deeds.now c.loop-deed-test.false)
-      (pass_whole about_of_store keeps_volume leaves_now c.args.world.now c.loop-deed.world (zip (take c.loop-deed.deed-index c.args.deeds.now) c.loop-deed.answers.items) c.loop-deed.invariant.pass),
+  subst (λ (l : List Deed). AreOfOneVolume about_of_store keeps_volume leaves_now (zip l c.loop-deed.answers.items) no_one c.args.world.now c.loop-deed.world)
+      (take_all c.loop-deed.deed-index c.args.deeds.now c.loop-deed-test.false) c.loop-deed.invariant.pass,
 )

@@ -1,15 +1,15 @@
 use Rattle.std.proofs.Common.{◌≡◌, ◌≤◌, length, take, vec_len, vec_capacity}
 use Rattle.std.specs.Prelude.{zip}
-use Rattle.life.specs.Headline.{fed_in, handed_in}
+use Rattle.clients.specs.Clients.{no_one}
+use Rattle.life.specs.Lived.{AreOfOneVolume}
 use Rattle.life.specs.Plays.{HasMetStop}
-use Rattle.world.specs.World.{IsOfOneVolume}
 use Rattle.life.proofs.Starting.{LeadOnDisks, about_of_store, keeps_volume, leaves_now}
 use Rattle.life.proofs.living.play_all.Given as goal
 
 abbrev pub invariant-loop-deed : goal.invariant-loop-deed
 invariant-loop-deed l = record {
   plays : LeadOnDisks (take l.deed-index l.fn.deeds) l.answers.items l.fn.world l.world;
-  pass : IsOfOneVolume about_of_store keeps_volume leaves_now (fed_in (zip (take l.deed-index l.fn.deeds) l.answers.items)) (handed_in (zip (take l.deed-index l.fn.deeds) l.answers.items)) l.fn.world l.world;
+  pass : AreOfOneVolume about_of_store keeps_volume leaves_now (zip (take l.deed-index l.fn.deeds) l.answers.items) no_one l.fn.world l.world;
   runs : HasMetStop l.world → ⊥;
   many : length l.answers.items ≡ l.deed-index;
   count : vec_len l.answers ≡ l.deed-index;

@@ -1,0 +1,124 @@
+-- One era after another: lemmas.
+use Rattle.std.proofs.Common.{◌≡◌, ℕ, List, [], ◌∷◌, ◌++◌, length, refl, ap, sym, subst, ◌∙◌}
+use Rattle.std.specs.Prelude.{◌*◌, All, Some, slice_get, zip}
+use Rattle.std.proofs.lemmas.Option.{get_or_from_slice_get}
+use Rattle.disk_model.specs.Memory.{given_of}
+use Rattle.disk_model.specs.declared.memory.MemDisk.{MemDisk}
+use Rattle.flush_barrier.specs.declared.session_id.SessionId.{SessionId}
+use Rattle.local_store.specs.About.{About}
+use Rattle.local_store.specs.Meaning.{Meaning, Means}
+use Rattle.nbd_session.specs.declared.answer.Export.{Export}
+use Rattle.volume.specs.Writes.{volume_of}
+use Rattle.volume.specs.declared.geometry.Geometry.{Geometry}
+use Rattle.world_model.specs.Chain.{StandsFor}
+use Rattle.world_model.specs.ChainLaws.{FirstChain, IsOnEachDisk, RestartsChain}
+use Rattle.world_model.specs.Life.{HappeningsAreOfOneVolume}
+use Rattle.world_model.specs.Machine.{Restart, State, after, shown, start}
+use Rattle.world_model.specs.Refusing.{RefusalsHavePleas, StopsHaveCauses}
+use Rattle.chain.specs.Chain.{bytes_of}
+use Rattle.clients.specs.Clients.{AreSessions}
+use Rattle.clients.specs.Laws.{FirstHasNone, OutputsAreLawful}
+use Rattle.world.specs.World.{IsJoined, Seen}
+use Rattle.life.specs.Begun.{BeginsWith, IsCutFrom, export_of}
+use Rattle.life.specs.Headline.{EraLeads, ErasLead, HasWhatIsOwed, IsOneLife}
+use Rattle.life.specs.Lived.{AreOfOneVolume, IsFresh}
+use Rattle.life.specs.Plays.{DeedsLead, GoesOnFrom}
+use Rattle.life.specs.declared.answer.Answer.{Answer}
+use Rattle.life.specs.declared.era.Answers.{Answers}
+use Rattle.life.specs.declared.era.Era.{Era}
+use Rattle.life.proofs.Beside.{zip_there}
+use Rattle.life.proofs.Lives.{each_disk, era_lawful, exported_as, recovers}
+use Rattle.life.proofs.Passing.{goes_plays}
+use Rattle.life.proofs.Pleas.{refused_so}
+use Rattle.life.proofs.Stops.{there_at}
+
+-- what is so of each that is at a place is so of all
+all_from : {A : Type 0} (Q : A → Type 0) (xs : List A) → ((at : ℕ) (x : A) → slice_get xs at ≡ Some x → Q x) → All Q xs
+all_from Q xs each = λ k d within. let (x, here) = there_at xs k within in subst Q (sym (get_or_from_slice_get xs k x d here)) (each k x here)
+
+module _ {S : Type 0} (premise : Type 0) (about : S → About) (keeps : S → List ℕ → Type 0) (is_pending : S → ℕ → Type 0) (may_leave_now : S → List ℕ → Type 0) (moment : S → ℕ)
+    (left_since : S → ℕ → List ℕ → Type 0) (failures : S → ℕ) (disk : S → MemDisk) where
+  abbrev Leads : Export → Era → List Answer → Seen S → State → Seen S → State → Type 0
+  Leads = EraLeads premise about keeps is_pending may_leave_now moment left_since failures disk
+
+  abbrev Lead : Export → List Era → List Answers → Seen S → State → Seen S → State → Type 0
+  Lead = ErasLead premise about keeps is_pending may_leave_now moment left_since failures disk
+
+  abbrev Fresh : Export → Seen S → State → Type 0
+  Fresh export w s = IsFresh about keeps may_leave_now export.size export w s
+
+  -- an era whose deeds were played, behind which the chain goes on from a disk
+  pub era_leads : HappeningsAreOfOneVolume → RefusalsHavePleas → StopsHaveCauses → RestartsChain → IsOnEachDisk → FirstHasNone → OutputsAreLawful
+      → ((one other : Meaning) (bytes : List ℕ) → Means one bytes → Means other bytes → one ≡ other)
+      → (era : Era) (answers : List Answer) (dropped : SessionId → List ℕ) (old mid new : Seen S) → IsJoined old → IsJoined mid → AreSessions mid.sessions
+      → DeedsLead premise about keeps is_pending may_leave_now moment left_since failures disk era.deeds.items answers old mid
+      → AreOfOneVolume about keeps may_leave_now (zip era.deeds.items answers) dropped old mid
+      → GoesOnFrom about keeps may_leave_now disk era mid new
+      → (export : Export) (s : State) → Fresh export old s → (t : State) × Leads export era answers old s new t × Fresh export new t
+  era_leads happenings pleas causes restarts each_has first lawful one_meaning era answers dropped old mid new joined joined_then are played pass goes export s fresh =
+      let size : export.size ≡ bytes_of old.chain = ap (λ e. e.size) (sym fresh.has) ∙ joined.size in
+      let stands = subst (λ n. StandsFor n fresh.view s) size fresh.stands in
+      let turn = pass fresh.view s fresh.shows stands in
+      let one = turn.happens in
+      let plays = goes_plays happenings (bytes_of old.chain) fresh.view one.w one.events one.goes s stands in
+      let stays : bytes_of mid.chain ≡ bytes_of old.chain = sym joined_then.size ∙ ap (λ e. e.size) one.remain.export ∙ joined.size in
+      let stands_then = subst (λ n. StandsFor n one.w plays.1) (sym stays) plays.4 in
+      let exported : mid.sessions.export ≡ export = one.remain.export ∙ fresh.has in
+      let again : export_of mid.chain.geometry ≡ export = exported_as about keeps may_leave_now mid joined_then ∙ exported in
+      let (m, here, cut) = zip_there (λ m left. IsCutFrom may_leave_now disk era.cut m.node.store left) mid.chain.members goes.disks era.returned goes.returns goes.cut goes.there in
+      let (may, later) = recovers about keeps may_leave_now restarts mid one.w plays.1 era.returned m (given_of goes.returns) goes.meaning new one_meaning one.shows stands_then here cut.left goes.means (ap export_of goes.sizes) goes.begins in (
+        after plays.1 (Restart goes.meaning.front),
+        record {
+          end = mid;
+          played = played;
+          events = one.events;
+          lawful = era_lawful about keeps may_leave_now old mid (zip era.deeds.items answers) dropped fresh.view export turn first lawful fresh.no_clients are fresh.has;
+          refused = refused_so about keeps may_leave_now pleas causes (bytes_of old.chain) old mid fresh.view one.w one.events fresh.shows one.shows fresh.runs one.goes;
+          moves = plays.0;
+          state = plays.1;
+          runs = plays.2;
+          shows = subst (λ n. shown n s plays.0 ≡ one.events) (sym size) plays.3;
+          disks = subst (λ n. All (λ x. (bytes : List ℕ) → may_leave_now x.node.store bytes → HasWhatIsOwed n plays.1 (about x.node.store) bytes) mid.chain.members) (stays ∙ sym size)
+              (all_from (λ x. (bytes : List ℕ) → may_leave_now x.node.store bytes → HasWhatIsOwed (bytes_of mid.chain) plays.1 (about x.node.store) bytes) mid.chain.members
+              (λ at x there bytes left. each_disk about keeps may_leave_now each_has mid one.w plays.1 one.shows stands_then at x there bytes left));
+          goes_on = goes;
+          may = may;
+          restarts = refl;
+        },
+        subst (λ n. IsFresh about keeps may_leave_now n export new (after plays.1 (Restart goes.meaning.front))) (stays ∙ sym size)
+            (subst (λ e. IsFresh about keeps may_leave_now (bytes_of mid.chain) e new (after plays.1 (Restart goes.meaning.front))) again later),
+      )
+
+  -- one era more
+  pub eras_more : (export : Export) (eras : List Era) (answers : List Answers) (old : Seen S) (s : State) (mid : Seen S) (r : State) (new : Seen S) (t : State) (era : Era) (these : Answers)
+      → Lead export eras answers old s mid r → Leads export era these.items.items mid r new t → Lead export (eras ++ era ∷ []) (answers ++ these ∷ []) old s new t
+  eras_more export [] [] old s mid r new t era these (same, stays) did =
+      (new, t, subst (λ w. Leads export era these.items.items w s new t) same (subst (λ x. Leads export era these.items.items mid x new t) stays did), (refl, refl))
+  eras_more export [] (a ∷ answers) old s mid r new t era these leads did = absurd leads
+  eras_more export (e ∷ eras) [] old s mid r new t era these leads did = absurd leads
+  eras_more export (e ∷ eras) (a ∷ answers) old s mid r new t era these (next, between, one, later) did = (next, between, one, eras_more export eras answers next between mid r new t era these later did)
+
+  -- the world that a life begins with stands for the machine before anything happened
+  pub first_fresh : FirstChain → (geometry : Geometry) (w : Seen S) → BeginsWith about keeps may_leave_now geometry 0 (volume_of (4096 * geometry.blocks) []) w → Fresh (export_of geometry) w start
+  first_fresh first geometry w begun = record {
+    view = begun.view;
+    shows = begun.shows;
+    stands = first (4096 * geometry.blocks) begun.view begun.begins;
+    no_clients = begun.no_clients;
+    has = begun.export;
+    runs = begun.runs;
+  }
+
+  pub one_life : (geometry : Geometry) (members : ℕ) (eras : List Era) (answers : List Answers) (first w : Seen S) (t : State) → length first.chain.members ≡ members
+      → BeginsWith about keeps may_leave_now geometry 0 (volume_of (4096 * geometry.blocks) []) first → Lead (export_of geometry) eras answers first start w t → Fresh (export_of geometry) w t
+      → IsOneLife premise about keeps is_pending may_leave_now moment left_since failures disk geometry members eras answers w
+  one_life geometry members eras answers first w t many begins leads fresh = record {
+    first = first;
+    many = many;
+    begins = begins;
+    end = t;
+    leads = leads;
+    view = fresh.view;
+    shows = fresh.shows;
+    stands = fresh.stands;
+  }
