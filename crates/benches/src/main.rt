@@ -29,12 +29,7 @@ enum Bench {
 }
 
 /// All benches, in the order in which they are played.
-const BENCHES: [Bench; 4] = [
-    Bench::Table,
-    Bench::Journal,
-    Bench::Board,
-    Bench::Wire,
-];
+const BENCHES: [Bench; 4] = [Bench::Table, Bench::Journal, Bench::Board, Bench::Wire];
 
 impl Bench {
     /// The word for it.
@@ -67,9 +62,7 @@ fn main(rt: HostRuntime) -> anyhow::Result<()> {
     let words: Vec<String> = env::args(&rt)?.skip(1).collect(rt.alloc())?;
     for word in &words {
         if !is_known(word) {
-            bail!(
-                "unknown word {word}; the words are table, journal, board, wire and time"
-            );
+            bail!("unknown word {word}; the words are table, journal, board, wire and time");
         }
     }
     let timed = has(&words, TIME);
