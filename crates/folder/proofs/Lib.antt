@@ -1,4 +1,7 @@
+mod Answering
 mod Finding
 mod Firsts
+mod Opening
+mod Places
 mod Recording
 mod Sources

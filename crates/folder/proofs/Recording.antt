@@ -1,7 +1,7 @@
 -- What a stop leaves of the configuration's disk while the source is recorded.
 use Rattle.std.proofs.Common.{◌≡◌, ◌⊎◌, inl, inr, ◌≤◌, ℕ, List, subst}
 use Rattle.configurations.specs.Record.{Record}
-use Rattle.configurations.specs.Store.{HoldsOldOrNew, HoldsRecord, IsSettledConfig, State, settled_leaves}
+use Rattle.configurations.specs.Store.{HoldsOldOrNew, HoldsRecord, IsBeingMade, IsSettledConfig, State, settled_leaves}
 use Rattle.disk_model.specs.Disk.{LeavesOnly}
 use Rattle.disk_model.specs.Frames.{left_inside}
 use Rattle.disk_model.specs.Moments.{started, then_run, weaker}
@@ -11,7 +11,7 @@ use Rattle.gate_journal.specs.Pair.{HoldsPair}
 use Rattle.gate_journal.specs.Runs.{OnlyReads}
 use Rattle.gate_journal.specs.declared.batch.TheConstants.{MAX_NUMBER}
 use Rattle.local_store.specs.Meaning.{Meaning}
-use Rattle.folder.specs.Chain.{HasRecord, alone_after, config_part}
+use Rattle.folder.specs.Chain.{HasRecord, IsBeingRecorded, alone_after, config_part}
 use Rattle.folder.specs.Disks.{IsSourceOf, member_of}
 use Rattle.folder.specs.Restart.{IsAtEnd, IsRecordedOver}
 
@@ -32,6 +32,10 @@ module _ {D : Type 0} (moment : D → ℕ) (left_since : D → ℕ → List ℕ 
   recorded_there old new r next next' part part' same there run =
       subst (λ (n : Record). LeavesOnly moment left_since old new (λ c. HoldsOldOrNew r n (inside part' c))) same (subst (λ (p : Part). LeavesOnly moment left_since old new (λ c. HoldsOldOrNew r next (inside p c))) there run)
 
+  -- the disk was only read
+  pub only_read : (gives : D → List ℕ) (may_leave : D → List ℕ → Type 0) (old mid : D) (disks : List (List ℕ)) → OnlyReads gives may_leave moment left_since old mid → LeavesOnly moment left_since old mid (IsRecordedOver (may_leave old) (gives old) disks)
+  only_read gives may_leave old mid disks reads = weaker moment left_since old mid (may_leave old) (IsRecordedOver (may_leave old) (gives old) disks) (λ c left. inl left) reads.moments
+
   -- the disk was read, and then the source was recorded
   pub recorded_over : (gives : D → List ℕ) (may_leave : D → List ℕ → Type 0) (old mid new : D) (disks : List (List ℕ)) (place : ℕ) (r : Record) (m : Meaning) → OnlyReads gives may_leave moment left_since old mid → HasRecord r (gives old)
       → IsSourceOf r.members disks place m → LeavesOnly moment left_since mid new (λ c. HoldsOldOrNew r (alone_after r (member_of m)) (inside config_part c)) → LeavesOnly moment left_since old new (IsRecordedOver (may_leave old) (gives old) disks)
@@ -39,6 +43,19 @@ module _ {D : Type 0} (moment : D → ℕ) (left_since : D → ℕ → List ℕ 
       then_run moment left_since old mid new (IsRecordedOver (may_leave old) (gives old) disks)
       (weaker moment left_since old mid (may_leave old) (IsRecordedOver (may_leave old) (gives old) disks) (λ c left. inl left) reads.moments)
       (weaker moment left_since mid new (λ c. HoldsOldOrNew r (alone_after r (member_of m)) (inside config_part c)) (IsRecordedOver (may_leave old) (gives old) disks) (λ c either. inr (r, place, m, has, source, either)) run)
+
+-- the first record is being made
+pub being_recorded : {D : Type 0} (moment : D → ℕ) (left_since : D → ℕ → List ℕ → Type 0) (old new : D) (may_leave : List ℕ → Type 0) (part : Part) (made first : Record) → part ≡ config_part → made ≡ first
+    → LeavesOnly moment left_since old new (IsBeingMade part made may_leave) → LeavesOnly moment left_since old new (IsBeingRecorded first may_leave)
+being_recorded moment left_since old new may_leave part made first there is run =
+    weaker moment left_since old new (IsBeingMade config_part first may_leave) (IsBeingRecorded first may_leave) (λ c being. inr being)
+    (subst (λ (r : Record). LeavesOnly moment left_since old new (IsBeingMade config_part r may_leave)) is
+    (subst (λ (p : Part). LeavesOnly moment left_since old new (IsBeingMade p made may_leave)) there run))
+
+-- and before anything of it is written
+pub not_recorded : {D : Type 0} (moment : D → ℕ) (left_since : D → ℕ → List ℕ → Type 0) (disk : D) (first : Record) (may_leave : List ℕ → Type 0) → ((c : List ℕ) → left_since disk (moment disk) c → may_leave c)
+    → LeavesOnly moment left_since disk disk (IsBeingRecorded first may_leave)
+not_recorded moment left_since disk first may_leave only_now = started moment left_since disk (IsBeingRecorded first may_leave) (λ c left. inl (only_now c left))
 
 -- a settled store with no epoch or no number left
 pub at_end : (store : State) (gives config : List ℕ) (may_leave : List ℕ → Type 0) → IsSettledConfig store gives may_leave → store.pair.part ≡ config_part → gives ≡ config

@@ -1,10 +1,10 @@
 -- The source by what the disks mean is the source by what was told of them.
-use Rattle.std.proofs.Common.{◌≡◌, ℕ, ◌<◌, ◌≤◌, List, arith, length, Option, Some, None, map, ap, sym, subst, ◌∙◌, refl}
+use Rattle.std.proofs.Common.{◌≡◌, ℕ, ◌<◌, ◌≤◌, List, All, arith, get_or, length, Option, Some, None, map, ap, sym, subst, ◌∙◌, refl}
 use Rattle.std.specs.Prelude.{MatchOption, IsSomeAnd, slice_get}
 use Rattle.std.specs.List.{AllZip}
 use Rattle.std.specs.Option.{option_map}
 use Rattle.std.proofs.lemmas.List.{length-map}
-use Rattle.std.proofs.lemmas.Option.{slice_get-map, slice_get_within}
+use Rattle.std.proofs.lemmas.Option.{get_or_from_slice_get, slice_get-map, slice_get_within}
 use Rattle.std.proofs.lemmas.Slice.Zip.{AllZip-left, AllZip-right}
 use Rattle.configurations.specs.Record.{Record}
 use Rattle.configurations.specs.declared.member.Member.{Member}
@@ -14,7 +14,9 @@ use Rattle.recovery.specs.Choice.{IsRecorded, IsSource, NoneRecorded}
 use Rattle.recovery.specs.declared.returned.Returned.{Returned}
 use Rattle.recovery.specs.declared.returned.Returned.TheVariants.{Opened, Unopened}
 use Rattle.folder.specs.Disks.{IsDiskOf, IsReturned, IsSourceOf, NoneIsReturned, member_of}
-use Rattle.folder.specs.Found.{IsFound, member_in, returned_as}
+use Rattle.folder.specs.Found.{IsFound, IsMemberAt, IsRunning, MayRun, member_in, returned_as}
+use Rattle.folder.specs.declared.found.OnDisk.{OnDisk}
+use Rattle.folder.specs.declared.found.OnDisk.TheVariants.{Nothing, Volume}
 
 -- a disk means one thing at most
 abbrev pub MeansOne : Type 0
@@ -35,13 +37,13 @@ at_right {A} {B} Q xs ys all k y is = the_other (slice_get xs k) refl (subst (λ
     the_other None e none = absurd none
     the_other (Some x) e fits = (x, e, fits)
 
-module _ {S : Type 0} (about : S → About) (keeps : S → List ℕ → Type 0) (one : MeansOne) (members : List Member) (disks : List (List ℕ)) (found : List (Option S)) (all : AllZip (IsFound about keeps) disks found) where
+module _ {S D : Type 0} (about : S → About) (keeps : S → List ℕ → Type 0) (one : MeansOne) (members : List Member) (disks : List (List ℕ)) (found : List (OnDisk S D)) (all : AllZip (IsFound about keeps) disks found) where
   -- what is told of the disks
   abbrev told : List Returned
   told = map (returned_as about) found
 
   -- what is told of the store at a place
-  told_at : (place : ℕ) (store : S) → slice_get found place ≡ Some (Some store) → slice_get told place ≡ Some (Opened (member_in (about store)) (about store).front)
+  told_at : (place : ℕ) (store : S) → slice_get found place ≡ Some (Volume store) → slice_get told place ≡ Some (Opened (member_in (about store)) (about store).front)
   told_at place store at = slice_get-map (returned_as about) found place ∙ ap (option_map (returned_as about)) at
 
   -- of a disk of this meaning its member and its front are told
@@ -50,9 +52,9 @@ module _ {S : Type 0} (about : S → About) (keeps : S → List ℕ → Type 0) 
       let got = at_left (IsFound about keeps) disks found all place bytes there in
       by_case got.0 got.1 got.2
     where
-      by_case : (o : Option S) → slice_get found place ≡ Some o → IsFound about keeps bytes o → slice_get told place ≡ Some (Opened (member_of m) m.front)
-      by_case None at fits = absurd (fits m is)
-      by_case (Some store) at fits =
+      by_case : (o : OnDisk S D) → slice_get found place ≡ Some o → IsFound about keeps bytes o → slice_get told place ≡ Some (Opened (member_of m) m.front)
+      by_case (Nothing disk) at fits = absurd (fits m is)
+      by_case (Volume store) at fits =
           let same : m ≡ meaning_with (about store) fits.0 = one m (meaning_with (about store) fits.0) bytes is.means fits.2.means in
           told_at place store at ∙ ap (λ (m : Meaning). Some (Opened (member_of m) m.front)) (sym same)
 
@@ -65,10 +67,10 @@ module _ {S : Type 0} (about : S → About) (keeps : S → List ℕ → Type 0) 
   none_is_returned none place seat m is = none place seat m.front (recorded_of place seat m is)
 
   -- the source among those that were told is the source among the disks
-  pub source_of : (place : ℕ) (store : S) → slice_get found place ≡ Some (Some store) → IsSource members told place
+  pub source_of : (place : ℕ) (store : S) → slice_get found place ≡ Some (Volume store) → IsSource members told place
       → (volume : List ℕ) × keeps store volume × IsSourceOf members disks place (meaning_with (about store) volume)
   source_of place store at source =
-      let got = at_right (IsFound about keeps) disks found all place (Some store) at in
+      let got = at_right (IsFound about keeps) disks found all place (Volume store) at in
       let same : Some (Opened source.is.member source.front) ≡ Some (Opened (member_in (about store)) (about store).front) = sym source.is.opened ∙ told_at place store at in
       let member_is : source.is.member ≡ member_in (about store) = cc in
       let front_is : source.front ≡ (about store).front = cc in (
@@ -83,7 +85,7 @@ module _ {S : Type 0} (about : S → About) (keeps : S → List ℕ → Type 0) 
         },
       )
 
-module _ {S : Type 0} (about : S → About) (members : List Member) (found : List (Option S)) (told : List Returned) (same : told ≡ map (returned_as about) found) (place : ℕ) (source : IsSource members told place) where
+module _ {S D : Type 0} (about : S → About) (members : List Member) (found : List (OnDisk S D)) (told : List Returned) (same : told ≡ map (returned_as about) found) (place : ℕ) (source : IsSource members told place) where
   -- the source is one of those that were found
   pub source_is_within : place < length found
   source_is_within =
@@ -92,15 +94,30 @@ module _ {S : Type 0} (about : S → About) (members : List Member) (found : Lis
       omega arith
 
   -- and a store was found there
-  pub source_is_found : slice_get found place ≡ Some None → ⊥
-  source_is_found at =
+  pub source_is_found : (disk : D) → slice_get found place ≡ Some (Nothing disk) → ⊥
+  source_is_found disk at =
       let here : slice_get told place ≡ Some Unopened = ap (λ (l : List Returned). slice_get l place) same ∙ slice_get-map (returned_as about) found place ∙ ap (option_map (returned_as about)) at in
       let e : Some (Opened source.is.member source.front) ≡ Some Unopened = sym source.is.opened ∙ here in
       cc
 
-module _ {S : Type 0} (about : S → About) (keeps : S → List ℕ → Type 0) (one : MeansOne) (now old : Record) (same : now ≡ old) (disks : List (List ℕ)) (found : List (Option S)) (all : AllZip (IsFound about keeps) disks found) where
+module _ {S D : Type 0} (about : S → About) (keeps : S → List ℕ → Type 0) (one : MeansOne) (now old : Record) (same : now ≡ old) (disks : List (List ℕ)) (found : List (OnDisk S D)) (all : AllZip (IsFound about keeps) disks found) where
   -- the source for the chain that was read
-  pub source_for : (place : ℕ) (store : S) → slice_get found place ≡ Some (Some store) → IsSource now.members (map (returned_as about) found) place
+  pub source_for : (place : ℕ) (store : S) → slice_get found place ≡ Some (Volume store) → IsSource now.members (map (returned_as about) found) place
       → (volume : List ℕ) × keeps store volume × IsSourceOf old.members disks place (meaning_with (about store) volume)
   source_for place store at source =
       source_of about keeps one old.members disks found all place store at (subst (λ (r : Record). IsSource r.members (map (returned_as about) found) place) same source)
+
+module _ {S D : Type 0} (about : S → About) (found : List (OnDisk S D)) (place : ℕ) (store : S) (at : slice_get found place ≡ Some (Volume store)) where
+  -- the member of the store at a place
+  pub member_at : (member : Member) → IsMemberAt about found place member → member ≡ member_in (about store)
+  member_at member is =
+      let same : Some (Volume is.store) ≡ Some (Volume store) = sym is.there ∙ at in
+      let one : is.store ≡ store = cc in
+      is.is ∙ ap (λ (s : S). member_in (about s)) one
+
+  -- it runs
+  pub store_runs : All (MayRun about) found → IsRunning about store
+  store_runs all =
+      let within = slice_get_within found place (Volume store) at in
+      let is : get_or found place (Volume store) ≡ Volume store = get_or_from_slice_get found place (Volume store) (Volume store) at in
+      subst (MayRun about) is (all place (Volume store) within)

@@ -1,8 +1,8 @@
 -- The records of a folder's chain, and the bytes of the disk that has them.
-use Rattle.std.specs.Prelude.{ℕ, ◌+◌, List, [], ◌∷◌, map}
+use Rattle.std.specs.Prelude.{◌⊎◌, ℕ, ◌+◌, ◌<◌, List, [], ◌∷◌, map}
 use Rattle.std.specs.List.{range_with_len}
 use Rattle.configurations.specs.Record.{Record}
-use Rattle.configurations.specs.Store.{HoldsRecord}
+use Rattle.configurations.specs.Store.{HoldsNone, HoldsRecord, IsBeingMade}
 use Rattle.configurations.specs.declared.member.Member.{Member}
 use Rattle.disk_model.specs.Part.{inside}
 use Rattle.disk_model.specs.declared.part.Part.{Part}
@@ -15,6 +15,15 @@ config_part = record { start = 0; len = 8192; fits = superblock_fits }
 -- the bytes of the configuration's disk have this record
 abbrev pub HasRecord : Record → List ℕ → Type 0
 HasRecord r bytes = HoldsRecord r (inside config_part bytes)
+
+-- they have none, or there is no room for one on a disk of this size
+abbrev pub HasNoRecord : ℕ → List ℕ → Type 0
+HasNoRecord size bytes = (size < config_part.len) ⊎ HoldsNone (inside config_part bytes)
+
+-- while the first record is made, a stop leaves what it might have left before, with both slots cleared at most; or the
+-- record
+abbrev pub IsBeingRecorded : Record → (List ℕ → Type 0) → List ℕ → Type 0
+IsBeingRecorded first may_leave c = may_leave c ⊎ IsBeingMade config_part first may_leave c
 
 -- the member at a slot whose disk was formatted
 abbrev pub first_member : ℕ → Member

@@ -1,5 +1,5 @@
 -- The numbers of the refusals, and which calls give them.
-use Rattle.std.specs.Prelude.{ℕ, Option, Some}
+use Rattle.std.specs.Prelude.{◌≡◌, ◌⊎◌, ℕ, Option, Some, IsSomeAnd}
 use Rattle.configurations.specs.Refusal as chain
 use Rattle.local_store.specs.Refusal as store
 use Rattle.configurations.specs.declared.refusal.Refusal.TheVariants as records
@@ -29,6 +29,19 @@ abbrev pub IsCausedBy : ℕ → ℕ → Refusal → Type 0
 IsCausedBy before now (Chain refusal) = chain.IsCaused before now refusal
 IsCausedBy before now (Store refusal) = store.IsCaused before now refusal
 IsCausedBy before now _ = Unit {0}
+
+-- memory ran out, or a device refused
+abbrev pub IsExcuse : Refusal → Type 0
+IsExcuse Memory = Unit {0}
+IsExcuse (Chain records.Memory) = Unit {0}
+IsExcuse (Chain (records.Device error)) = Unit {0}
+IsExcuse (Store faults.Memory) = Unit {0}
+IsExcuse (Store (faults.Device error)) = Unit {0}
+IsExcuse _ = ⊥
+
+-- it is refused, with this, unless memory runs out or a device refuses
+abbrev pub IsRefusedWith : Refusal → Option Refusal → Type 0
+IsRefusedWith due told = IsSomeAnd told (λ r. (r ≡ due) ⊎ IsExcuse r)
 
 -- what is told of a disk that can't be opened for itself: out of memory, and what the device refuses
 abbrev pub IsOfFinding : Refusal → Type 0
@@ -63,7 +76,8 @@ IsOfFormatting (Chain refusal) = chain.IsOfCreating refusal
 IsOfFormatting (Store refusal) = store.IsOfFormatting refusal
 IsOfFormatting _ = ⊥
 
--- what `open` may be refused with
-abbrev pub IsOfOpening : Refusal → Type 0
-IsOfOpening FileFault = Unit {0}
-IsOfOpening refusal = IsOfRestarting refusal
+-- what the making and the opening of files may be refused with
+abbrev pub IsOfFiles : Refusal → Type 0
+IsOfFiles Memory = Unit {0}
+IsOfFiles FileFault = Unit {0}
+IsOfFiles _ = ⊥

@@ -1,15 +1,20 @@
 -- How a chain goes on from the disks of a folder.
-use Rattle.std.specs.Prelude.{◌≡◌, ◌⊎◌, ℕ, ◌≤◌, List}
+use Rattle.std.specs.Prelude.{◌≡◌, ◌≢◌, ◌⊎◌, ℕ, ◌≤◌, List, [], Option}
 use Rattle.configurations.specs.Record.{Record}
 use Rattle.configurations.specs.Store.{HoldsOldOrNew, Records}
+use Rattle.configurations.specs.declared.refusal.Refusal.TheVariants.{NoRecord}
 use Rattle.disk_model.specs.Part.{inside}
 use Rattle.gate_journal.specs.Pair.{HoldsPair, Slots, last_number, newest}
 use Rattle.gate_journal.specs.declared.batch.TheConstants.{MAX_NUMBER}
 use Rattle.local_store.specs.About.{About, meaning_with}
 use Rattle.local_store.specs.Meaning.{Meaning}
-use Rattle.folder.specs.Chain.{HasRecord, alone_after, config_part}
-use Rattle.folder.specs.Disks.{IsSourceOf, member_of}
+use Rattle.recovery.specs.declared.refusal.Refusal.TheVariants.{NoneReturned, NotInChain}
+use Rattle.folder.specs.Chain.{HasNoRecord, HasRecord, alone_after, config_part}
+use Rattle.folder.specs.Disks.{IsSourceOf, NoneIsReturned, member_of}
 use Rattle.folder.specs.Found.{member_in}
+use Rattle.folder.specs.Refusal.{IsRefusedWith}
+use Rattle.folder.specs.declared.refusal.Refusal.{Refusal}
+use Rattle.folder.specs.declared.refusal.Refusal.TheVariants.{Chain, Choice}
 
 -- The store keeps what the disk at this place meant, which is the source among these disks for the chain that the
 -- configuration's disk had recorded; recorded now is its member alone, in the next epoch.
@@ -27,6 +32,12 @@ abbrev pub IsRecordedOver : (List ℕ → Type 0) → List ℕ → List (List �
 IsRecordedOver may_leave config disks c = may_leave c
     ⊎ ((old : Record) × (place : ℕ) × (m : Meaning) × HasRecord old config × IsSourceOf old.members disks place m
     × HoldsOldOrNew old (alone_after old (member_of m)) (inside config_part c))
+
+-- Without a record the answer is 161; with one, and without disks, 191; with disks of which none is the chain's, 192.
+pub record IsAnswered (size : ℕ) (config : List ℕ) (disks : List (List ℕ)) (told : Option Refusal) : Type 0 where
+  pub without_record : HasNoRecord size config → IsRefusedWith (Chain NoRecord) told
+  pub without_disks : (r : Record) → config_part.len ≤ size → HasRecord r config → disks ≡ [] → IsRefusedWith (Choice NoneReturned) told
+  pub without_members : (r : Record) → config_part.len ≤ size → HasRecord r config → disks ≢ [] → NoneIsReturned r.members disks → IsRefusedWith (Choice NotInChain) told
 
 -- No epoch comes behind the recorded one, or the pair that has the record has no number left.
 pub record IsAtEnd (config : List ℕ) : Type 0 where

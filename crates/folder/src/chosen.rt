@@ -1,59 +1,83 @@
 //! The choice of the disk that a chain goes on from.
-ghost use Rattle.std.specs.Prelude.{◌≡◌, ◌≢◌, ℕ, [], All, Some, map, length, slice_get, IfErr, IfOk, IfSome, IsErrOf};
+ghost use Rattle.std.specs.Prelude.{◌≡◌, ◌≢◌, ◌+◌, ◌≤◌, ℕ, [], All, Some, map, length, slice_get, vec_capacity, IfErr, IfOk, IsErrOf};
+ghost use Rattle.std.specs.List.{remove};
 ghost use Rattle.recovery.specs.Choice.{IsSource, NoneRecorded};
 ghost use Rattle.recovery.specs.declared.refusal.Refusal.TheVariants.{NoneReturned, NotInChain};
-ghost use Rattle.folder.specs.Found.{IsRunning, member_in, returned_as};
+ghost use Rattle.folder.specs.Found.{IsMemberAt, IsRunning, IsVolumeAt, MayRun, disk_in, member_in, returned_as};
 ghost use Rattle.folder.specs.Refusal.{IsOfChoosing};
 
 use crate::Refusal;
+use crate::found::{OnDisk, all_disks};
 use configurations::{Incarnation, Member, Record};
-use local_store::StoreLike;
+use disk_model::Disk;
+use local_store::{Store, StoreLike};
 use recovery::{Returned, choose};
 use std::alloc::{AllocError, Global};
 
-/// A store, and the place of its disk among those that returned.
+/// The place of a disk among those that returned, and the member whose it is.
 #[derive(Drop)]
-pub(crate) struct Chosen<S> {
+pub(crate) struct Chosen {
     pub(crate) place: usize,
-    pub(crate) store: S,
+    pub(crate) member: Member,
 }
 
-/// The store that the recorded chain goes on from, by the rule of recovery.
+/// The disk that the recorded chain goes on from, by the rule of recovery.
 ///
 /// 191 `NoneReturned`: no disk returned. 192 `NotInChain`: none of them is a disk of the chain. 100 `Memory`.
-pub(crate) fn choose_from<S: StoreLike + Drop>(
+pub(crate) fn choose_from<S: StoreLike + Drop, D: Drop>(
     alloc: Global,
     recorded: &Record,
-    found: Vec<Option<S>>,
-) -> Result<Chosen<S>, Refusal>
-    requires { All (λ one. IfSome one (IsRunning S.about)) found.items }
-    ensures store { IfOk result (λ c. slice_get found.items c.place ≡ Some (Some c.store)) }
-    ensures running { IfOk result (λ c. IsRunning S.about c.store) }
-    ensures source { IfOk result (λ c. IsSource recorded.now.members (map (returned_as S.about) found.items) c.place) }
-    ensures none { IsErrOf result (Refusal.Choice NoneReturned) → found.items ≡ [] }
+    found: &[OnDisk<S, D>],
+) -> Result<Chosen, Refusal>
+    requires { All (MayRun S.about) found.now }
+    ensures member { IfOk result (λ c. IsMemberAt S.about found.now c.place c.member) }
+    ensures source { IfOk result (λ c. IsSource recorded.now.members (map (returned_as S.about) found.now) c.place) }
+    ensures none { IsErrOf result (Refusal.Choice NoneReturned) → found.now ≡ [] }
+    ensures some { IsErrOf result (Refusal.Choice NotInChain) → found.now ≢ [] }
     ensures strangers { IsErrOf result (Refusal.Choice NotInChain)
-        → NoneRecorded recorded.now.members (map (returned_as S.about) found.items) }
+        → NoneRecorded recorded.now.members (map (returned_as S.about) found.now) }
     ensures told { IfErr result IsOfChoosing }
 {
-    let returned = all_returned(alloc, &found)?;
+    let returned = all_returned(alloc, found)?;
     let source = match choose(recorded, &returned) {
         Ok(source) => source,
         Err(refusal) => return Err(Refusal::Choice(refusal)),
     };
     let place = source.place;
+    match &found[place] {
+        OnDisk::Volume(store) => Ok(Chosen {
+            place,
+            member: member_of(store),
+        }),
+        OnDisk::Nothing(_) => unreachable!(),
+    }
+}
+
+/// The store at a place, and the other disks, in their order. There is room for them.
+pub(crate) fn take_store<D: Disk + Drop>(
+    found: Vec<OnDisk<Store<D>, D>>,
+    place: usize,
+    room: Vec<D>,
+) -> (Store<D>, Vec<D>)
+    requires there { IsVolumeAt found.items place }
+    requires empty { room.items ≡ [] }
+    requires enough { length found.items ≤ vec_capacity room }
+    ensures store { slice_get found.items place ≡ Some (OnDisk.Volume result.0) }
+    ensures others { result.1.items ≡ map (λ one. disk_in one (λ s. s.disk)) (remove found.items place) }
+{
     let mut found = found;
-    match found.swap_remove(place) {
-        Some(store) => Ok(Chosen { place, store }),
-        None => unreachable!(),
+    match found.remove(place) {
+        OnDisk::Volume(store) => (store, all_disks(found, room)),
+        OnDisk::Nothing(_) => unreachable!(),
     }
 }
 
 /// What is told of the disks to the rule of recovery.
-fn all_returned<S: StoreLike>(
+fn all_returned<S: StoreLike, D>(
     alloc: Global,
-    found: &[Option<S>],
+    found: &[OnDisk<S, D>],
 ) -> Result<Vec<Returned>, AllocError>
-    requires { All (λ one. IfSome one (IsRunning S.about)) found.now }
+    requires { All (MayRun S.about) found.now }
     ensures { IfOk result (λ returned. returned.items ≡ map (returned_as S.about) found.now) }
 {
     let mut returned = Vec::new(alloc);
@@ -64,21 +88,21 @@ fn all_returned<S: StoreLike>(
 }
 
 /// What is told of a disk to the rule of recovery.
-fn returned_by<S: StoreLike>(found: &Option<S>) -> Returned
-    requires { IfSome found.now (IsRunning S.about) }
+fn returned_by<S: StoreLike, D>(found: &OnDisk<S, D>) -> Returned
+    requires { MayRun S.about found.now }
     ensures { result ≡ returned_as S.about found.now }
 {
     match found {
-        Some(store) => Returned::Opened {
+        OnDisk::Volume(store) => Returned::Opened {
             member: member_of(store),
             front: store.front(),
         },
-        None => Returned::Unopened,
+        OnDisk::Nothing(_) => Returned::Unopened,
     }
 }
 
 /// The member whose store this is.
-pub(crate) fn member_of<S: StoreLike>(store: &S) -> Member
+fn member_of<S: StoreLike>(store: &S) -> Member
     requires { IsRunning S.about store.now }
     ensures { result ≡ member_in (S.about store.now) }
 {

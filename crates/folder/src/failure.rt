@@ -16,9 +16,10 @@ pub struct Failure {
 }
 
 impl Failure {
-    ghost use Rattle.std.specs.Prelude.{◌≡◌, ◌↔◌, Some, None, IfSome, IsNone, IsSomeAnd, IsTrue};
-    ghost use Rattle.std.specs.IoError.{error_kind, raw_os_error};
+    ghost use Rattle.std.specs.Prelude.{◌≡◌, ◌↔◌, Some, None, IfSome, IsNone, IsTrue};
+    ghost use Rattle.std.specs.IoError.{raw_os_error};
     ghost use Rattle.disk_model.specs.File.{file_last_error};
+    ghost use Rattle.folder.specs.Files.{IsNotFound};
 
     /// The refusal of a file that the system has refused.
     pub(crate) fn of_file(file: FileName, reason: io::Error) -> Failure
@@ -53,7 +54,7 @@ impl Failure {
 
     /// Whether the system said that there is no such file.
     pub(crate) fn is_not_found(&self) -> bool
-        ensures { IsTrue result ↔ IsSomeAnd self.now.reason (λ said. error_kind said ≡ ErrorKind.NotFound) }
+        ensures { IsTrue result ↔ IsNotFound self.now }
     {
         match &self.reason {
             Some(reason) => reason.kind() == ErrorKind::NotFound,

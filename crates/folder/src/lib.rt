@@ -3,8 +3,9 @@
 //! Its contract for the layers above: a formatted disk means a volume of zeros at front 0, and the configuration's disk
 //! has the first record. `restart` goes on from the disk that the rule of recovery chooses by what the disks mean; the
 //! chain of that disk alone is recorded, in the next epoch, before anything else is written, and the store keeps what the
-//! disk meant. `format` and `open` do this with the files of a folder. What a file really holds is a premise of the disk
-//! model; who joins the chain again, and what is written from then on, is left to those layers.
+//! disk meant. `format_disks` formats the members' disks, and makes the first record last. Both are for disks of any kind:
+//! `open` and `format` only find and make a folder's files, as `FileDisk`s. What a file really holds is a premise of the
+//! disk model; who joins the chain again, and what is written from then on, is left to those layers.
 #![tactic(auto)]
 
 mod chosen;
@@ -18,9 +19,8 @@ mod refusal;
 mod restarting;
 
 pub use failure::Failure;
-pub use files::{format, open};
-pub use formatting::{config_part, format_config, format_member};
-pub use found::Fault;
+pub use files::{FolderDisks, format, open};
+pub use formatting::{Unformatted, config_part, format_config, format_disks, format_member};
 pub use layout::Layout;
 pub use names::FileName;
 pub use refusal::Refusal;

@@ -1,24 +1,25 @@
 //! How a chain goes on from the disks of a folder.
-ghost use Rattle.std.specs.Prelude.{◌≡◌, ◌⊎◌, ◌+◌, ◌<◌, ◌≤◌, ◌↔◌, ℕ, List, [], ◌∷◌, false, map, slice_get, IfErr, IfNone, IfOk, IfSome, IsErrOf, OnOk};
+ghost use Rattle.std.specs.Prelude.{◌≡◌, ◌⊎◌, ◌+◌, ◌<◌, ◌≤◌, ◌↔◌, ℕ, List, [], ◌∷◌, false, None, Some, length, map, slice_get, IfErr, IfNone, IfOk, IfSome, IsErrOf, OnOk};
+ghost use Rattle.std.specs.List.{AllZip, remove};
 ghost use Rattle.configurations.specs.Refusal as chain;
-ghost use Rattle.configurations.specs.Store.{HoldsNone, HoldsOldOrNew, HoldsRecord, IsSettledConfig, recorded};
+ghost use Rattle.configurations.specs.Store.{HoldsOldOrNew, HoldsRecord, IsSettledConfig, recorded};
 ghost use Rattle.configurations.specs.declared.refusal.Refusal.TheVariants.{Broken, NoRecord, NotNext};
 ghost use Rattle.disk_model.specs.Disk.{LeavesOnly};
 ghost use Rattle.disk_model.specs.Part.{inside};
 ghost use Rattle.gate_journal.specs.Runs.{OnlyReads};
 ghost use Rattle.recovery.specs.declared.refusal.Refusal.TheVariants.{NoneReturned, NotInChain};
 ghost use Rattle.configurations.specs.Record.{Record as Recorded};
-ghost use Rattle.folder.specs.Chain.{HasRecord, alone_after, config_part as the_part};
+ghost use Rattle.folder.specs.Chain.{HasNoRecord, HasRecord, alone_after, config_part as the_part};
 ghost use Rattle.folder.specs.Disks.{NoneIsReturned};
 ghost use Rattle.folder.specs.Found.{IsFault, IsRunning, member_in};
 ghost use Rattle.folder.specs.Refusal.{IsCausedBy, IsOfRestarting};
-ghost use Rattle.folder.specs.Restart.{GoesOn, IsAtEnd, IsRecordedOver};
+ghost use Rattle.folder.specs.Restart.{GoesOn, IsAnswered, IsAtEnd, IsRecordedOver};
 
 use crate::Refusal;
-use crate::chosen::{choose_from, member_of};
+use crate::chosen::{choose_from, take_store};
 use crate::formatting::config_part;
-use crate::found::{Fault, find_all};
-use configurations::{ConfigStore, Epoch, Member, Record};
+use crate::found::{all_disks, find_all};
+use configurations::{ConfigStore, Epoch, Member, Record, records_are_one};
 use disk_model::Disk;
 use gate_journal::{MAX_NUMBER, PAIR_SIZE, Slot};
 use local_store::{Store, StoreLike, disks_mean_one};
@@ -37,6 +38,8 @@ pub struct Opened<D: Disk> {
     pub place: usize,
     /// The store of the source.
     pub store: Store<D>,
+    /// The other disks that returned, in their order.
+    pub others: Vec<D>,
 }
 
 /// Why a chain doesn't go on.
@@ -46,20 +49,23 @@ pub struct Refused<D> {
     pub refusal: Refusal,
     /// The configuration's disk.
     pub config: D,
-    /// The disk that is at fault, where it isn't that of the configuration.
-    pub fault: Option<Fault<D>>,
+    /// The disks that returned, in their order.
+    pub disks: Vec<D>,
+    /// The place of the disk that is at fault, where it isn't that of the configuration.
+    pub fault: Option<usize>,
 }
 
 impl<D: Drop> Refused<D> {
     ghost use Rattle.std.specs.Prelude.{◌≡◌, None};
 
-    /// A refusal in which no other disk is at fault.
-    fn alone(refusal: Refusal, config: D) -> Refused<D>
-        ensures { result ≡ record { refusal = refusal; config = config; fault = None } }
+    /// A refusal in which no disk that returned is at fault.
+    fn alone(refusal: Refusal, config: D, disks: Vec<D>) -> Refused<D>
+        ensures { result ≡ record { refusal = refusal; config = config; disks = disks; fault = None } }
     {
         Refused {
             refusal,
             config,
+            disks,
             fault: None,
         }
     }
@@ -67,11 +73,11 @@ impl<D: Drop> Refused<D> {
 
 /// A chain of one goes on: the recorded chain is read from the configuration's disk, each disk that returned is opened,
 /// the rule of recovery chooses the source among them, and the source alone is recorded, with the next epoch. Nothing else
-/// is written: the disks that returned are only read.
+/// is written: the disks that returned are only read, and all are handed back.
 ///
-/// 161 `NoRecord`: the configuration's disk has no record. 191 `NoneReturned`: no disk returned. 192 `NotInChain`: none of
-/// the disks is the recorded chain's. 162 `NotNext`: no epoch or no number is left. 100 `Memory`, and what a device
-/// refuses. The configuration's disk is handed back, with the record that it had or with the next.
+/// 161 `NoRecord`: the configuration's disk has no record. 191 `NoneReturned`: it has one, and no disk returned. 192
+/// `NotInChain`: none of the disks is the recorded chain's. 162 `NotNext`: no epoch or no number is left. 100 `Memory`, and
+/// what a device refuses. The configuration's disk is handed back, with the record that it had or with the next.
 pub fn restart<D: Disk + Drop>(
     alloc: Global,
     config: D,
@@ -82,6 +88,8 @@ pub fn restart<D: Disk + Drop>(
     ensures settled { D.keeps_model → IfOk result (λ o. IsSettledConfig o.configs (D.gives o.config) (D.may_leave_now o.config)) }
     ensures reads { D.keeps_model → IfOk result (λ o. IfSome (slice_get disks.items o.place)
         (λ disk. OnlyReads D.gives D.may_leave_now D.moment D.may_have_left_since disk o.store.disk)) }
+    ensures others { D.keeps_model → IfOk result (λ o. AllZip (OnlyReads D.gives D.may_leave_now D.moment D.may_have_left_since)
+        (remove disks.items o.place) o.others.items) }
     ensures records { IfOk result (λ o. (o.configs.current ≡ o.record) × (o.configs.pair.part ≡ the_part)) }
     ensures alone { IfOk result (λ o. o.record.members ≡ member_in (⟦<Store<D> as StoreLike>⟧.about o.store) ∷ []) }
     ensures running { IfOk result (λ o. IsRunning ⟦<Store<D> as StoreLike>⟧.about o.store) }
@@ -93,49 +101,71 @@ pub fn restart<D: Disk + Drop>(
     ensures back { D.keeps_model → IfErr result (λ e. LeavesOnly D.moment D.may_have_left_since config e.config
         (IsRecordedOver (D.may_leave_now config) (D.gives config) (map D.gives disks.items))) }
 
-    ensures no_record { D.keeps_model → IfErr result (λ e. e.refusal ≡ Refusal.Chain NoRecord
-        → (D.size config < the_part.len) ⊎ HoldsNone (inside the_part (D.gives config))) }
+    // All disks that returned are handed back, and were only read.
+    ensures all_back { D.keeps_model → IfErr result (λ e. AllZip (OnlyReads D.gives D.may_leave_now D.moment D.may_have_left_since)
+        disks.items e.disks.items) }
+    ensures as_many { IfErr result (λ e. length e.disks.items ≡ length disks.items) }
+
+    ensures no_record { D.keeps_model → IfErr result (λ e. e.refusal ≡ Refusal.Chain NoRecord → HasNoRecord (D.size config) (D.gives config)) }
     ensures none_returned { IfErr result (λ e. e.refusal ≡ Refusal.Choice NoneReturned → disks.items ≡ []) }
+    ensures none_returned_to { D.keeps_model → IfErr result (λ e. e.refusal ≡ Refusal.Choice NoneReturned
+        → (old : Recorded) × HasRecord old (D.gives config)) }
     ensures strangers { D.keeps_model → IfErr result (λ e. e.refusal ≡ Refusal.Choice NotInChain
         → (old : Recorded) × HasRecord old (D.gives config) × NoneIsReturned old.members (map D.gives disks.items)) }
     ensures not_next { D.keeps_model → IfErr result (λ e. e.refusal ≡ Refusal.Chain NotNext → IsAtEnd (D.gives config)) }
+
+    // And the other way round.
+    ensures refused { D.keeps_model → IfErr result (λ e. IsAnswered (D.size config) (D.gives config) (map D.gives disks.items) (Some e.refusal)) }
+    ensures done { D.keeps_model → IfOk result (λ o. IsAnswered (D.size config) (D.gives config) (map D.gives disks.items) None) }
+
     ensures told { IfErr result (λ e. IsOfRestarting e.refusal) }
-    ensures fault { IfErr result (λ e. IfSome e.fault (λ f. IsFault D.failures disks.items f.place f.disk e.refusal)) }
+    ensures fault { IfErr result (λ e. IfSome e.fault (λ place. IsFault D.failures disks.items e.disks.items place e.refusal)) }
     ensures cause { IfErr result (λ e. IfNone e.fault (IsCausedBy (D.failures config) (D.failures e.config) e.refusal)) }
 {
     disks_mean_one();
+    records_are_one();
     let mut config = config;
     let mut configs = match open_config(alloc, &mut config) {
         Ok(configs) => configs,
-        Err(refusal) => return Err(Refused::alone(Refusal::Chain(refusal), config)),
+        Err(refusal) => return Err(Refused::alone(Refusal::Chain(refusal), config, disks)),
     };
-    let found = match find_all(alloc, disks) {
+    let Ok(room) = Vec::with_capacity(alloc, disks.len()) else {
+        return Err(Refused::alone(Refusal::Memory, config, disks));
+    };
+    let Ok(back) = Vec::with_capacity(alloc, disks.len()) else {
+        return Err(Refused::alone(Refusal::Memory, config, disks));
+    };
+    let found = match find_all(alloc, disks, room) {
         Ok(found) => found,
         Err(unfound) => {
             return Err(Refused {
-                refusal: unfound.refusal,
+                refusal: Refusal::Store(unfound.fault.refusal),
                 config,
-                fault: unfound.fault,
+                disks: all_disks(unfound.each, back),
+                fault: Some(unfound.fault.place),
             });
         }
     };
-    let chosen = match choose_from(alloc, configs.current(), found) {
+    let chosen = match choose_from(alloc, configs.current(), &found) {
         Ok(chosen) => chosen,
-        Err(refusal) => return Err(Refused::alone(refusal, config)),
+        Err(refusal) => return Err(Refused::alone(refusal, config, all_disks(found, back))),
     };
-    match record_alone(alloc, &mut configs, &mut config, member_of(&chosen.store)) {
-        Ok(record) => Ok(Opened {
-            config,
-            configs,
-            record,
-            place: chosen.place,
-            store: chosen.store,
-        }),
-        Err(refusal) => Err(Refused {
-            refusal: Refusal::Chain(refusal),
-            config,
-            fault: None,
-        }),
+    match record_alone(alloc, &mut configs, &mut config, chosen.member) {
+        Ok(record) => {
+            let (store, others) = take_store(found, chosen.place, back);
+            Ok(Opened {
+                config,
+                configs,
+                record,
+                place: chosen.place,
+                store,
+                others,
+            })
+        }
+        Err(refusal) => {
+            let disks = all_disks(found, back);
+            Err(Refused::alone(Refusal::Chain(refusal), config, disks))
+        }
     }
 }
 
@@ -149,8 +179,9 @@ fn open_config<D: Disk>(alloc: Global, disk: &mut D) -> Result<ConfigStore, conf
     ensures room { OnOk result (the_part.len ≤ D.size disk.new) }
     ensures settled { D.keeps_model → IfOk result (λ s. IsSettledConfig s (D.gives disk.new) (D.may_leave_now disk.new)) }
     ensures none { D.keeps_model → IsErrOf result NoRecord
-        → (D.size disk.old < the_part.len) ⊎ HoldsNone (inside the_part (D.gives disk.old)) }
+        → HasNoRecord (D.size disk.old) (D.gives disk.old) }
     ensures reads { D.keeps_model → OnlyReads D.gives D.may_leave_now D.moment D.may_have_left_since disk.old disk.new }
+    ensures size { D.size disk.new ≡ D.size disk.old }
     ensures told { IfErr result chain.IsOfOpening }
     ensures cause { chain.HasCause (D.failures disk.old) (D.failures disk.new) result }
 {

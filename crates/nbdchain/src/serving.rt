@@ -1,16 +1,19 @@
 //! `serve DIR`: the disk of a folder, for clients of the Network Block Device protocol.
 //!
 //! A chain of one goes on from the folder: where more members are recorded, the source of the recovery goes on alone.
-ghost use Rattle.std.specs.Prelude.{◌≡◌, [], ◌∷◌, ℕ, List, IfOk};
+ghost use Rattle.std.specs.Prelude.{◌≡◌, [], ◌∷◌, ℕ, List, All, map, slice_get, IfOk, IfSome};
+ghost use Rattle.gate_journal.specs.Runs.{OnlyReads};
 ghost use Rattle.folder.specs.Found.{IsRunning, member_in};
 ghost use Rattle.life.specs.Begun.{BeginsWith};
+ghost use Rattle.nbdchain.specs.Serving.{GoesOnFrom};
 
 use crate::fault::Fault;
 use chain::Chain;
 use clap::{Arg, ArgAction, ArgMatches, Command, value_parser};
-use configurations::Record;
-use disk_model::FileDisk;
-use folder::Opened;
+use configurations::{Epoch, Record};
+use disk_model::{Disk, FileDisk};
+use folder::{FolderDisks, Opened, Refused, restart};
+use gate_journal::Slot;
 use local_store::{Store, StoreLike};
 use log::{Log, info};
 use server::{listen, serve};
@@ -58,10 +61,37 @@ pub(crate) fn words<'a>(alloc: Global) -> Result<Command<'a>, AllocError> {
         .arg(sessions)
 }
 
+/// A world that goes on from a folder's disks, and what is printed of it. It has no `Drop`, since a world has none.
+struct Begun<D: Disk + Drop> {
+    /// The configuration's disk.
+    config: D,
+    /// The place of the source among the members' disks.
+    place: usize,
+    /// The slot of the source.
+    source: Slot,
+    /// The number of the last write that it holds.
+    front: u64,
+    /// The epoch of the chain that goes on.
+    epoch: Epoch,
+    /// The world of that chain.
+    world: World<Store<D>>,
+    /// The other members' disks.
+    others: Vec<D>,
+}
+
+/// Why no world goes on.
+#[derive(Drop)]
+enum Unbegun<D> {
+    /// The chain doesn't.
+    Refused(Refused<D>),
+    /// Memory ran out behind it.
+    Memory,
+}
+
 /// Serves the folder that the words name, so many sessions.
 ///
-/// 302 `ListenFault` where binding or accepting fails. Else as `folder::open`, which records the source alone, with the next
-/// epoch, before anything else is written.
+/// 302 `ListenFault` where binding or accepting fails. Else as `folder::open`, and as `folder::restart`, which records the
+/// source alone, with the next epoch, before anything else is written.
 pub(crate) fn serve_folder<'a, R, O: Write>(
     rt: &R,
     matches: &ArgMatches<'a>,
@@ -83,25 +113,101 @@ where
     let port = matches.get_one::<u16>("port").unwrap_or(0);
     let sessions = matches.get_one::<u32>("sessions").unwrap_or(0);
     info!(rt; "opening the disks of {dir}");
-    let opened = match folder::open(rt, dir) {
-        Ok(opened) => opened,
+    let FolderDisks {
+        config,
+        slots,
+        disks,
+    } = match folder::open(rt, dir) {
+        Ok(files) => files,
         Err(failure) => return Err(Fault::Folder { dir, failure }),
     };
-    let source = opened.source().number();
-    print_source(source, opened.front(), opened.epoch().number(), output)?;
+    let begun = match begin_from(rt.alloc(), config, disks) {
+        Ok(begun) => begun,
+        Err(Unbegun::Refused(refused)) => {
+            let failure = refused.failure(&slots);
+            return Err(Fault::Folder { dir, failure });
+        }
+        Err(Unbegun::Memory) => return Err(Fault::Own(Refusal::Memory)),
+    };
+    serve_begun(rt, port, sessions, begun, output)
+}
+
+/// Serves a world that goes on from a folder's disks. Until its end they are held, and with them the files' locks.
+fn serve_begun<'a, R, O: Write>(
+    rt: &R,
+    port: u16,
+    sessions: u32,
+    begun: Begun<FileDisk>,
+    output: &mut O,
+) -> Result<(), Fault<'a>>
+where
+    R: Net<Listener = TcpListener, Stream = TcpStream>
+        + AllocGlobal
+        + Threads
+        + Wait
+        + Clock
+        + Log
+        + Copy
+        + Send
+        + 'static,
+{
+    let Begun {
+        config,
+        source,
+        front,
+        epoch,
+        world,
+        others,
+        place: _,
+    } = begun;
+    let mut service = Service::new(rt.alloc(), world);
+    let served = match print_source(source.number(), front, epoch.number(), output) {
+        Ok(()) => serve_at(rt, port, sessions, &mut service, output),
+        Err(refusal) => Err(Fault::Own(refusal)),
+    };
+    let _ = service.abandon();
+    drop(config);
+    drop(others);
+    served
+}
+
+/// A world of one goes on from the configuration's disk and the members' disks that returned, as `restart` has it: it
+/// begins with what the source among them means, and has no clients.
+fn begin_from<D: Disk + Drop>(
+    alloc: Global,
+    config: D,
+    disks: Vec<D>,
+) -> Result<Begun<D>, Unbegun<D>>
+    ensures goes_on { D.keeps_model → IfOk result (λ b. GoesOnFrom ⟦<Store<D> as StoreLike>⟧.about ⟦<Store<D> as StoreLike>⟧.keeps ⟦<Store<D> as StoreLike>⟧.may_leave_now
+        (D.gives config) (map D.gives disks.items) b.place b.world) }
+    ensures reads { D.keeps_model → IfOk result (λ b. IfSome (slice_get disks.items b.place) (λ disk. All (λ member.
+        OnlyReads D.gives D.may_leave_now D.moment D.may_have_left_since disk member.node.store.disk) b.world.chain.members)) }
+{
+    let opened = match restart(alloc, config, disks) {
+        Ok(opened) => opened,
+        Err(refused) => return Err(Unbegun::Refused(refused)),
+    };
+    let (source, front, epoch) = (opened.source(), opened.front(), opened.epoch());
     let Opened {
         config,
         record,
+        place,
         store,
-        ..
+        others,
+        configs: _,
     } = opened;
-    let world = world_of_one(rt.alloc(), record, store)?;
-    let mut service = Service::new(rt.alloc(), world);
-    let served = serve_at(rt, port, sessions, &mut service, output);
-    // The stores are dropped, and with them the files; until here the configuration's file was locked too.
-    let _ = service.abandon();
-    drop(config);
-    served
+    match world_of_one(alloc, record, store) {
+        Ok(world) => Ok(Begun {
+            config,
+            place,
+            source,
+            front,
+            epoch,
+            world,
+            others,
+        }),
+        Err(_) => Err(Unbegun::Memory),
+    }
 }
 
 /// Prints the source and its chain.
@@ -127,6 +233,7 @@ fn world_of_one<S: StoreLike + Drop>(
     requires keeps { S.keeps_model → (volume : List ℕ) × S.keeps store volume }
     ensures begins { S.keeps_model → IfOk result (λ world. (volume : List ℕ) → S.keeps store volume
         → BeginsWith S.about S.keeps S.may_leave_now (S.about store).geometry (S.about store).front volume world) }
+    ensures same { IfOk result (λ world. All (λ member. member.node.store ≡ store) world.chain.members) }
 {
     let mut stores = Vec::with_capacity(alloc, 1)?;
     stores.push_reserved(store);

@@ -41,8 +41,8 @@ const ROWS: [Row; 3] = [
 ];
 
 /// What a script prints.
-fn played(rt: &impl Abort, alloc: Global, script: &str) -> Vec<u8> {
-    let mut reader = script.as_bytes();
+pub(crate) fn played(rt: &impl Abort, alloc: Global, script: &[u8]) -> Vec<u8> {
+    let mut reader = script;
     let mut printed = Vec::new(alloc);
     sim_on(alloc, &mut reader, &mut printed).expect(rt, "a script");
     printed
@@ -51,7 +51,7 @@ fn played(rt: &impl Abort, alloc: Global, script: &str) -> Vec<u8> {
 #[test]
 fn rows(rt: HostRuntime) {
     for row in &ROWS {
-        let printed = played(&rt, rt.alloc(), row.script);
+        let printed = played(&rt, rt.alloc(), row.script.as_bytes());
         same_at(&rt, shown(&printed), row.output, row.script);
     }
 }

@@ -4,7 +4,7 @@ ghost use Rattle.std.specs.Prelude.{◌≡◌, ◌≤◌};
 use crate::comparing::{prints, same, same_at};
 use crate::folders::{new_folder, path};
 use disk_model::{Cut, Disk, DiskError, Event, FileDisk, MemDisk, Script};
-use folder::{Failure, FileName, Layout, Refusal, format, open};
+use folder::{Failure, FileName, FolderDisks, Layout, Opened, Refusal, format, open, restart};
 use gate_journal::{Image, PAIR_SIZE, Slot};
 use local_store::{Store, StoreLike};
 use std::alloc::Global;
@@ -16,9 +16,25 @@ use std::string::String;
 const FIRST: [u8; 61] =
     *b"\x01\0\0\0\0\0\0\0\x01\0\0\0\x30CRAQCONF\x00\x00\x00\x01\x00\x00\x00\x00\x00\x00\x00\x01\x03\x00\x00\x00\x00\x00\x00\x00\x00\x01\x01\x00\x00\x00\x00\x00\x00\x00\x01\x02\x00\x00\x00\x00\x00\x00\x00\x01";
 
+// What goes on from a folder, or why nothing does.
+fn gone_on<R: Files<File = File> + AllocGlobal>(
+    rt: &R,
+    dir: &str,
+) -> Result<Opened<FileDisk>, Failure> {
+    let FolderDisks {
+        config,
+        slots,
+        disks,
+    } = open(rt, dir)?;
+    match restart(rt.alloc(), config, disks) {
+        Ok(opened) => Ok(opened),
+        Err(refused) => Err(refused.failure(&slots)),
+    }
+}
+
 // Source, front and epoch of a folder that is opened.
 fn opened<R: Files<File = File> + AllocGlobal + Abort>(rt: &R, dir: &str) -> (u8, u64, u64) {
-    let opened = open(rt, dir).expect(rt, "the folder opens");
+    let opened = gone_on(rt, dir).expect(rt, "the folder opens");
     (
         opened.source().number(),
         opened.front(),
@@ -28,7 +44,7 @@ fn opened<R: Files<File = File> + AllocGlobal + Abort>(rt: &R, dir: &str) -> (u8
 
 // Why a folder isn't opened.
 fn failure<R: Files<File = File> + AllocGlobal + Abort>(rt: &R, dir: &str) -> Failure {
-    open(rt, dir).err().expect(rt, "a failure")
+    gone_on(rt, dir).err().expect(rt, "a failure")
 }
 
 // The folder isn't formatted, and so it is told.
@@ -97,7 +113,7 @@ fn what_is_refused(rt: HostRuntime) {
     prints(&rt, rt.alloc(), &failure(&rt, dir), text);
     let layout = Layout::new(8, 4_096, 8_214, 1).expect(&rt, "a layout");
     format(&rt, dir, layout).expect(&rt, "the folder is formatted");
-    let held = open(&rt, dir).expect(&rt, "the folder opens");
+    let held = gone_on(&rt, dir).expect(&rt, "the folder opens");
     let locked = failure(&rt, dir);
     same(
         &rt,

@@ -5,6 +5,7 @@ use Rattle.disk_model.specs.Frames.{left_inside}
 use Rattle.disk_model.specs.Part.{inside}
 use Rattle.disk_model.specs.declared.part.Part.{Part}
 use Rattle.folder.specs.Chain.{config_part, first_record}
+use Rattle.folder.proofs.Recording.{being_recorded}
 use Rattle.folder.proofs.formatting.format_config.Goals as goal
 
 -- the store that was made
@@ -22,3 +23,13 @@ returns-clause-leaves g c = λ keeps x left.
     let settled = c.in_ok-create.ensures.settled keeps in
     subst (λ (s : State). HoldsRecord s.current (inside s.pair.part x)) is
     (settled_leaves settled (inside c.in_ok-create.field-0.pair.part x) (left_inside c.in_ok-create.field-0.pair.part (g.D.Disk.may_leave_now c.create.new.disk) x left))
+
+pub returns-in_err-create-clause-any_moment : goal.returns-in_err-create-clause-any_moment
+returns-in_err-create-clause-any_moment g c = λ keeps.
+    being_recorded g.D.Disk.moment g.D.Disk.may_have_left_since c.args.disk.now c.create.new.disk (g.D.Disk.may_leave_now c.args.disk.now) c.config_part.result c.in_ok-first.first (first_record c.args.members)
+    c.config_part.ensures c.in_ok-first.ensures (c.create.ensures.any_moment keeps)
+
+pub returns-clause-any_moment : goal.returns-clause-any_moment
+returns-clause-any_moment g c = λ keeps.
+    being_recorded g.D.Disk.moment g.D.Disk.may_have_left_since c.args.disk.now c.create.new.disk (g.D.Disk.may_leave_now c.args.disk.now) c.config_part.result c.in_ok-first.first (first_record c.args.members)
+    c.config_part.ensures c.in_ok-first.ensures (c.create.ensures.any_moment keeps)
