@@ -19,10 +19,6 @@ HERE = os.path.dirname(os.path.realpath(__file__))
 ROOT = os.environ.get("GATE_ROOT") or os.path.dirname(HERE)
 
 
-class NoKit(Exception):
-    """There is no command `rt` on the PATH."""
-
-
 def load(path, name):
     loader = importlib.machinery.SourceFileLoader(name, path)
     made = importlib.util.module_from_spec(importlib.util.spec_from_loader(name, loader))
@@ -35,7 +31,7 @@ def find():
     """The kit's `rt`, as a module."""
     found = shutil.which("rt")
     if not found:
-        raise NoKit("Rattle's command rt is not on the PATH")
+        sys.exit("Rattle's command rt is not on the PATH")
     return load(os.path.realpath(found), "rt")
 
 
@@ -65,24 +61,28 @@ def named(name, root=ROOT):
     sys.exit(f"crates.txt has no crate {name}")
 
 
-def prove(crate, jobs, compilers=tuple(rt.BACKENDS)):
-    """Proves a library or a program over what stands in its out/, and builds it, a program by each of the compilers; 0 where all is well."""
+def prove(crate, jobs):
+    """Proves a library or a program over what stands in its out/, and builds it, a program by LLVM; 0 where all is well."""
     words = [*crate.words(["--jobs", str(jobs)], keeps=False), *KEPT]
-    if not crate.is_program:
-        # The stamp has other commands take the library as built.
-        stamp, kept = crate.stamp(), f"{crate.folder}/out/rlib/stamp"
-        shutil.rmtree(os.path.dirname(kept), ignore_errors=True)
-        os.makedirs(os.path.dirname(kept))
-        status = crate.prove(["build", *words, "-o", crate.rlib])
-        if status == 0 and stamp == crate.stamp():
-            with open(kept, "w", encoding="utf-8") as it:
-                it.write(stamp)
-        return status
-    for backend in compilers:
-        status = build(crate, words, backend, f"out/{crate.name}{rt.BACKENDS[backend]}")
-        if status:
-            return status
-    return 0
+    if crate.is_program:
+        return build(crate, words, "llvm", f"out/{crate.name}")
+    # The stamp has other commands take the library as built.
+    stamp, kept = crate.stamp(), f"{crate.folder}/out/rlib/stamp"
+    shutil.rmtree(os.path.dirname(kept), ignore_errors=True)
+    os.makedirs(os.path.dirname(kept))
+    status = crate.prove(["build", *words, "-o", crate.rlib])
+    if status == 0 and stamp == crate.stamp():
+        with open(kept, "w", encoding="utf-8") as it:
+            it.write(stamp)
+    return status
+
+
+def build_again(crate):
+    """Builds a proved program by Rattle's own compiler, over a copy of what its proof kept."""
+    with tempfile.TemporaryDirectory(prefix=f"rt-edit-{os.getpid()}-") as room:
+        rt.linked(f"{crate.folder}/{KEPT[1]}", f"{room}/kept")
+        words = [*crate.words(ONE_JOB, keeps=False), KEPT[0], f"{room}/kept"]
+        return build(crate, words, "rattle", f"out/{crate.name}{rt.BACKENDS['rattle']}")
 
 
 def prove_tests(crate, jobs):

@@ -65,9 +65,9 @@ def command(name, *words):
     return [sys.executable, f"{kit.HERE}/{name}", *words]
 
 
-def proof(crate, waits, *words):
+def proof(crate, waits):
     """The proof of a crate, once those below it that are still to be proved are."""
-    return Task(crate, "proof", command("prove", crate.name, *words), waits)
+    return Task(crate, "proof", command("prove", crate.name), waits)
 
 
 def minutes_of(crates):
