@@ -5,6 +5,7 @@ crate is read, proved, judged, linked and run here by the very code that `rt ci`
 crate's `out/`, so that mutants and tests are checked over what this very run has proved. The verdict line then ends in the words
 `incremental=trusted`, which `rt ci` doesn't take, and which are taken here.
 """
+import contextlib
 import importlib.machinery
 import importlib.util
 import io
@@ -77,18 +78,26 @@ def prove(crate, jobs):
     return status
 
 
-def build_again(crate):
-    """Builds a proved program by Rattle's own compiler, over a copy of what its proof kept."""
+@contextlib.contextmanager
+def copy_of_kept(crate):
+    """The folder of a copy of what the crate's own proof kept, which no other command changes."""
     with tempfile.TemporaryDirectory(prefix=f"rt-edit-{os.getpid()}-") as room:
         rt.linked(f"{crate.folder}/{KEPT[1]}", f"{room}/kept")
-        words = [*crate.words(ONE_JOB, keeps=False), KEPT[0], f"{room}/kept"]
+        yield f"{room}/kept"
+
+
+def build_again(crate):
+    """Builds a proved program by Rattle's own compiler, over what its proof kept."""
+    with copy_of_kept(crate) as kept:
+        words = [*crate.words(ONE_JOB, keeps=False), KEPT[0], kept]
         return build(crate, words, "rattle", f"out/{crate.name}{rt.BACKENDS['rattle']}")
 
 
 def prove_tests(crate, jobs):
     """Proves the crate's tests, over what its own proof kept, and builds them by LLVM."""
-    words = [*crate.words(["--jobs", str(jobs)], tests=True, keeps=False), *KEPT]
-    return build(crate, words, "llvm", f"out/{crate.name}_tests")
+    with copy_of_kept(crate) as kept:
+        words = [*crate.words(["--jobs", str(jobs)], tests=True, keeps=False), KEPT[0], kept]
+        return build(crate, words, "llvm", f"out/{crate.name}_tests")
 
 
 def build(crate, words, backend, to):
