@@ -79,7 +79,7 @@ def minutes_of(crates):
 
 class Lanes:
     """Runs tasks side by side, one a processor, as many as memory holds; those first that the longest chain of others waits for. The
-    first of all gets a second processor, and where others don't need them, more."""
+    first of all has two jobs, and where others leave processors idle, more."""
 
     def __init__(self, tasks, logs, tell):
         self.tasks = {it.key: it for it in tasks}
@@ -119,11 +119,11 @@ class Lanes:
         return done
 
     def jobs_for(self, task, idle, ready):
-        """How many processors the task may use: the first of all tasks that are left gets at least two."""
+        """How many processors the task may use. The first of all tasks that are left gets two, whatever else runs: all others end before it."""
         if task.kind not in SHARED:
             return 1
         is_first = self.behind[task.key] >= max(self.behind[it] for it in self.tasks if it not in self.given)
-        return max(1, min(MOST_JOBS, idle, max(2 if is_first else 1, idle // ready)))
+        return max(2 if is_first else 1, min(MOST_JOBS, idle // ready))
 
     def memory_for(self, task, jobs):
         return kit.rt.need(task.crate) * (1 + MEMORY_A_JOB * (jobs - 1))
