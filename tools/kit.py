@@ -87,10 +87,11 @@ def copy_of_kept(crate):
 
 
 def build_again(crate):
-    """Builds a proved program by Rattle's own compiler, over what its proof kept."""
+    """Builds a proved program by Rattle's own compiler, over what its proof kept. Its first build was judged; this one says more behind it."""
+    to = f"out/{crate.name}{rt.BACKENDS['rattle']}"
     with copy_of_kept(crate) as kept:
-        words = [*crate.words(ONE_JOB, keeps=False), KEPT[0], kept]
-        return build(crate, words, "rattle", f"out/{crate.name}{rt.BACKENDS['rattle']}")
+        words = [*crate.words(ONE_JOB, keeps=False), KEPT[0], kept, "--toolchain", f"{rtlib.KIT}/toolchain", "--backend", "rattle"]
+        return crate.call(rtlib.RATTLE, "build", *words, "-o", f"{to}.o") or crate.link(f"{to}.o", to)
 
 
 def prove_tests(crate, jobs):
@@ -106,19 +107,43 @@ def build(crate, words, backend, to):
     return crate.prove(["build", *words, *toolchain, "-o", f"{to}.o"]) or crate.link(f"{to}.o", to)
 
 
-def text_fault(crate, every):
-    """Why the crate's text is refused before any proof, if it is, by the rules of `rt ci`."""
+def refusal_of(call):
+    """What the kit says where it stops the program in a call, or None."""
     said = io.StringIO()
     stderr, sys.stderr = sys.stderr, said
     try:
+        call()
+    except SystemExit:
+        return said.getvalue().strip() or "it is refused"
+    finally:
+        sys.stderr = stderr
+    return None
+
+
+def stray_fault(every):
+    """Why a file outside the crates is refused, if one is: a source that no check reads."""
+    for name in sorted(os.listdir(ROOT)):
+        if os.path.isdir(f"{ROOT}/{name}") and name != ".git":
+            why = refusal_of(lambda at=f"{ROOT}/{name}": rtlib.stop_on_unread(at, every))
+            if why:
+                return why
+        elif name.endswith((".rt", ".antt")):
+            return f"no check reads {name}"
+    return None
+
+
+def text_fault(crate, every):
+    """Why the crate's text is refused before any proof, if it is, by the rules of `rt ci`."""
+
+    def looked():
         rtlib.stop_on_links(crate.folder)
         rtlib.stop_on_unread(crate.folder, every)
         rtlib.stop_on_text(crate, "verdict")
         rt.stop_on_words(crate)
-    except SystemExit:
-        return said.getvalue().strip()
-    finally:
-        sys.stderr = stderr
+
+    why = refusal_of(looked)
+    if why:
+        return why
     code = rtlib.code_of(crate.folder)
     beyond = [it for it, words in rt.REACHES.items() if it not in crate.allowed and re.search(words, code)]
     if beyond:

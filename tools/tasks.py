@@ -1,4 +1,6 @@
 """Commands that run beside each other: each in a process of its own, whose time of the processor is told."""
+from __future__ import annotations
+
 import os
 import re
 import subprocess
