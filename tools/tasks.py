@@ -15,8 +15,8 @@ import kit
 # The kinds of tasks that may use several processors.
 SHARED = ("proof", "tests")
 MOST_JOBS = 4
-# What each processor more takes of the memory that a check takes.
-MEMORY_A_JOB = 0.6
+# What a check was seen to take at most of the memory that the kit counts for it, and what each job more takes of that.
+MEMORY, MEMORY_A_JOB = 0.65, 0.6
 
 
 @dataclass
@@ -128,7 +128,7 @@ class Lanes:
         return max(2 if is_first else 1, min(MOST_JOBS, idle // ready))
 
     def memory_for(self, task, jobs):
-        return kit.rt.need(task.crate) * (1 + MEMORY_A_JOB * (jobs - 1))
+        return kit.rt.need(task.crate) * MEMORY * (1 + MEMORY_A_JOB * (jobs - 1))
 
     def start(self, pool, left):
         """Starts what can be started now."""
