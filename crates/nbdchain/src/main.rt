@@ -26,10 +26,6 @@ use command::refused;
 pub use simulator::{Refusal, sim_on};
 
 #[cfg(test)]
-mod beside;
-#[cfg(test)]
-mod beside_tests;
-#[cfg(test)]
 mod disk_tests;
 #[cfg(test)]
 mod serving_tests;

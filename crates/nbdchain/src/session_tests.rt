@@ -1,12 +1,14 @@
 //! Requests whose clients leave within them.
-use crate::beside::Disks;
 use crate::tests::same_at;
+use disk_model::MemDisk;
 use flush_barrier::SessionId;
 use life::{Act, Answer, Step};
+use local_store::Store;
 use simulator::NEGOTIATION;
 use std::alloc::Global;
 use std::process::Abort;
 use volume::{Geometry, least_area};
+use world::World;
 
 /// A WRITE with FUA of `ABC` at 4,095, with cookie 1.
 const FIRST_WRITE: [u8; 31] = [
@@ -38,7 +40,7 @@ fn session_of(rt: &impl Abort, alloc: Global, bytes: &[u8]) -> Vec<Step> {
 }
 
 /// Plays steps: what became of the last but one, and of the last.
-fn last_two(alloc: Global, world: &mut Disks, steps: &[Step]) -> (Answer, Answer) {
+fn last_two(alloc: Global, world: &mut World<Store<MemDisk>>, steps: &[Step]) -> (Answer, Answer) {
     let (mut last, mut before) = (Answer::Skipped, Answer::Skipped);
     for step in steps {
         before = last;
