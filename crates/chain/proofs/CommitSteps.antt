@@ -1,9 +1,8 @@
 -- A member commits, its store works, or it stops: what is shown of the chain then, and what happened in it.
-use Rattle.std.proofs.Common.{◌≡◌, ℕ, zero, suc, ◌+◌, ◌-◌, ◌<◌, ◌≤◌, false, List, [], ◌∷◌, ◌++◌, refl, ap, sym, subst, inl, inr, ◌∙◌, arith, ◌≢◌}
-use Rattle.std.specs.Prelude.{◌≢◌, ◌⊎◌, All, max, slice_index, IfErr, IfOk, Ok, Err, Option, Result, Some, None, fold, map, slice_get, slice_set, take}
+use Rattle.std.proofs.Common.{◌≡◌, ℕ, zero, suc, ◌+◌, ◌-◌, ◌≤◌, false, List, [], ◌∷◌, ◌++◌, refl, ap, sym, subst, inl, inr, ◌∙◌, arith, ◌≢◌}
+use Rattle.std.specs.Prelude.{◌≢◌, ◌⊎◌, All, max, slice_index, IfErr, IfNone, IfOk, IfSome, Ok, Err, Option, Result, Some, None, fold, map, slice_get, slice_set, take}
 use Rattle.std.specs.List.{AllZip, flat_map}
 use Rattle.std.proofs.Math.Nat.{le_refl}
-use Rattle.std.proofs.lemmas.Bool.{cases_lt}
 use Rattle.std.proofs.lemmas.List.Elements.{All-cons, All-head, All-nil, All-tail}
 use Rattle.disk_model.specs.Disk.{LeavesOnly}
 use Rattle.disk_model.specs.Error.{MayTell}
@@ -31,6 +30,7 @@ use Rattle.world_model.specs.Life.{BeginCommit, BoardTells, Stop}
 use Rattle.chain.specs.Chain.{Chained, Goes, IsFormed, Shows, bytes_of, gauges_from, told_of}
 use Rattle.chain.specs.Commits.{HasBegunCommits, HasCheckpointed, HasNoGroup, HasNoNumber, HasStoppedTold, HasTicked, LeavesAt, MeansOld, StopsAt, replies_of}
 use Rattle.chain.specs.LoneBoard.{Words, posted}
+use Rattle.chain.specs.Passing.{replies_in}
 use Rattle.chain.specs.Member.{HasCalled, IsLeft, IsShown, Linked, fronts_of, member_of, musters_of, receipts_of}
 use Rattle.chain.proofs.Cells.{place_of, set_there, twin_of}
 use Rattle.chain.proofs.Orderly.{device_is_one, memory_is_one, told_is_one}
@@ -437,6 +437,30 @@ pub seen_by : {T E : Type 0} {G : Type 0} (replies : T → List GivenReply) (res
 seen_by replies (Ok t) P Q events ok err put_out done refused = done t ok put_out
 seen_by replies (Err e) P Q events ok err put_out done refused = refused e err put_out
 
+-- the same of a call that may do nothing
+pub by_some : {T E : Type 0} {G : Type 0} (result : Result (Option T) E) (P : T → Type 0) (N : Type 0) (Q : E → Type 0) → IfOk result (λ o. IfSome o P) → IfOk result (λ o. IfNone o N) → IfErr result Q
+    → ((t : T) → P t → G) → (N → G) → ((e : E) → Q e → G) → G
+by_some (Ok None) P N Q some none err done idle refused = idle none
+by_some (Ok (Some t)) P N Q some none err done idle refused = done t some
+by_some (Err e) P N Q some none err done idle refused = refused e err
+
+pub seen_by_some : {T E : Type 0} {G : Type 0} (replies : T → List GivenReply) (result : Result (Option T) E) (P : T → Type 0) (N : Type 0) (Q : E → Type 0) (events : List ClientEvent)
+    → IfOk result (λ o. IfSome o P) → IfOk result (λ o. IfNone o N) → IfErr result Q → ArePutOut (replies_in replies result) events
+    → ((t : T) → P t → ArePutOut (replies t) events → G) → (N → ArePutOut [] events → G) → ((e : E) → Q e → ArePutOut [] events → G) → G
+seen_by_some replies (Ok None) P N Q events some none err put_out done idle refused = idle none put_out
+seen_by_some replies (Ok (Some t)) P N Q events some none err put_out done idle refused = done t some put_out
+seen_by_some replies (Err e) P N Q events some none err put_out done idle refused = refused e err put_out
+
+pub ok_some : {T E : Type 0} (result : Result (Option T) E) (P R : T → Type 0) → IfOk result (λ o. IfSome o P) → ((t : T) → P t → R t) → IfOk result (λ o. IfSome o R)
+ok_some (Ok None) P R some then = tt
+ok_some (Ok (Some t)) P R some then = then t some
+ok_some (Err e) P R some then = tt
+
+pub ok_none : {T E : Type 0} (result : Result (Option T) E) (N M : Type 0) → IfOk result (λ o. IfNone o N) → (N → M) → IfOk result (λ o. IfNone o M)
+ok_none (Ok None) N M none then = then none
+ok_none (Ok (Some t)) N M none then = tt
+ok_none (Err e) N M none then = tt
+
 -- ---- what each call leaves
 
 -- the device refused
@@ -482,42 +506,26 @@ store_alone about before after runs are tells =
 pub no_number_works : {S : Type 0} (about : S → About) (is_pending : S → ℕ → Type 0) (keeps : S → List ℕ → Type 0) (before after : Linked S) → HasNoNumber about is_pending keeps before after → Works about before after []
 no_number_works about is_pending keeps before after is = store_alone about before after is.runs is.are is.tells
 
--- it can be told whether a commit can begin
-can_begin : (commit : Option Commit) (durable known : ℕ) → ((commit ≡ None) × (durable < known)) ⊎ ¬ ((commit ≡ None) × (durable < known))
-can_begin None durable known = elim (cases_lt durable known) [
-  | inl below ↦ inl (refl, below)
-  | inr reached ↦ inr (λ can. omega (arith, can.1, reached))
-]
-can_begin (Some commit) durable known = inr (λ can. let none : Some commit ≡ None = can.0 in absurd (cc))
-
 module _ {S : Type 0} (premise : Type 0) (about : S → About) (failures : S → ℕ) (keeps : S → List ℕ → Type 0) (moment : S → ℕ) (left_since : S → ℕ → List ℕ → Type 0) (most : ℕ) (before after : Linked S) where
   module _ (replies : List GivenReply) (did : HasCalled (HasBegunCommits premise about failures keeps moment left_since most) replies before after) where
     pub begun_works : Works about before after replies
-    begun_works = elim (can_begin before.node.state.commit (durable_of before.node.state) before.node.state.known) [
-      | inr cannot ↦ let is = did.did.idle cannot in record {
+    begun_works = elim did.did.worked [
+      | inl is ↦ record {
         runs = did.runs;
         are = did.are;
-        disk = ap (λ s. disk_told (about s.store)) is.node;
-        outcome = inl (ap (λ s. s.state) is.node, sym did.told ∙ ap (λ (o : Out). o.replies) is.sent);
+        disk = ap disk_told is.only_read.tells;
+        outcome = inr (inl (Some is.commit, is.node, sym did.told ∙ ap (λ (o : Out). o.replies) is.sent));
       }
-      | inl can ↦ elim (did.did.worked can) [
+      | inr halted ↦ elim halted [
         | inl is ↦ record {
           runs = did.runs;
           are = did.are;
-          disk = ap disk_told is.only_read.tells;
-          outcome = inr (inl (Some is.commit, is.node, sym did.told ∙ ap (λ (o : Out). o.replies) is.sent));
+          disk = ap disk_told is.tells;
+          outcome = inr (inr (Memory, memory_is_one, is.node, sym did.told ∙ ap (λ (o : Out). o.replies) is.sent));
         }
-        | inr halted ↦ elim halted [
-          | inl is ↦ record {
-            runs = did.runs;
-            are = did.are;
-            disk = ap disk_told is.tells;
-            outcome = inr (inr (Memory, memory_is_one, is.node, sym did.told ∙ ap (λ (o : Out). o.replies) is.sent));
-          }
-          | inr is ↦
-              let left = stopped_by about failures (MayTell ReadFault) before.node after.node did.out replies did.told is in
-              record { runs = did.runs; are = did.are; disk = left.0; outcome = left.1 }
-        ]
+        | inr is ↦
+            let left = stopped_by about failures (MayTell ReadFault) before.node after.node did.out replies did.told is in
+            record { runs = did.runs; are = did.are; disk = left.0; outcome = left.1 }
       ]
     ]
 

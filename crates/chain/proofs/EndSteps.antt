@@ -13,9 +13,9 @@ use Rattle.gate_journal.specs.Receipt.{Receipt}
 use Rattle.local_store.specs.About.{About, meaning_with, one_commit_more}
 use Rattle.local_store.specs.Meaning.{Means}
 use Rattle.chain_core.specs.Commits.{HasEnded, HasRunOut, HasStoppedBy}
-use Rattle.chain_core.specs.Node.{IsStep, IsUnderWay}
+use Rattle.chain_core.specs.Node.{IsUnderWay}
 use Rattle.chain_steps.specs.Node.{Commit, NodeState, Out, durable_of}
-use Rattle.chain_steps.specs.Steps.{ended, silent, stop, volume_at}
+use Rattle.chain_steps.specs.Steps.{ended, stop, volume_at}
 use Rattle.chain_steps.specs.declared.cause.Cause.{Cause}
 use Rattle.chain_steps.specs.declared.cause.Cause.TheVariants.{Device, Disorder, Memory}
 use Rattle.world_model.specs.Backing.{Disk, IsBacked, IsOnDisk}
@@ -126,7 +126,7 @@ module _ {S : Type 0} (about : S → About) (keeps : S → List ℕ → Type 0) 
 
 module _ {S : Type 0} (premise : Type 0) (about : S → About) (is_pending : S → ℕ → Type 0) (failures : S → ℕ) (keeps : S → List ℕ → Type 0) (before after : Linked S) (replies : List GivenReply)
     (did : HasEndedCommit premise about is_pending failures keeps replies before after) where
-  -- none is, or the member stopped
+  -- the member stopped
   pub record HasNoEnd : Type 0 where
     pub works : Works about before after replies
     pub kept : (volume : List ℕ) → keeps before.node.store volume → after.node.state.stopped ≡ None → keeps after.node.store volume
@@ -148,25 +148,17 @@ module _ {S : Type 0} (premise : Type 0) (about : S → About) (is_pending : S �
   }
 
   end_of : (commit : Option Commit) (given : Option Receipt) → before.node.state.commit ≡ commit → after ≡ record before { node = after.node; receipt = kept_of given before.receipt }
-      → IfNone commit (IsStep before.node after.node did.out (silent before.node.state) × (given ≡ None))
+      → (commit ≡ None → ⊥)
       → IfSome commit (λ x. IfSome given (HasEnded about before.node after.node did.out x))
       → IfSome commit (λ x. IfNone given (HasRunOut about before.node after.node did.out ⊎ HasStoppedBy about failures (λ error. error ≢ ReadFault) before.node after.node did.out))
       → (premise → (volume : List ℕ) → keeps before.node.store volume → IfSome given (λ receipt. keeps after.node.store (volume_at volume before.node.state receipt.front)))
       → HasNoEnd ⊎ HasAnEnd
-  end_of None given was are idle ends halted kept = inl (record {
-    works = record {
-      runs = did.runs;
-      are = are ∙ ap (λ (r : Option Receipt). record before { node = after.node; receipt = kept_of r before.receipt }) idle.1;
-      disk = ap (λ n. disk_told (about n.store)) idle.0.node;
-      outcome = inl (ap (λ n. n.state) idle.0.node, sym did.told ∙ ap (λ (o : Out). o.replies) idle.0.sent);
-    };
-    kept = λ volume keep on. subst (λ s. keeps s volume) (sym (ap (λ n. n.store) idle.0.node)) keep;
-  })
-  end_of (Some commit) None was are idle ends halted kept = inl (elim halted [
+  end_of None given was are had ends halted kept = absurd (had refl)
+  end_of (Some commit) None was are had ends halted kept = inl (elim halted [
     | inl is ↦ halts Memory memory_is_one (ap disk_told is.tells) is.node (sym did.told ∙ ap (λ (o : Out). o.replies) is.sent) are
     | inr is ↦ halts (Device is.error) (device_is_one is.error) (ap disk_told is.broken) is.node (sym did.told ∙ ap (λ (o : Out). o.replies) is.sent) are
   ])
-  end_of (Some commit) (Some receipt) was are idle ends halted kept = inr (record {
+  end_of (Some commit) (Some receipt) was are had ends halted kept = inr (record {
     commit = commit;
     receipt = receipt;
     was = was;
@@ -176,7 +168,7 @@ module _ {S : Type 0} (premise : Type 0) (about : S → About) (is_pending : S �
   })
 
   pub end_came : HasNoEnd ⊎ HasAnEnd
-  end_came = end_of before.node.state.commit did.given refl did.are did.idle did.ended did.stopped did.kept
+  end_came = end_of before.node.state.commit did.given refl did.are did.had did.ended did.stopped did.kept
 
   module _ (old : Chained S) (at : ℕ) (here : slice_get old.members at ≡ Some before) where
     abbrev pub now : Chained S

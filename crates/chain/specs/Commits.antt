@@ -10,10 +10,10 @@ use Rattle.gate_journal.specs.declared.batch.TheConstants.{MAX_NUMBER}
 use Rattle.local_store.specs.About.{About, HasRoom, IsOneLess, meaning_with, one_checkpoint_more}
 use Rattle.local_store.specs.Meaning.{Means}
 use Rattle.chain_steps.specs.Node.{Out, is_stopped}
-use Rattle.chain_steps.specs.Steps.{Begins, CanBegin, IsGroup, silent, stop, volume_at}
+use Rattle.chain_steps.specs.Steps.{Begins, CanBegin, IsGroup, stop, volume_at}
 use Rattle.chain_steps.specs.declared.cause.Cause.TheVariants.{Told}
 use Rattle.chain_core.specs.Commits.{HasBegun, HasEnded, HasRunOut, HasStoppedBy, HasWorked}
-use Rattle.chain_core.specs.Node.{IsStep, Seen}
+use Rattle.chain_core.specs.Node.{Seen}
 use Rattle.chain_core.specs.Reads.{HasOnlyRead}
 use Rattle.world_model.specs.Chain.{Member}
 use Rattle.chain.specs.Chain.{Chained, bytes_of}
@@ -25,8 +25,9 @@ abbrev pub replies_of : {T E : Type 0} → (T → List GivenReply) → Result T 
 replies_of replies (Ok t) = replies t
 replies_of replies (Err e) = []
 
--- The member stopped since it was told to, with these replies.
+-- The member ran, and stopped since it was told to, with these replies.
 pub record HasStoppedTold {S : Type 0} (replies : List GivenReply) (old new : Linked S) : Type 0 where
+  pub runs : old.node.state.stopped ≡ None
   pub told : replies ≡ (stop Told old.node.state).out.replies
   pub are : new ≡ record old { node = record old.node { state = (stop Told old.node.state).node } }
 
@@ -66,13 +67,17 @@ pub record IsUsedUpAt {S : Type 0} (about : S → About) (at : ℕ) (old : Chain
 
 -- ---- a commit begins
 
--- A commit began, of the greatest group of at most so many writes; or it isn't the turn; or memory ran out or the disk refused, and
--- the member stopped.
+-- why a member that runs begins none: one is under way, or it knows of no write that isn't durable
+abbrev pub IsOutOfTurn : {S : Type 0} → Linked S → Type 0
+IsOutOfTurn m = ¬ CanBegin m.node.state
+
+-- It was the turn, and a commit began, of the greatest group of at most so many writes; or memory ran out or the disk refused, and the
+-- member stopped.
 pub record HasBegunCommits {S : Type 0} (premise : Type 0) (about : S → About) (failures : S → ℕ) (keeps : S → List ℕ → Type 0) (moment : S → ℕ) (left_since : S → ℕ → List ℕ → Type 0)
     (most : ℕ) (old new : Seen S) (out : Out) : Type 0 where
-  pub idle : ¬ CanBegin old.state → IsStep old new out (silent old.state)
-  pub begun : premise → (volume : List ℕ) → keeps old.store volume → CanBegin old.state → new.state.stopped ≡ None → Begins (HasRoom (about old.store)) volume most old.state new.state
-  pub worked : CanBegin old.state → HasBegun (HasOnlyRead premise about failures keeps moment left_since old.store new.store) old new out
+  pub can : CanBegin old.state
+  pub begun : premise → (volume : List ℕ) → keeps old.store volume → new.state.stopped ≡ None → Begins (HasRoom (about old.store)) volume most old.state new.state
+  pub worked : HasBegun (HasOnlyRead premise about failures keeps moment left_since old.store new.store) old new out
       ⊎ HasRunOut about old new out ⊎ HasStoppedBy about failures (MayTell ReadFault) old new out
   pub kept : premise → (volume : List ℕ) → keeps old.store volume → new.state.stopped ≡ None → keeps new.store volume
 
@@ -92,15 +97,18 @@ abbrev pub kept_of : Option Receipt → Option Receipt → Option Receipt
 kept_of None old = old
 kept_of (Some receipt) old = Some receipt
 
--- The commit under way ended, and the receipt is kept; or none was under way; or memory ran out or the disk refused, and the member
--- stopped.
+-- why a member that runs ends none: none is under way
+abbrev pub HasNoCommit : {S : Type 0} → Linked S → Type 0
+HasNoCommit m = m.node.state.commit ≡ None
+
+-- The commit under way ended, and the receipt is kept; or memory ran out or the disk refused, and the member stopped.
 pub record HasEndedCommit {S : Type 0} (premise : Type 0) (about : S → About) (is_pending : S → ℕ → Type 0) (failures : S → ℕ) (keeps : S → List ℕ → Type 0) (replies : List GivenReply) (old new : Linked S) : Type 0 where
   pub out : Out
   pub given : Option Receipt
   pub runs : old.node.state.stopped ≡ None
   pub told : out.replies ≡ replies
   pub are : new ≡ record old { node = new.node; receipt = kept_of given old.receipt }
-  pub idle : IfNone old.node.state.commit (IsStep old.node new.node out (silent old.node.state) × (given ≡ None))
+  pub had : HasNoCommit old → ⊥
   pub ended : IfSome old.node.state.commit (λ commit. IfSome given (HasEnded about old.node new.node out commit))
   pub stopped : IfSome old.node.state.commit (λ commit. IfNone given (HasRunOut about old.node new.node out ⊎ HasStoppedBy about failures (λ error. error ≢ ReadFault) old.node new.node out))
   pub pends : IfSome old.node.state.commit (λ commit. IfSome given (λ receipt. (b : ℕ) → is_pending new.node.store b ↔ (is_pending old.node.store b ⊎ Any (λ image. image.block ≡ b) commit.images)))

@@ -8,7 +8,9 @@ ghost use Rattle.local_store.specs.Meaning.{Means};
 ghost use Rattle.chain_core.specs.Node.{IsUnderWay};
 ghost use Rattle.chain_steps.specs.Node.{is_stopped};
 ghost use Rattle.chain.specs.Chain.{Changes, IsOfOneVolume, RestsAt};
-ghost use Rattle.chain.specs.Commits.{EndsAt, HasBegunCommits, HasCheckpointed, HasEndedCommit, HasNoGroup, HasNoNumber, HasNoReceipt, HasPosted, HasTicked, IsUsedUpAt, LeavesAt, MeansEither, PostsAt, PostsNone, replies_of};
+ghost use Rattle.chain.specs.Commits.{EndsAt, HasBegunCommits, HasCheckpointed, HasEndedCommit, HasNoCommit, HasNoGroup, HasNoNumber, HasNoReceipt, HasPosted, HasTicked, IsOutOfTurn, IsUsedUpAt, LeavesAt, MeansEither, PostsAt, PostsNone, replies_of};
+ghost use Rattle.chain.specs.Musters.{LacksAt};
+ghost use Rattle.chain.specs.Passing.{replies_in};
 ghost use Rattle.chain.specs.Member.{HasCalled};
 
 use crate::chain::Chain;
@@ -58,10 +60,11 @@ impl<S: StoreLike + Drop> Member<S> {
     }
 
     /// Begins a commit of the greatest group of known writes, at most so many, for whose blocks the
-    /// journal area has room.
-    pub(crate) fn begin_commits(&mut self, most: u64) -> Result<Vec<Served>, Refusal>
+    /// journal area has room. `None` out of turn: nothing changed.
+    pub(crate) fn begin_commits(&mut self, most: u64) -> Result<Option<Vec<Served>>, Refusal>
         requires { 0 < most }
-        ensures done { IfOk result (λ replies. HasCalled (HasBegunCommits S.keeps_model S.about S.failures S.keeps S.moment S.may_have_left_since most) replies.items self.old self.new) }
+        ensures done { IfOk result (λ begun. IfSome begun (λ replies. HasCalled (HasBegunCommits S.keeps_model S.about S.failures S.keeps S.moment S.may_have_left_since most) replies.items self.old self.new)) }
+        ensures idle { IfOk result (λ begun. IfNone begun (IsOutOfTurn self.old × (self.new ≡ self.old))) }
         ensures any_moment { S.keeps_model → (volume : List ℕ) → S.keeps self.old.node.store volume
             → LeavesOnly S.moment S.may_have_left_since self.old.node.store self.new.node.store (Means (meaning_with (S.about self.old.node.store) volume)) }
         ensures refused { IfErr result (λ r. ((r ≡ Refusal.Full) × HasNoGroup S.keeps_model S.about S.failures S.keeps S.moment S.may_have_left_since most self.old self.new)
@@ -69,6 +72,9 @@ impl<S: StoreLike + Drop> Member<S> {
     {
         if self.node.stopped().is_some() {
             return Err(Refusal::Stopped);
+        }
+        if !self.node.can_begin() {
+            return Ok(None);
         }
         let out = match self.node.begin_commits(most) {
             Ok(out) => out,
@@ -78,20 +84,23 @@ impl<S: StoreLike + Drop> Member<S> {
             messages: _,
             replies,
         } = out;
-        Ok(replies)
+        Ok(Some(replies))
     }
 
     /// Ends the commit under way, and keeps its receipt: an older one that wasn't posted is gone.
-    /// `None` once stopped.
+    /// `None` where none is under way, or once stopped: nothing changed.
     pub(crate) fn end_commit(&mut self) -> Option<Vec<Served>>
         ensures done { IfSome result (λ replies. HasEndedCommit S.keeps_model S.about S.is_pending S.failures S.keeps replies.items self.old self.new) }
         ensures any_moment { S.keeps_model → (volume : List ℕ) → S.keeps self.old.node.store volume
             → LeavesOnly S.moment S.may_have_left_since self.old.node.store self.new.node.store (MeansEither S.about self.old volume) }
-        ensures stopped { IfNone result ((is_stopped self.old.node.state ≡ true) × (self.new ≡ self.old)) }
+        ensures idle { IfNone result (((is_stopped self.old.node.state ≡ true) ⊎ HasNoCommit self.old) × (self.new ≡ self.old)) }
         ensures under_way { ForSome self.old.node.state.commit (IsUnderWay (S.about self.old.node.store) self.old.node.state) }
     {
         self.node.sound();
         if self.node.stopped().is_some() {
+            return None;
+        }
+        if !self.node.has_commit() {
             return None;
         }
         let (out, given) = self.node.end_commit();
@@ -161,34 +170,33 @@ impl<S: StoreLike + Drop> Chain<S> {
     }
 
     /// The member at a place begins a commit of the greatest group of known writes, at most so
-    /// many, at least one, for whose blocks its journal area has room. Out of turn nothing changes.
-    /// Where memory runs out or the disk refuses, it stops.
+    /// many, at least one, for whose blocks its journal area has room. `None` out of turn: nothing
+    /// changed. Where memory runs out or the disk refuses, it stops.
     ///
     /// 154 `Stopped` once stopped: nothing changed. Else 121 `Full` where it is the turn and no
     /// group fits: a checkpoint makes room.
-    pub fn begin_commits(&mut self, at: usize, most: u64) -> Result<Vec<Served>, Refusal>
+    pub fn begin_commits(&mut self, at: usize, most: u64) -> Result<Option<Vec<Served>>, Refusal>
         requires within { at < length self.old.members }
         requires most { 0 < most }
-        ensures done { IfOk result (λ replies. Changes at self.old self.new (HasCalled (HasBegunCommits S.keeps_model S.about S.failures S.keeps S.moment S.may_have_left_since most) replies.items)) }
+        ensures done { IfOk result (λ begun. IfSome begun (λ replies. Changes at self.old self.new (HasCalled (HasBegunCommits S.keeps_model S.about S.failures S.keeps S.moment S.may_have_left_since most) replies.items))) }
+        ensures idle { IfOk result (λ begun. IfNone begun (LacksAt at self.old self.new IsOutOfTurn)) }
         ensures refused { IfErr result (λ r. ((r ≡ Refusal.Full) × Changes at self.old self.new (HasNoGroup S.keeps_model S.about S.failures S.keeps S.moment S.may_have_left_since most))
             ⊎ ((r ≡ Refusal.Stopped) × RestsAt at self.old self.new)) }
 
         // A stop at any moment of the call leaves what the member was shown with.
         ensures any_moment { S.keeps_model → LeavesAt S.about S.keeps S.may_leave_now S.moment S.may_have_left_since at self.old self.new }
-        ensures one_volume { S.keeps_model → IsOfOneVolume S.about S.keeps S.may_leave_now self.old self.new (replies_of (λ r. r.items) result) }
+        ensures one_volume { S.keeps_model → IsOfOneVolume S.about S.keeps S.may_leave_now self.old self.new (replies_in (λ replies. replies.items) result) }
     {
         self.members[at].begin_commits(most)
     }
 
     /// The member at a place ends the commit under way, and keeps its receipt until it is posted: an
-    /// older one is gone. Where none is under way, nothing changes. Where memory runs out or the
-    /// disk refuses, it stops.
-    ///
-    /// `None` once stopped: nothing changed.
+    /// older one is gone. `None` where none is under way, or once it stopped: nothing changed. Where
+    /// memory runs out or the disk refuses, it stops.
     pub fn end_commit(&mut self, at: usize) -> Option<Vec<Served>>
         requires { at < length self.old.members }
         ensures ended { IfSome result (λ replies. Changes at self.old self.new (HasEndedCommit S.keeps_model S.about S.is_pending S.failures S.keeps replies.items)) }
-        ensures stopped { IfNone result (RestsAt at self.old self.new) }
+        ensures idle { IfNone result (RestsAt at self.old self.new ⊎ LacksAt at self.old self.new HasNoCommit) }
 
         // A stop at any moment of the call leaves what the member was shown with, or what the commit makes of it.
         ensures any_moment { S.keeps_model → EndsAt S.about S.keeps S.may_leave_now S.moment S.may_have_left_since at self.old self.new }

@@ -3,14 +3,12 @@ ghost use Rattle.std.specs.Prelude.{◌≡◌, ◌≢◌, ◌⊎◌, ◌<◌, �
 ghost use Rattle.disk_model.specs.Disk.{LeavesOnly};
 ghost use Rattle.local_store.specs.About.{meaning_with};
 ghost use Rattle.local_store.specs.Meaning.{Means};
-ghost use Rattle.chain_core.specs.Reads.{HasBrokenOff, HasOnlyRead, IsStepOver, IsStepTo};
-ghost use Rattle.chain_steps.specs.Steps.{answer_front, stop};
-ghost use Rattle.chain.specs.Member.{HasCalled};
 ghost use Rattle.chain_steps.specs.Node.{durable_of, is_stopped, last_of};
 ghost use Rattle.board.specs.Seats.{FoundFront};
 ghost use Rattle.chain.specs.Chain.{Changes, IsOfOneVolume, RestsAt};
 ghost use Rattle.chain.specs.Commits.{LeavesAt};
-ghost use Rattle.chain.specs.Fronts.{HasKnown, HasLooked, HasRaised, IsNoTail, RaisesAt};
+ghost use Rattle.chain.specs.Fronts.{HasAnswered, HasKnown, HasLooked, HasNoLooked, HasNoRaised, HasRaised, IsNoTail, RaisesAt};
+ghost use Rattle.chain.specs.Musters.{LacksAt};
 ghost use Rattle.chain.specs.LoneBoard.{raised};
 
 use crate::chain::Chain;
@@ -50,14 +48,11 @@ impl<S: StoreLike + Drop> Member<S> {
         true
     }
 
-    /// Goes on with the front that it looked up. Where none is kept, nothing changes; nor once stopped. Where memory runs out, or the
-    /// device refuses a read, it stops.
+    /// Goes on with the front that it looked up. `None` where none is kept, or once stopped: nothing changed. Where memory runs out, or
+    /// the device refuses a read, it stops.
     pub(crate) fn answer_front(&mut self) -> Option<Vec<Served>>
-        ensures answered { IfSome result (λ replies. HasCalled (λ old new out. (HasOnlyRead S.keeps_model S.about S.failures S.keeps S.moment S.may_have_left_since old.store new.store
-            × (IsStepOver S.keeps_model (S.keeps old.store) new.state out (λ volume. answer_front volume old.state)
-            ⊎ IsStepTo new.state out (stop Cause.Memory old.state)))
-            ⊎ HasBrokenOff S.about S.failures old new out) replies.items self.old self.new) }
-        ensures stopped { IfNone result ((is_stopped self.old.node.state ≡ true) × (self.new ≡ self.old)) }
+        ensures answered { IfSome result (λ replies. HasAnswered S.keeps_model S.about S.failures S.keeps S.moment S.may_have_left_since replies.items self.old self.new) }
+        ensures idle { IfNone result (((is_stopped self.old.node.state ≡ true) ⊎ HasNoLooked self.old) × (self.new ≡ self.old)) }
         ensures front { IfSome result (λ replies. (S.about self.old.node.store).front ≡ durable_of self.old.node.state) }
         ensures any_moment { S.keeps_model → (volume : List ℕ) → S.keeps self.old.node.store volume
             → IfSome result (λ replies. LeavesOnly S.moment S.may_have_left_since self.old.node.store self.new.node.store (Means (meaning_with (S.about self.old.node.store) volume))) }
@@ -65,18 +60,24 @@ impl<S: StoreLike + Drop> Member<S> {
         if self.node.stopped().is_some() {
             return None;
         }
+        if self.node.looked_front().is_none() {
+            return None;
+        }
         self.node.sound();
         Some(self.node.answer_front().replies)
     }
 
     /// Takes the front that it raised as its known commit: its plain writes up to it are answered, and the one before it is told.
-    /// Where none is kept, nothing changes; nor once stopped. Where memory runs out, it stops.
+    /// `None` where none is kept, or once stopped: nothing changed. Where memory runs out, it stops.
     pub(crate) fn raised(&mut self) -> Option<Vec<Served>>
         ensures known { IfSome result (λ replies. HasKnown replies.items self.old self.new) }
         ensures above { IfSome result (λ replies. (front : FoundFront) → self.old.node.state.found ≡ Some (Found.Raised front) → self.old.node.state.known ≤ front.number) }
-        ensures stopped { IfNone result ((is_stopped self.old.node.state ≡ true) × (self.new ≡ self.old)) }
+        ensures idle { IfNone result (((is_stopped self.old.node.state ≡ true) ⊎ HasNoRaised self.old) × (self.new ≡ self.old)) }
     {
         if self.node.stopped().is_some() {
+            return None;
+        }
+        if self.node.raised_front().is_none() {
             return None;
         }
         self.node.sound();
@@ -119,15 +120,12 @@ impl<S: StoreLike + Drop> Chain<S> {
         self.members[at].raise(&mut self.board)
     }
 
-    /// The member at a place goes on with the front that it looked up. Where it keeps none, nothing changes; nor once it stopped.
+    /// The member at a place goes on with the front that it looked up. `None` where it keeps none, or once it stopped: nothing changed.
     /// Where memory runs out, or its device refuses a read, it stops.
     pub fn answer_front(&mut self, at: usize) -> Option<Vec<Served>>
         requires { at < length self.old.members }
-        ensures answered { IfSome result (λ replies. Changes at self.old self.new (HasCalled (λ old new out. (HasOnlyRead S.keeps_model S.about S.failures S.keeps S.moment S.may_have_left_since old.store new.store
-            × (IsStepOver S.keeps_model (S.keeps old.store) new.state out (λ volume. answer_front volume old.state)
-            ⊎ IsStepTo new.state out (stop Cause.Memory old.state)))
-            ⊎ HasBrokenOff S.about S.failures old new out) replies.items)) }
-        ensures stopped { IfNone result (RestsAt at self.old self.new) }
+        ensures answered { IfSome result (λ replies. Changes at self.old self.new (HasAnswered S.keeps_model S.about S.failures S.keeps S.moment S.may_have_left_since replies.items)) }
+        ensures idle { IfNone result (RestsAt at self.old self.new ⊎ LacksAt at self.old self.new HasNoLooked) }
 
         // A stop at any moment of the call leaves what the member was shown with.
         ensures any_moment { S.keeps_model → LeavesAt S.about S.keeps S.may_leave_now S.moment S.may_have_left_since at self.old self.new }
@@ -137,11 +135,11 @@ impl<S: StoreLike + Drop> Chain<S> {
     }
 
     /// The member at a place takes the front that it raised as its known commit: its plain writes up to it are answered, and the one
-    /// before it is told. Where it keeps none, nothing changes; nor once it stopped. Where memory runs out, it stops.
+    /// before it is told. `None` where it keeps none, or once it stopped: nothing changed. Where memory runs out, it stops.
     pub fn raised(&mut self, at: usize) -> Option<Vec<Served>>
         requires { at < length self.old.members }
         ensures known { IfSome result (λ replies. Changes at self.old self.new (HasKnown replies.items)) }
-        ensures stopped { IfNone result (RestsAt at self.old self.new) }
+        ensures idle { IfNone result (RestsAt at self.old self.new ⊎ LacksAt at self.old self.new HasNoRaised) }
         ensures one_volume { S.keeps_model → IfSome result (λ replies. IsOfOneVolume S.about S.keeps S.may_leave_now self.old self.new replies.items) }
     {
         self.members[at].raised()

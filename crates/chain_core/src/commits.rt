@@ -1,5 +1,5 @@
 //! Commits, and what the store does beside them.
-ghost use Rattle.std.specs.Prelude.{◌≡◌, ◌≢◌, ◌⊎◌, ◌↔◌, ℕ, ◌<◌, ◌≤◌, List, Any, None, true, IfErr, IfNone, IfOk, IfSome, IsErrOf, IsSomeAnd, OnErr, OnOk};
+ghost use Rattle.std.specs.Prelude.{◌≡◌, ◌≢◌, ◌⊎◌, ◌↔◌, ℕ, ◌<◌, ◌≤◌, List, Any, None, true, IfErr, IfNone, IfOk, IfSome, IsErrOf, IsSomeAnd, IsTrue, OnErr, OnOk, is_some};
 ghost use Rattle.disk_model.specs.Disk.{LeavesOnly};
 ghost use Rattle.disk_model.specs.declared.error.DiskError.TheVariants.{ReadFault, WriteFault};
 ghost use Rattle.disk_model.specs.Error.{MayTell};
@@ -56,6 +56,20 @@ impl<S: StoreLike + Drop> Node<S> {
                 (self.stop_by(cause), None)
             }
         }
+    }
+
+    /// Whether a commit is under way.
+    pub fn has_commit(&self) -> bool
+        ensures { result ≡ is_some self.now.state.commit }
+    {
+        self.commit.is_some()
+    }
+
+    /// Whether it is the turn of a commit: none is under way, and there is a known write that isn't durable.
+    pub fn can_begin(&self) -> bool
+        ensures { IsTrue result ↔ CanBegin self.now.state }
+    {
+        self.commit.is_none() && self.table.forgotten() < self.known
     }
 
     /// Begins a commit of the greatest group of known writes, at most so many, at least one, for whose blocks the journal area has

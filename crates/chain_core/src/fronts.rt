@@ -63,7 +63,7 @@ impl<S: StoreLike + Drop> Node<S> {
     }
 
     /// The front that was raised and is kept, if there is one.
-    fn raised_front(&self) -> Option<u64>
+    pub fn raised_front(&self) -> Option<u64>
         ensures front { result ≡ raised_front self.now.state.found }
         ensures above { IfSome result (λ front. self.now.state.known ≤ front) }
     {

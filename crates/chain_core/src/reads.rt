@@ -187,7 +187,7 @@ impl<S: StoreLike + Drop> Node<S> {
     }
 
     /// The front that was looked up and is kept, if there is one.
-    fn looked_front(&self) -> Option<u64>
+    pub fn looked_front(&self) -> Option<u64>
         ensures { result ≡ looked_front self.now.state.found }
     {
         let Some(found) = &self.found else {

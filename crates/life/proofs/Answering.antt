@@ -1,19 +1,22 @@
 -- What a call of a world is, is what its answer says: lemmas.
 use Rattle.std.proofs.Common.{◌≡◌, ℕ, ◌<◌, ◌≤◌, arith, Bool, true, false, cond, List, [], length, refl, ap, inl, sym, subst, ◌∙◌}
-use Rattle.std.specs.Prelude.{None, Option, Some, Result, Ok, Err, ◌==◌}
+use Rattle.std.specs.Prelude.{IfNone, IfOk, IfSome, None, Option, Some, Result, Ok, Err, ◌==◌}
 use Rattle.std.proofs.Math.Nat.{le_refl}
 use Rattle.chain_core.specs.declared.refusal.Refusal.{Refusal}
 use Rattle.clients.specs.Clients.{no_one, of_session}
+use Rattle.chain.specs.Chain.{Chained}
+use Rattle.flush_barrier.specs.Reply.{GivenReply}
 use Rattle.flush_barrier.specs.declared.session_id.SessionId.{SessionId}
 use Rattle.local_store.specs.About.{About}
 use Rattle.clients.specs.declared.output.Output.{Output}
 use Rattle.world.specs.Reception.{fed_in, given_to}
-use Rattle.world.specs.Telling.{handed_by, handed_if, handed_in, handed_some, outputs_of}
+use Rattle.world.specs.Telling.{Answers, Moves, handed_by, handed_if, handed_in, handed_some, outputs_of}
 use Rattle.world.specs.World.{IsOfOneVolume, Seen}
 use Rattle.world.specs.declared.told.Told.{Told}
 use Rattle.world.proofs.Sending.{none_asked}
 use Rattle.world.proofs.Going.{goes_nowhere}
 use Rattle.world.proofs.GoingOn.{go_on_as, go_on_still}
+use Rattle.life.specs.Calls.{AnswersOr}
 use Rattle.life.specs.Played.{fed_to, handed_of, told_in, tried_in, went_in}
 use Rattle.life.specs.declared.answer.Answer.{Answer}
 use Rattle.life.specs.declared.answer.Answer.TheVariants.{Taken, HandedOut, Refused, Skipped}
@@ -39,6 +42,12 @@ silent_none answer silent = let (told, taken, none) = silent_told answer silent 
 pub done_none : (taken : Bool) (answer : Answer) → TellsDone taken answer → handed_of answer ≡ no_one
 done_none true answer is = silent_none answer is
 done_none false answer is = ap handed_of is
+
+-- a commit began, or it wasn't the turn of one
+pub begun_or : {S E : Type 0} (old new : Seen S) (Did : List GivenReply → Chained S → Chained S → Type 0) (Idle : Chained S → Chained S → Type 0) (given : Result (Option Told) E)
+    → IfOk given (λ begun. IfSome begun (λ told. Answers told old new Did)) → IfOk given (λ begun. IfNone begun (Moves old new Idle)) → IfOk given (λ begun. AnswersOr begun old new Did Idle)
+begun_or old new Did Idle (Ok begun) did idle = record { did = did; idle = idle }
+begun_or old new Did Idle (Err e) did idle = tt
 
 module _ {S : Type 0} (about : S → About) (keeps : S → List ℕ → Type 0) (may_leave_now : S → List ℕ → Type 0) (old new : Seen S) (fed : SessionId → List ℕ) (answer : Answer) where
   abbrev IsSo : (SessionId → List ℕ) → Type 0

@@ -1,6 +1,7 @@
 -- One era after another: lemmas.
-use Rattle.std.proofs.Common.{◌≡◌, ℕ, List, [], ◌∷◌, ◌++◌, length, refl, ap, sym, subst, ◌∙◌}
+use Rattle.std.proofs.Common.{◌≡◌, ℕ, List, [], ◌∷◌, ◌++◌, length, map, refl, ap, sym, subst, ◌∙◌}
 use Rattle.std.specs.Prelude.{◌*◌, All, Some, slice_get, zip}
+use Rattle.std.specs.List.{range_with_len}
 use Rattle.std.proofs.lemmas.Option.{get_or_from_slice_get}
 use Rattle.disk_model.specs.Memory.{given_of}
 use Rattle.disk_model.specs.declared.memory.MemDisk.{MemDisk}
@@ -19,7 +20,7 @@ use Rattle.chain.specs.Chain.{bytes_of}
 use Rattle.clients.specs.Clients.{AreSessions}
 use Rattle.clients.specs.Laws.{FirstHasNone, OutputsAreLawful}
 use Rattle.world.specs.World.{IsJoined, Seen}
-use Rattle.life.specs.Begun.{BeginsWith, IsCutFrom, export_of}
+use Rattle.life.specs.Begun.{BeginsWith, IsCutFrom, export_of, first_about, stores_of}
 use Rattle.life.specs.Headline.{EraLeads, ErasLead, HasWhatIsOwed, IsOneLife}
 use Rattle.life.specs.Lived.{AreOfOneVolume, IsFresh}
 use Rattle.life.specs.Plays.{DeedsLead, GoesOnFrom}
@@ -109,12 +110,12 @@ module _ {S : Type 0} (premise : Type 0) (about : S → About) (keeps : S → Li
     runs = begun.runs;
   }
 
-  pub one_life : (geometry : Geometry) (members : ℕ) (eras : List Era) (answers : List Answers) (first w : Seen S) (t : State) → length first.chain.members ≡ members
+  pub one_life : (geometry : Geometry) (members : ℕ) (eras : List Era) (answers : List Answers) (first w : Seen S) (t : State) → map about (stores_of first) ≡ map (first_about geometry) (range_with_len 0 members)
       → BeginsWith about keeps may_leave_now geometry 0 (volume_of (4096 * geometry.blocks) []) first → Lead (export_of geometry) eras answers first start w t → Fresh (export_of geometry) w t
       → IsOneLife premise about keeps is_pending may_leave_now moment left_since failures disk geometry members eras answers w
-  one_life geometry members eras answers first w t many begins leads fresh = record {
+  one_life geometry members eras answers first w t slots begins leads fresh = record {
     first = first;
-    many = many;
+    slots = slots;
     begins = begins;
     end = t;
     leads = leads;

@@ -17,7 +17,6 @@ use Rattle.chain_core.specs.Reads.{HasBrokenOff, HasOnlyRead}
 use Rattle.chain_core.specs.declared.refusal.Refusal.{Refusal}
 use Rattle.chain_core.specs.declared.refusal.Refusal.TheVariants as refusals
 use Rattle.chain_steps.specs.Node.{Commit, NodeState, Out, Stepped, durable_of}
-use Rattle.chain_steps.specs.Steps.{CanBegin, silent}
 use Rattle.chain_steps.specs.declared.message.Envelope.{Envelope}
 use Rattle.disk_model.specs.declared.error.DiskError.{DiskError}
 use Rattle.disk_model.specs.declared.error.DiskError.TheVariants.{ReadFault}
@@ -234,18 +233,18 @@ module _ {S : Type 0} (about : S → About) where
     front_answered m n out Is (inl (read, is)) = ap own read.tells
     front_answered m n out Is (inr broken) = ap own broken.failed.broken
 
-    ended : (commit : Option Commit) (given : Option Receipt) (old new : core.Seen S) (out : Out) → IfNone commit (IsStep old new out (silent old.state) × (given ≡ None))
+    ended : (commit : Option Commit) (given : Option Receipt) (old new : core.Seen S) (out : Out) → (commit ≡ None → ⊥)
         → IfSome commit (λ commit. IfSome given (HasEnded about old new out commit))
         → IfSome commit (λ commit. IfNone given (HasRunOut about old new out ⊎ HasStoppedBy about failures (λ error. error ≢ ReadFault) old new out))
         → own (about new.store) ≡ own (about old.store)
-    ended None given old new out idle did stopped = ap (λ n. own (about n.store)) idle.0.node
-    ended (Some commit) (Some receipt) old new out idle did stopped = ap own did.tells
-    ended (Some commit) None old new out idle did (inl by) = ap own by.tells
-    ended (Some commit) None old new out idle did (inr by) = ap own by.broken
+    ended None given old new out had did stopped = absurd (had refl)
+    ended (Some commit) (Some receipt) old new out had did stopped = ap own did.tells
+    ended (Some commit) None old new out had did (inl by) = ap own by.tells
+    ended (Some commit) None old new out had did (inr by) = ap own by.broken
 
     end_commit : (at : ℕ) (given : Option Told) (old new : Seen S) → EndsCommit premise about keeps is_pending may_leave_now moment left_since failures at given old new → StayOwn old.chain new.chain
-    end_commit at (Some told) old new is = stay_changed at old.chain new.chain _ is.ended.did (λ m n so. ended m.node.state.commit so.given m.node n.node so.out so.idle so.ended so.stopped)
-    end_commit at None old new is = rests at old.chain new.chain is.stopped.did
+    end_commit at given old new is = answers_or given old new _ _ is.ended
+        (λ replies did. stay_changed at old.chain new.chain _ did (λ m n so. ended m.node.state.commit so.given m.node n.node so.out so.had so.ended so.stopped)) (lacks at old.chain new.chain _)
 
     worked_or : (tells : About) (old new : core.Seen S) (out : Out) (failures : S → ℕ) (Tells : DiskError → Type 0) → own tells ≡ own (about old.store) → HasWorked about tells old new out ⊎ HasStoppedBy about failures Tells old new out
         → own (about new.store) ≡ own (about old.store)
@@ -269,22 +268,16 @@ module _ {S : Type 0} (about : S → About) where
       | inr (stopped, moves) ↦ rests at old.chain new.chain moves.did
     ]
 
-    can_begin : (node : NodeState) (commit : Option Commit) → node.commit ≡ commit → CanBegin node ⊎ (¬ CanBegin node)
-    can_begin node None is = elim (cases_lt (durable_of node) node.known) [ inl below ↦ inl (is, below) | inr above ↦ inr (λ can. absurd (omega (arith, can.1, above))) ]
-    can_begin node (Some commit) is = inr (λ can. let no : None ≡ Some commit = sym can.0 ∙ is in absurd (cc))
-
     begun : (most : ℕ) (old new : core.Seen S) (out : Out) → HasBegunCommits premise about failures keeps moment left_since most old new out → own (about new.store) ≡ own (about old.store)
-    begun most old new out is = elim (can_begin old.state old.state.commit refl) [
-      | inl can ↦ elim (is.worked can) [
-        | inl did ↦ ap own did.only_read.tells
-        | inr (inl by) ↦ ap own by.tells
-        | inr (inr by) ↦ ap own by.broken
-      ]
-      | inr not ↦ ap (λ n. own (about n.store)) (is.idle not).node
+    begun most old new out is = elim is.worked [
+      | inl did ↦ ap own did.only_read.tells
+      | inr (inl by) ↦ ap own by.tells
+      | inr (inr by) ↦ ap own by.broken
     ]
 
-    begin_commits : (at most : ℕ) (given : Result Told Refusal) (old new : Seen S) → BeginsCommits premise about keeps is_pending may_leave_now moment left_since failures at most given old new → StayOwn old.chain new.chain
-    begin_commits at most (Ok told) old new is = stay_changed at old.chain new.chain _ is.done.did (λ m n so. begun most m.node n.node so.out so.did)
+    begin_commits : (at most : ℕ) (given : Result (Option Told) Refusal) (old new : Seen S) → BeginsCommits premise about keeps is_pending may_leave_now moment left_since failures at most given old new → StayOwn old.chain new.chain
+    begin_commits at most (Ok given) old new is = answers_or given old new _ _ is.done
+        (λ replies did. stay_changed at old.chain new.chain _ did (λ m n so. begun most m.node n.node so.out so.did)) (λ lacks. stay_same old.chain new.chain lacks.same)
     begin_commits at most (Err refusal) old new is = elim is.refused [
       | inl (full, moves) ↦ stay_changed at old.chain new.chain _ moves.did (λ m n so. ap own so.only_read.tells)
       | inr (stopped, moves) ↦ rests at old.chain new.chain moves.did
@@ -305,10 +298,10 @@ module _ {S : Type 0} (about : S → About) where
     acts_stay acts.Ack at answer old new (given, tells, did) = comes_or _ _ _ given old new _ did (λ replies is. ack_stays at old.chain new.chain replies is)
     acts_stay acts.Look at answer old new (taken, tells, did) = moves_or taken old new _ _ did (λ is. stay_changed at old.chain new.chain _ is (λ m n so. ap own_of so.are)) (rests at old.chain new.chain)
     acts_stay acts.AnswerFront at answer old new (given, tells, did) =
-        answers_or given old new _ _ did.answered (λ replies is. stay_changed at old.chain new.chain _ is (λ m n so. front_answered m n so.out _ so.did)) (rests at old.chain new.chain)
+        answers_or given old new _ _ did.answered (λ replies is. stay_changed at old.chain new.chain _ is (λ m n so. front_answered m n so.did.out _ so.did.did)) (lacks at old.chain new.chain _)
     acts_stay acts.Raise at answer old new (taken, tells, did) = moves_or taken old new _ _ did (raises at old.chain new.chain) (no_tail at old.chain new.chain)
     acts_stay acts.Raised at answer old new (given, tells, did) =
-        answers_or given old new _ _ did (λ replies is. stay_changed at old.chain new.chain _ is (λ m n so. step_or_stop m.node n.node so.out _ so.did)) (rests at old.chain new.chain)
+        answers_or given old new _ _ did (λ replies is. stay_changed at old.chain new.chain _ is (λ m n so. step_or_stop m.node n.node so.out _ so.did)) (lacks at old.chain new.chain _)
     acts_stay acts.FindFront at answer old new (taken, tells, did) = moves_or taken old new _ _ did (λ is. stay_changed at old.chain new.chain _ is (λ m n so. ap own_of so.are)) (rests at old.chain new.chain)
     acts_stay acts.Crew at answer old new (taken, tells, did) = moves_or taken old new _ _ did (λ is. stay_changed at old.chain new.chain _ is (λ m n so. ap own_of so.are)) (lacks at old.chain new.chain _)
     acts_stay acts.Gauge at answer old new (taken, tells, did) = moves_or taken old new _ _ did (λ is. stay_changed at old.chain new.chain _ is (λ m n so. ap own_of so.are)) (lacks at old.chain new.chain _)
@@ -319,7 +312,7 @@ module _ {S : Type 0} (about : S → About) where
     acts_stay acts.Post at answer old new (taken, tells, did) = moves_or taken old new _ _ did (posts at old.chain new.chain) (λ is. stay_same old.chain new.chain is.same)
     acts_stay acts.Tick at answer old new (given, tells, did) = tick at given old new did
     acts_stay acts.Checkpoint at answer old new (given, tells, did) = checkpoint at given old new did
-    acts_stay acts.Stop at answer old new (told, tells, did) = stay_changed at old.chain new.chain _ did.did (λ m n so. ap own_of so.are)
+    acts_stay acts.Stop at answer old new (given, tells, did) = answers_or given old new _ _ did (λ replies is. stay_changed at old.chain new.chain _ is (λ m n so. ap own_of so.are)) (rests at old.chain new.chain)
 
     -- at a place that may be no member's
     at_place : (at : ℕ) (answer : Answer) (old new : Seen S) (Did : Type 0) → IsAtMember at answer old new Did → (Did → StayOwn old.chain new.chain) → StayOwn old.chain new.chain

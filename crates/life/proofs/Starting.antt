@@ -5,9 +5,11 @@ use Rattle.std.specs.List.{AllPairs, range_with_len}
 use Rattle.std.proofs.lemmas.List.{get_or-map, length-map}
 use Rattle.std.proofs.lemmas.List.Elements.{All-cons, All-head, All-nil, All-tail}
 use Rattle.std.proofs.lemmas.List.FromFn.{get_or-map-range_with_len, length-map-range_with_len}
+use Rattle.board.specs.Seats.{BoardId}
 use Rattle.chain.specs.Chain.{Chained}
 use Rattle.chain.specs.Chain as chain
 use Rattle.chain.specs.LoneBoard.{Words}
+use Rattle.chain.specs.Member.{Linked}
 use Rattle.chain.specs.Opening.{AreEven, beginning_of, recorded_in, words_of}
 use Rattle.clients.specs.Clients.{Sessions}
 use Rattle.configurations.specs.Record.{AreMembers, Record}
@@ -24,7 +26,7 @@ use Rattle.world.specs.World.{HasNoClients, Seen, Shows}
 use Rattle.world_model.specs.Chain.{View}
 use Rattle.world_model.specs.ChainLaws.{IsBeginning}
 use Rattle.world_model.specs.Machine.{State}
-use Rattle.life.specs.Begun.{AreOnDisks, BeginsWith, export_of, first_about}
+use Rattle.life.specs.Begun.{AreOnDisks, BeginsWith, export_of, first_about, stores_of}
 use Rattle.life.specs.Headline.{ErasLead}
 use Rattle.life.specs.Plays.{DeedsLead}
 use Rattle.life.specs.declared.answer.Answer.{Answer}
@@ -126,6 +128,15 @@ world_begins about keeps may_leave_now (x ∷ xs) told c w sizes words begins is
     }
 
 -- its members' disks are those of the stores
+-- the stores of a chain that begins are those that it was given
+stores_kept : {S : Type 0} (about : S → About) (id : BoardId) (told : Record) (stores : List S) → map (λ (m : Linked S). m.node.store) (map (beginning_of about id told) stores) ≡ stores
+stores_kept about id told [] = refl
+stores_kept about id told (x ∷ xs) = ap (λ l. x ∷ l) (stores_kept about id told xs)
+
+pub stores_begin : {S : Type 0} (about : S → About) (told : Record) (stores : List S) (c : Chained S) (w : Seen S) → c.members ≡ map (beginning_of about c.id told) stores → w.chain ≡ c → stores_of w ≡ stores
+stores_begin {S = S} about told stores c w members is =
+    ap (λ (h : Chained S). map (λ m. m.node.store) h.members) is ∙ ap (map (λ m. m.node.store)) members ∙ stores_kept about c.id told stores
+
 pub disks_begin : {S : Type 0} (about : S → About) (told : Record) (stores : List S) (c : Chained S) (w : Seen S) → c.members ≡ map (beginning_of about c.id told) stores → AreEven about stores
     → All (λ s. 0 < (about s).incarnation) stores → IfSome (slice_get stores 0) (λ first. c.geometry ≡ (about first).geometry) → w.chain ≡ c → AreOnDisks about w
 disks_begin {S = S} about told stores c w members even given sizes is =

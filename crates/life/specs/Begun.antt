@@ -1,5 +1,5 @@
 -- A world that begins, and what its disks are after a cut.
-use Rattle.std.specs.Prelude.{◌≡◌, ℕ, ◌*◌, ◌<◌, ◌≤◌, false, All, List, [], None, length}
+use Rattle.std.specs.Prelude.{◌≡◌, ℕ, ◌*◌, ◌<◌, ◌≤◌, false, All, List, [], None, length, map}
 use Rattle.disk_model.specs.Disk.{Only}
 use Rattle.disk_model.specs.Content.{left_by}
 use Rattle.disk_model.specs.Memory.{bytes_of, given_of, may_be_left, unsynced_of}
@@ -21,6 +21,10 @@ export_of geometry = record { size = 4096 * geometry.blocks; max_payload = geome
 -- what the store of a member tells whose disk was formatted
 abbrev pub first_about : Geometry → ℕ → About
 first_about geometry slot = record { slot = slot; incarnation = 1; geometry = geometry; front = 0; used = 0; stores = 1; broken = false }
+
+-- the stores of its members, from the head's on
+abbrev pub stores_of : {S : Type 0} → Seen S → List S
+stores_of w = map (λ m. m.node.store) w.chain.members
 
 -- every member runs
 abbrev pub AllRun : {S : Type 0} → Seen S → Type 0
@@ -46,6 +50,10 @@ pub record IsCutFrom {S : Type 0} (may_leave_now : S → List ℕ → Type 0) (o
 -- each member's disk is that of an incarnation, counted from 1, and has the sizes of the chain's volume
 abbrev pub AreOnDisks : {S : Type 0} → (S → About) → Seen S → Type 0
 AreOnDisks about w = All (λ m. (0 < (about m.node.store).incarnation) × ((about m.node.store).geometry ≡ w.chain.geometry)) w.chain.members
+
+-- each is the store of the member whose disk this means, of its slot and incarnation
+abbrev pub AreOfMember : {S : Type 0} → (S → About) → Meaning → List S → Type 0
+AreOfMember about meaning stores = All (λ s. ((about s).slot ≡ meaning.slot) × ((about s).incarnation ≡ meaning.incarnation)) stores
 
 -- The disk is some member's: it means something, of an incarnation counted from 1, and is as long as it has to be.
 pub record IsOfMember (disk : MemDisk) : Type 0 where

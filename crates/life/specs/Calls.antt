@@ -2,16 +2,13 @@
 use Rattle.std.specs.Prelude.{◌≡◌, ◌⊎◌, ◌↔◌, ℕ, ◌+◌, Bool, true, false, Option, None, Some, Result, IfErr, IfNone, IfOk, IfSome, IsErrOf, IsSome, OnErr, OnOk, List, [], slice_get}
 use Rattle.chain.specs.Arming.{HasArmed, HasNewScript, HasOldScript}
 use Rattle.chain.specs.Chain.{Chained, Changes, RestsAt}
-use Rattle.chain.specs.Commits.{EndsAt, HasBegunCommits, HasCheckpointed, HasEndedCommit, HasNoGroup, HasNoNumber, HasStoppedTold, HasTicked, IsUsedUpAt, LeavesAt, PostsAt, PostsNone}
-use Rattle.chain.specs.Fronts.{HasKnown, HasLooked, IsNoTail, RaisesAt}
+use Rattle.chain.specs.Commits.{EndsAt, HasBegunCommits, HasCheckpointed, HasEndedCommit, HasNoCommit, HasNoGroup, HasNoNumber, HasStoppedTold, HasTicked, IsOutOfTurn, IsUsedUpAt, LeavesAt, PostsAt, PostsNone}
+use Rattle.chain.specs.Fronts.{HasAnswered, HasKnown, HasLooked, HasNoLooked, HasNoRaised, IsNoTail, RaisesAt}
 use Rattle.chain.specs.Member.{HasCalled, Linked}
 use Rattle.chain.specs.Musters.{HasFound, HasGauged, HasMustered, HasNoFront, HasNoSlotLeft, HasNoWhole, HasSettled, LacksAt}
 use Rattle.chain.specs.Passing.{AckComes, HasNone, PutComes, Refuses, SubmitComes}
-use Rattle.chain_core.specs.Reads.{HasBrokenOff, HasOnlyRead, IsStepOver, IsStepTo}
 use Rattle.chain_core.specs.declared.refusal.Refusal.{Refusal}
 use Rattle.chain_core.specs.declared.refusal.Refusal.TheVariants as refusals
-use Rattle.chain_steps.specs.Steps.{answer_front, stop}
-use Rattle.chain_steps.specs.declared.cause.Cause.TheVariants as causes
 use Rattle.chain_steps.specs.declared.message.Envelope.{Envelope}
 use Rattle.clients.specs.Calls.{Begins, Ends, PutsOut}
 use Rattle.clients.specs.Clients.{HasClient, place_of}
@@ -117,15 +114,15 @@ pub record AnswersOr {S : Type 0} (given : Option Told) (old new : Seen S) (Did 
 
 -- the member went on with the front that it raised
 abbrev pub TakesRaised : {S : Type 0} → ℕ → Option Told → Seen S → Seen S → Type 0
-TakesRaised at given old new = AnswersOr given old new (λ replies old new. Changes at old new (HasKnown replies)) (RestsAt at)
+TakesRaised at given old new = AnswersOr given old new (λ replies old new. Changes at old new (HasKnown replies)) (λ old new. RestsAt at old new ⊎ LacksAt at old new HasNoRaised)
 
 -- the member answered what waits for a floor
 abbrev pub Settles : {S : Type 0} → ℕ → Option Told → Seen S → Seen S → Type 0
 Settles at given old new = AnswersOr given old new (λ replies old new. Changes at old new (HasSettled replies)) (λ old new. RestsAt at old new ⊎ LacksAt at old new HasNoWhole)
 
--- the member stopped
-abbrev pub Stops : {S : Type 0} → ℕ → Told → Seen S → Seen S → Type 0
-Stops at told old new = Answers told old new (λ replies old new. Changes at old new (HasStoppedTold replies))
+-- the member stopped; or it had, and its cause stays
+abbrev pub Stops : {S : Type 0} → ℕ → Option Told → Seen S → Seen S → Type 0
+Stops at given old new = AnswersOr given old new (λ replies old new. Changes at old new (HasStoppedTold replies)) (RestsAt at)
 
 -- ---- of stores
 
@@ -137,18 +134,14 @@ module _ {S : Type 0} (premise : Type 0) (about : S → About) (keeps : S → Li
     pub none : IfNone given ((slice_get old.queues at ≡ Some []) × (new ≡ old))
     pub any_moment : premise → IfSome given (λ told. LeavesAt about keeps may_leave_now moment left_since at old.chain new.chain)
 
-  -- The member went on with the front that it looked up; or it has stopped.
+  -- The member went on with the front that it looked up; or it keeps none, or has stopped.
   pub record AnswersFront (at : ℕ) (given : Option Told) (old new : Seen S) : Type 0 where
-    pub answered : AnswersOr given old new (λ replies old new. Changes at old new (HasCalled (λ old new out. (HasOnlyRead premise about failures keeps moment left_since old.store new.store
-        × (IsStepOver premise (keeps old.store) new.state out (λ volume. answer_front volume old.state)
-        ⊎ IsStepTo new.state out (stop causes.Memory old.state)))
-        ⊎ HasBrokenOff about failures old new out) replies)) (RestsAt at)
+    pub answered : AnswersOr given old new (λ replies old new. Changes at old new (HasAnswered premise about failures keeps moment left_since replies)) (λ old new. RestsAt at old new ⊎ LacksAt at old new HasNoLooked)
     pub any_moment : premise → LeavesAt about keeps may_leave_now moment left_since at old.chain new.chain
 
-  -- The member ended the commit under way; or it has stopped.
+  -- The member ended the commit under way; or none is, or it has stopped.
   pub record EndsCommit (at : ℕ) (given : Option Told) (old new : Seen S) : Type 0 where
-    pub ended : IfSome given (λ told. Answers told old new (λ replies old new. Changes at old new (HasEndedCommit premise about is_pending failures keeps replies)))
-    pub stopped : IfNone given (Moves old new (RestsAt at))
+    pub ended : AnswersOr given old new (λ replies old new. Changes at old new (HasEndedCommit premise about is_pending failures keeps replies)) (λ old new. RestsAt at old new ⊎ LacksAt at old new HasNoCommit)
     pub any_moment : premise → EndsAt about keeps may_leave_now moment left_since at old.chain new.chain
 
   -- The store wrote its next pending block home, whose number is given; or the member has stopped.
@@ -165,9 +158,9 @@ module _ {S : Type 0} (premise : Type 0) (about : S → About) (keeps : S → Li
         ⊎ ((r ≡ refusals.Stopped) × Moves old new (RestsAt at)))
     pub any_moment : premise → LeavesAt about keeps may_leave_now moment left_since at old.chain new.chain
 
-  -- The member began a commit of at most so many writes; or no group fits; or it has stopped.
-  pub record BeginsCommits (at most : ℕ) (given : Result Told Refusal) (old new : Seen S) : Type 0 where
-    pub done : IfOk given (λ told. Answers told old new (λ replies old new. Changes at old new (HasCalled (HasBegunCommits premise about failures keeps moment left_since most) replies)))
+  -- The member began a commit of at most so many writes; or it isn't the turn of one; or no group fits; or it has stopped.
+  pub record BeginsCommits (at most : ℕ) (given : Result (Option Told) Refusal) (old new : Seen S) : Type 0 where
+    pub done : IfOk given (λ begun. AnswersOr begun old new (λ replies old new. Changes at old new (HasCalled (HasBegunCommits premise about failures keeps moment left_since most) replies)) (λ old new. LacksAt at old new IsOutOfTurn))
     pub refused : IfErr given (λ r. ((r ≡ refusals.Full) × Moves old new (λ old new. Changes at old new (HasNoGroup premise about failures keeps moment left_since most)))
         ⊎ ((r ≡ refusals.Stopped) × Moves old new (RestsAt at)))
     pub any_moment : premise → LeavesAt about keeps may_leave_now moment left_since at old.chain new.chain

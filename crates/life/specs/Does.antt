@@ -121,7 +121,7 @@ module _ {S : Type 0} (premise : Type 0) (about : S → About) (keeps : S → Li
   -- It begins a commit of at most so many writes; of none at all it is skipped.
   pub record BeginsSome (at most : ℕ) (answer : Answer) (old new : Seen S) : Type 0 where
     pub none : most ≡ 0 → IsSkipped answer old new
-    pub some : 0 < most → HasGone answer (λ given. BeginsCommits premise about keeps is_pending may_leave_now moment left_since failures at most given old new)
+    pub some : 0 < most → IsTried answer (λ given. BeginsCommits premise about keeps is_pending may_leave_now moment left_since failures at most given old new)
 
   -- its store wrote a block home
   abbrev pub IsTicked : ℕ → Answer → Seen S → Seen S → Type 0
@@ -146,7 +146,7 @@ module _ {S : Type 0} (premise : Type 0) (about : S → About) (keeps : S → Li
   Acts acts.Post at answer old new = IsDone answer (λ taken. Posts at taken old new)
   Acts acts.Tick at answer old new = IsTicked at answer old new
   Acts acts.Checkpoint at answer old new = HasGone answer (λ given. Checkpoints premise about keeps is_pending may_leave_now moment left_since failures at given old new)
-  Acts acts.Stop at answer old new = (told : Told) × (answer ≡ Taken told) × Stops at told old new
+  Acts acts.Stop at answer old new = IsTold answer (λ given. Stops at given old new)
 
   -- what the step did
   abbrev pub Does : Step → Answer → Seen S → Seen S → Type 0

@@ -6,7 +6,7 @@
 -- (IsLawfulEra), which one run of the one volume's machine shows; then everything stops, each disk has what is owed whatever is left of
 -- it (HasWhatIsOwed), and the chain goes on from one of them, as the machine does, at its front (GoesOnFrom).
 use Rattle.std.specs.Prelude.{◌≡◌, ◌≢◌, ◌⊎◌, ℕ, ◌*◌, ◌≤◌, All, List, [], ◌∷◌, ◌++◌, length, map, take, zip}
-use Rattle.std.specs.List.{flat_map}
+use Rattle.std.specs.List.{flat_map, range_with_len}
 use Rattle.disk_model.specs.declared.memory.MemDisk.{MemDisk}
 use Rattle.flush_barrier.specs.declared.session_id.SessionId.{SessionId}
 use Rattle.local_store.specs.About.{About}
@@ -26,7 +26,7 @@ use Rattle.world_model.specs.Life.{all_events}
 use Rattle.world_model.specs.Machine.{May, Move, Restart, RunsOn, State, after, machine_volume, shown, start}
 use Rattle.world_model.specs.Refusing.{HasPlea}
 use Rattle.world.specs.World.{Seen, Shows, sent_in}
-use Rattle.life.specs.Begun.{BeginsWith, export_of}
+use Rattle.life.specs.Begun.{BeginsWith, export_of, first_about, stores_of}
 use Rattle.life.specs.Played.{fed_by, handed_by}
 use Rattle.life.specs.Plays.{DeedsLead, GoesOnFrom, causes_of}
 use Rattle.life.specs.declared.answer.Answer.{Answer}
@@ -125,7 +125,7 @@ module _ {S : Type 0} (premise : Type 0) (about : S → About) (keeps : S → Li
   -- world that stands for the machine's state.
   pub record IsOneLife (geometry : Geometry) (members : ℕ) (eras : List Era) (answers : List Answers) (new : Seen S) : Type 0 where
     pub first : Seen S
-    pub many : length first.chain.members ≡ members
+    pub slots : map about (stores_of first) ≡ map (first_about geometry) (range_with_len 0 members)
     pub begins : BeginsWith about keeps may_leave_now geometry 0 (volume_of (4096 * geometry.blocks) []) first
     pub end : State
     pub leads : ErasLead (export_of geometry) eras answers first start new end

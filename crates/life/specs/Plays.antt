@@ -11,7 +11,7 @@ use Rattle.disk_model.specs.declared.memory.MemDisk.{MemDisk}
 use Rattle.local_store.specs.About.{About}
 use Rattle.local_store.specs.Meaning.{Meaning, Means}
 use Rattle.world.specs.World.{Seen}
-use Rattle.life.specs.Begun.{BeginsWith, IsCutFrom}
+use Rattle.life.specs.Begun.{AreOfMember, BeginsWith, IsCutFrom, stores_of}
 use Rattle.life.specs.Does.{DoesDeed}
 use Rattle.life.specs.declared.answer.Answer.{Answer}
 use Rattle.life.specs.declared.era.Deed.{Deed}
@@ -49,4 +49,5 @@ pub record GoesOnFrom {S : Type 0} (about : S → About) (keeps : S → List ℕ
   pub means : Means meaning (given_of returns)
   pub sizes : meaning.geometry ≡ old.chain.geometry
   pub alone : length new.chain.members ≡ 1
+  pub member : AreOfMember about meaning (stores_of new)
   pub begins : BeginsWith about keeps may_leave_now meaning.geometry meaning.front meaning.volume new

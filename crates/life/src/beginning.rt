@@ -3,7 +3,7 @@ ghost use Rattle.std.specs.Prelude.{◌≡◌, ◌≢◌, ◌*◌, ◌<◌, ◌�
 ghost use Rattle.std.specs.List.{AllPairs, range_with_len};
 ghost use Rattle.chain.specs.Opening.{AreEven, recorded_in};
 ghost use Rattle.chain_core.specs.Node.{size_of};
-ghost use Rattle.life.specs.Begun.{AreOnDisks, BeginsWith, first_about};
+ghost use Rattle.life.specs.Begun.{AreOnDisks, BeginsWith, first_about, stores_of};
 ghost use Rattle.life.specs.Refusal.{IsOfMemory};
 ghost use Rattle.volume.specs.Writes.{volume_of};
 
@@ -35,6 +35,7 @@ pub fn begin(
     requires some { 0 < members }
     requires few { members ≤ 8 }
     ensures many { IfOk result (λ world. length world.chain.members ≡ members) }
+    ensures slots { IfOk result (λ world. map ⟦<Store<MemDisk> as StoreLike>⟧.about (stores_of world) ≡ map (first_about geometry) (range_with_len 0 members)) }
     ensures disks { IfOk result (λ world. AreOnDisks ⟦<Store<MemDisk> as StoreLike>⟧.about world) }
     ensures begins { IfOk result (BeginsWith ⟦<Store<MemDisk> as StoreLike>⟧.about ⟦<Store<MemDisk> as StoreLike>⟧.keeps ⟦<Store<MemDisk> as StoreLike>⟧.may_leave_now
         geometry 0 (volume_of (4096 * geometry.blocks) [])) }
@@ -91,6 +92,7 @@ pub(crate) fn world_of<S: StoreLike + Drop>(
     requires runs { All (λ s. (S.about s).broken ≡ false) stores.items }
     requires keeps { S.keeps_model → All (λ s. (volume : List ℕ) × S.keeps s volume × (length volume ≡ size_of (S.about s))) stores.items }
     ensures many { IfOk result (λ world. length world.chain.members ≡ length stores.items) }
+    ensures stores { IfOk result (λ world. stores_of world ≡ stores.items) }
     ensures disks { IfOk result (AreOnDisks S.about) }
     ensures begins { S.keeps_model → IfOk result (λ world. IfSome (slice_get stores.items 0) (λ first. (volume : List ℕ) → All (λ s. S.keeps s volume) stores.items
         → BeginsWith S.about S.keeps S.may_leave_now (S.about first).geometry (S.about first).front volume world)) }

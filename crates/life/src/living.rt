@@ -7,7 +7,7 @@ ghost use Rattle.flush_barrier.specs.declared.session_id.SessionId.{SessionId};
 ghost use Rattle.disk_model.specs.declared.memory.MemDisk.{MemDisk};
 ghost use Rattle.local_store.specs.Meaning.{Meaning, Means};
 ghost use Rattle.std.specs.List.{AllZip};
-ghost use Rattle.life.specs.Begun.{AreOnDisks, BeginsWith, IsOfMember};
+ghost use Rattle.life.specs.Begun.{AreOfMember, AreOnDisks, BeginsWith, IsOfMember, stores_of};
 ghost use Rattle.life.specs.Does.{DoesDeed, IsArmed};
 ghost use Rattle.life.specs.Headline.{EraLeads, IsOneLife};
 ghost use Rattle.life.specs.Lived.{AreOfOneVolume, IsFresh};
@@ -190,6 +190,7 @@ fn go_on(
     ensures alone { IfOk result (λ world. length world.chain.members ≡ 1) }
     ensures disks { IfOk result (λ world. AreOnDisks ⟦<Store<MemDisk> as StoreLike>⟧.about world) }
     ensures goes_on { IfOk result (λ world. (disk : MemDisk) × (slice_get disks.items at ≡ Some disk) × (meaning : Meaning) × Means meaning (given_of disk)
+        × AreOfMember ⟦<Store<MemDisk> as StoreLike>⟧.about meaning (stores_of world)
         × BeginsWith ⟦<Store<MemDisk> as StoreLike>⟧.about ⟦<Store<MemDisk> as StoreLike>⟧.keeps ⟦<Store<MemDisk> as StoreLike>⟧.may_leave_now
         meaning.geometry meaning.front meaning.volume world) }
     ensures refused { IfErr result (EndsAtReturn (length disks.items) at) }
@@ -209,6 +210,7 @@ fn go_on_from(alloc: Global, disk: MemDisk, cut: Cut) -> Result<World<Store<MemD
     ensures alone { IfOk result (λ world. length world.chain.members ≡ 1) }
     ensures disks { IfOk result (λ world. AreOnDisks ⟦<Store<MemDisk> as StoreLike>⟧.about world) }
     ensures goes_on { IfOk result (λ world. (meaning : Meaning) × Means meaning (given_of disk)
+        × AreOfMember ⟦<Store<MemDisk> as StoreLike>⟧.about meaning (stores_of world)
         × BeginsWith ⟦<Store<MemDisk> as StoreLike>⟧.about ⟦<Store<MemDisk> as StoreLike>⟧.keeps ⟦<Store<MemDisk> as StoreLike>⟧.may_leave_now
         meaning.geometry meaning.front meaning.volume world) }
     ensures refused { IfErr result IsOfMemory }

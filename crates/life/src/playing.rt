@@ -116,7 +116,7 @@ fn play_at<S: StoreLike + Drop>(alloc: Global, world: &mut World<S>, at: usize, 
         Act::Post => done(alloc, world.post(at)),
         Act::Tick => tick(world, at),
         Act::Checkpoint => went(world.checkpoint(at)),
-        Act::Stop => Answer::Taken(world.stop(at)),
+        Act::Stop => told(world.stop(at)),
     }
 }
 
@@ -129,7 +129,7 @@ fn begin_commits<S: StoreLike + Drop>(world: &mut World<S>, at: usize, most: u64
     if most == 0 {
         return Answer::Skipped;
     }
-    went(world.begin_commits(at, most))
+    tried(world.begin_commits(at, most))
 }
 
 /// Its store writes a block home.

@@ -1,8 +1,8 @@
 //! A chain of one goes on.
-ghost use Rattle.std.specs.Prelude.{◌≡◌, ◌<◌, ℕ, List, IfErr, IfOk, IfSome, None, false, length};
-ghost use Rattle.disk_model.specs.Disk.{NothingNew};
+ghost use Rattle.std.specs.Prelude.{◌≡◌, ◌<◌, ◌∷◌, [], ℕ, List, IfErr, IfOk, IfSome, None, false, length};
+ghost use Rattle.disk_model.specs.Disk.{NothingNew, Only};
 ghost use Rattle.disk_model.specs.Memory.{failures_of, given_of, may_be_left, most_failures_of};
-ghost use Rattle.life.specs.Begun.{AreOnDisks, BeginsWith, IsOfMember};
+ghost use Rattle.life.specs.Begun.{AreOfMember, AreOnDisks, BeginsWith, IsOfMember, stores_of};
 ghost use Rattle.life.specs.Refusal.{IsCausedBy, IsOfMemory, IsOfRecovering, IsOfReturning};
 ghost use Rattle.local_store.specs.Meaning.{Meaning, Means};
 
@@ -29,6 +29,7 @@ pub fn recover(alloc: Global, disk: MemDisk) -> Result<World<Store<MemDisk>>, Re
     ensures alone { IfOk result (λ world. length world.chain.members ≡ 1) }
     ensures disks { IfOk result (λ world. AreOnDisks ⟦<Store<MemDisk> as StoreLike>⟧.about world) }
     ensures goes_on { IfOk result (λ world. (meaning : Meaning) × Means meaning (given_of disk)
+        × AreOfMember ⟦<Store<MemDisk> as StoreLike>⟧.about meaning (stores_of world)
         × BeginsWith ⟦<Store<MemDisk> as StoreLike>⟧.about ⟦<Store<MemDisk> as StoreLike>⟧.keeps ⟦<Store<MemDisk> as StoreLike>⟧.may_leave_now
         meaning.geometry meaning.front meaning.volume world) }
     ensures refused { IfErr result (λ e. IsOfRecovering e.refusal) }
@@ -36,6 +37,8 @@ pub fn recover(alloc: Global, disk: MemDisk) -> Result<World<Store<MemDisk>>, Re
     ensures cause { IfErr result (λ e. IfSome e.disk (λ back. IsCausedBy (failures_of disk) (failures_of back) e.refusal)) }
     ensures calm { IfErr result (λ e. IsOfMember disk → failures_of disk ≡ most_failures_of disk → IsOfMemory e.refusal) }
     ensures back { IfErr result (λ e. IfSome e.disk (λ back. (given_of back ≡ given_of disk) × NothingNew (may_be_left disk) (may_be_left back))) }
+    // A recovery that was broken off can be cut, and done again: nothing else is left than was before it.
+    ensures again { IfErr result (λ e. IfSome e.disk (λ back. Only (given_of disk) (may_be_left disk) → Only (given_of back) (may_be_left back))) }
     ensures gone { IfErr result (λ e. e.disk ≡ None → e.refusal ≡ Refusal.Memory) }
 {
     disks_mean_one();
@@ -70,6 +73,7 @@ fn alone<S: StoreLike + Drop>(alloc: Global, store: S) -> Result<World<S>, Alloc
     requires runs { (S.about store).broken ≡ false }
     requires keeps { S.keeps_model → (volume : List ℕ) × S.keeps store volume }
     ensures alone { IfOk result (λ world. length world.chain.members ≡ 1) }
+    ensures store { IfOk result (λ world. stores_of world ≡ store ∷ []) }
     ensures disks { IfOk result (AreOnDisks S.about) }
     ensures begins { S.keeps_model → IfOk result (λ world. (volume : List ℕ) → S.keeps store volume
         → BeginsWith S.about S.keeps S.may_leave_now (S.about store).geometry (S.about store).front volume world) }

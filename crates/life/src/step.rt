@@ -28,11 +28,11 @@ pub enum Act {
     Ack,
     /// It looks the committed front up, and keeps it.
     Look,
-    /// It goes on with the front that it looked up.
+    /// It goes on with the front that it looked up, if it keeps one.
     AnswerFront,
     /// The tail raises the committed front, and keeps it.
     Raise,
-    /// It goes on with the front that it raised.
+    /// It goes on with the front that it raised, if it keeps one.
     Raised,
     /// It looks the committed front up, for a crew.
     FindFront,
@@ -42,9 +42,9 @@ pub enum Act {
     Gauge,
     /// It answers what waits for a floor, with that of its crew.
     Settle,
-    /// It begins a commit of at most so many writes. None at all is no step.
+    /// It begins a commit of at most so many writes. None at all is no step, nor is one out of turn.
     BeginCommits { most: u64 },
-    /// It ends the commit under way.
+    /// It ends the commit under way, if one is.
     EndCommit,
     /// It posts its last receipt.
     Post,
@@ -52,6 +52,6 @@ pub enum Act {
     Tick,
     /// Its store writes all pending blocks home, and empties its journal area.
     Checkpoint,
-    /// It stops.
+    /// It stops. Once it has, that is no step.
     Stop,
 }

@@ -114,16 +114,18 @@ impl<S: StoreLike + Drop> Service<S> {
     }
 
     /// The same of a step that is refused where the area is full, which is noted. `false` where it was refused for another reason.
-    fn keep_in(&mut self, told: Result<Told, Refusal>) -> bool
+    fn keep_in(&mut self, told: Result<Option<Told>, Refusal>) -> bool
         requires { self.old.late ≡ [] }
         ensures world { self.new.world ≡ self.old.world }
-        ensures behind { (id : Session) → waits_for self.new id ≡ waits_for self.old id ++ handed_in (λ told. told) told id }
+        ensures behind { (id : Session) → waits_for self.new id ≡ waits_for self.old id ++ handed_if (λ told. told) told id }
         ensures refused { result ≡ false → (refusal : Why) × ((told ≡ Err refusal) × ((refusal ≡ Why.Full → ⊥))) }
     {
         match told {
-            Ok(told) => {
+            Ok(begun) => {
                 self.is_full = false;
-                self.keep(told);
+                if let Some(told) = begun {
+                    self.keep(told);
+                }
                 true
             }
             Err(refusal) => {

@@ -1,22 +1,19 @@
 //! The steps of members and of the board.
 ghost use Rattle.std.specs.Prelude.{◌≡◌, ◌⊎◌, ◌+◌, ◌<◌, ◌↔◌, ℕ, [], false, length, true, IfErr, IfNone, IfOk, IfSome, IsErrOf};
 ghost use Rattle.chain.specs.Chain.{Changes, RestsAt};
-ghost use Rattle.chain.specs.Commits.{EndsAt, HasBegunCommits, HasCheckpointed, HasEndedCommit, HasNoGroup, HasNoNumber, HasStoppedTold, HasTicked, IsUsedUpAt, LeavesAt, PostsAt, PostsNone};
-ghost use Rattle.chain.specs.Fronts.{HasKnown, HasLooked, IsNoTail, RaisesAt};
+ghost use Rattle.chain.specs.Commits.{EndsAt, HasBegunCommits, HasCheckpointed, HasEndedCommit, HasNoCommit, HasNoGroup, HasNoNumber, HasStoppedTold, HasTicked, IsOutOfTurn, IsUsedUpAt, LeavesAt, PostsAt, PostsNone};
+ghost use Rattle.chain.specs.Fronts.{HasAnswered, HasKnown, HasLooked, HasNoLooked, HasNoRaised, IsNoTail, RaisesAt};
 ghost use Rattle.chain.specs.Member.{HasCalled};
 ghost use Rattle.chain.specs.Musters.{HasFound, HasGauged, HasMustered, HasNoFront, HasNoSlotLeft, HasNoWhole, HasSettled, LacksAt};
 ghost use Rattle.chain.specs.Passing.{AckComes, HasNone, PutComes, Refuses, SubmitComes};
-ghost use Rattle.chain_core.specs.Reads.{HasBrokenOff, HasOnlyRead, IsStepOver, IsStepTo};
-ghost use Rattle.chain_steps.specs.Steps.{answer_front, stop};
 ghost use Rattle.clients.specs.Clients.{no_one};
-ghost use Rattle.world.specs.Telling.{Answers, Moves, handed_by, handed_if, handed_in, handed_some, outputs_of};
+ghost use Rattle.world.specs.Telling.{Answers, Moves, handed_if, handed_in, handed_some};
 ghost use Rattle.world.specs.World.{IsOfOneVolume};
 
 use crate::telling::tell;
 use crate::told::Told;
 use crate::world::World;
 use chain_core::Refusal;
-use chain_steps::Cause;
 use local_store::StoreLike;
 
 impl<S: StoreLike + Drop> World<S> {
@@ -129,15 +126,12 @@ impl<S: StoreLike + Drop> World<S> {
         self.chain.post(at)
     }
 
-    /// The member at a place goes on with the front that it looked up. Where it keeps none, nothing changes; nor once it stopped. Where
+    /// The member at a place goes on with the front that it looked up. `None` where it keeps none, or once it stopped: nothing changed. Where
     /// memory runs out, or its device refuses a read, it stops.
     pub fn answer_front(&mut self, at: usize) -> Option<Told>
         requires { at < length self.old.chain.members }
-        ensures answered { IfSome result (λ told. Answers told self.old self.new (λ replies old new. Changes at old new (HasCalled (λ old new out. (HasOnlyRead S.keeps_model S.about S.failures S.keeps S.moment S.may_have_left_since old.store new.store
-            × (IsStepOver S.keeps_model (S.keeps old.store) new.state out (λ volume. answer_front volume old.state)
-            ⊎ IsStepTo new.state out (stop Cause.Memory old.state)))
-            ⊎ HasBrokenOff S.about S.failures old new out) replies))) }
-        ensures stopped { IfNone result (Moves self.old self.new (RestsAt at)) }
+        ensures answered { IfSome result (λ told. Answers told self.old self.new (λ replies old new. Changes at old new (HasAnswered S.keeps_model S.about S.failures S.keeps S.moment S.may_have_left_since replies))) }
+        ensures idle { IfNone result (Moves self.old self.new (λ old new. RestsAt at old new ⊎ LacksAt at old new HasNoLooked)) }
 
         // A stop at any moment of the call leaves what the member was shown with.
         ensures any_moment { S.keeps_model → LeavesAt S.about S.keeps S.may_leave_now S.moment S.may_have_left_since at self.old.chain self.new.chain }
@@ -148,11 +142,11 @@ impl<S: StoreLike + Drop> World<S> {
     }
 
     /// The member at a place takes the front that it raised as its known commit: its plain writes up to it are answered, and the one before
-    /// it is told. Where it keeps none, nothing changes; nor once it stopped. Where memory runs out, it stops.
+    /// it is told. `None` where it keeps none, or once it stopped: nothing changed. Where memory runs out, it stops.
     pub fn raised(&mut self, at: usize) -> Option<Told>
         requires { at < length self.old.chain.members }
         ensures known { IfSome result (λ told. Answers told self.old self.new (λ replies old new. Changes at old new (HasKnown replies))) }
-        ensures stopped { IfNone result (Moves self.old self.new (RestsAt at)) }
+        ensures idle { IfNone result (Moves self.old self.new (λ old new. RestsAt at old new ⊎ LacksAt at old new HasNoRaised)) }
         ensures one_volume { S.keeps_model → IsOfOneVolume S.about S.keeps S.may_leave_now no_one (handed_some result) self.old self.new }
     {
         let replies = self.chain.raised(at)?;
@@ -171,14 +165,12 @@ impl<S: StoreLike + Drop> World<S> {
         Some(tell(self.alloc, &mut self.clients, replies))
     }
 
-    /// The member at a place ends the commit under way, and keeps its receipt until it is posted: an older one is gone. Where none is under
-    /// way, nothing changes. Where memory runs out or the disk refuses, it stops.
-    ///
-    /// `None` once stopped: nothing changed.
+    /// The member at a place ends the commit under way, and keeps its receipt until it is posted: an older one is gone. `None` where none is
+    /// under way, or once it stopped: nothing changed. Where memory runs out or the disk refuses, it stops.
     pub fn end_commit(&mut self, at: usize) -> Option<Told>
         requires { at < length self.old.chain.members }
         ensures ended { IfSome result (λ told. Answers told self.old self.new (λ replies old new. Changes at old new (HasEndedCommit S.keeps_model S.about S.is_pending S.failures S.keeps replies))) }
-        ensures stopped { IfNone result (Moves self.old self.new (RestsAt at)) }
+        ensures idle { IfNone result (Moves self.old self.new (λ old new. RestsAt at old new ⊎ LacksAt at old new HasNoCommit)) }
 
         // A stop at any moment of the call leaves what the member was shown with, or what the commit makes of it.
         ensures any_moment { S.keeps_model → EndsAt S.about S.keeps S.may_leave_now S.moment S.may_have_left_since at self.old.chain self.new.chain }
@@ -227,31 +219,36 @@ impl<S: StoreLike + Drop> World<S> {
     }
 
     /// The member at a place begins a commit of the greatest group of known writes, at most so many, at least one, for whose blocks its
-    /// journal area has room. Out of turn nothing changes. Where memory runs out or the disk refuses, it stops.
+    /// journal area has room. `None` out of turn: nothing changed. Where memory runs out or the disk refuses, it stops.
     ///
     /// 154 `Stopped` once stopped: nothing changed. Else 121 `Full` where it is the turn and no group fits: a checkpoint makes room.
-    pub fn begin_commits(&mut self, at: usize, most: u64) -> Result<Told, Refusal>
+    pub fn begin_commits(&mut self, at: usize, most: u64) -> Result<Option<Told>, Refusal>
         requires within { at < length self.old.chain.members }
         requires most { 0 < most }
-        ensures done { IfOk result (λ told. Answers told self.old self.new (λ replies old new. Changes at old new (HasCalled (HasBegunCommits S.keeps_model S.about S.failures S.keeps S.moment S.may_have_left_since most) replies))) }
+        ensures done { IfOk result (λ begun. IfSome begun (λ told. Answers told self.old self.new (λ replies old new. Changes at old new (HasCalled (HasBegunCommits S.keeps_model S.about S.failures S.keeps S.moment S.may_have_left_since most) replies)))) }
+        ensures idle { IfOk result (λ begun. IfNone begun (Moves self.old self.new (λ old new. LacksAt at old new IsOutOfTurn))) }
         ensures refused { IfErr result (λ r. ((r ≡ Refusal.Full) × Moves self.old self.new (λ old new. Changes at old new (HasNoGroup S.keeps_model S.about S.failures S.keeps S.moment S.may_have_left_since most)))
             ⊎ ((r ≡ Refusal.Stopped) × Moves self.old self.new (RestsAt at))) }
 
         // A stop at any moment of the call leaves what the member was shown with.
         ensures any_moment { S.keeps_model → LeavesAt S.about S.keeps S.may_leave_now S.moment S.may_have_left_since at self.old.chain self.new.chain }
-        ensures one_volume { S.keeps_model → IsOfOneVolume S.about S.keeps S.may_leave_now no_one (handed_in (λ told. told) result) self.old self.new }
+        ensures one_volume { S.keeps_model → IsOfOneVolume S.about S.keeps S.may_leave_now no_one (handed_if (λ told. told) result) self.old self.new }
     {
-        let replies = self.chain.begin_commits(at, most)?;
-        Ok(tell(self.alloc, &mut self.clients, replies))
+        let Some(replies) = self.chain.begin_commits(at, most)? else {
+            return Ok(None);
+        };
+        Ok(Some(tell(self.alloc, &mut self.clients, replies)))
     }
 
-    /// The member at a place stops: all its requests are refused, in the order in which it took them.
-    pub fn stop(&mut self, at: usize) -> Told
+    /// The member at a place stops: all its requests are refused, in the order in which it took them. `None` where it had stopped, and its
+    /// cause stays: nothing changed.
+    pub fn stop(&mut self, at: usize) -> Option<Told>
         requires { at < length self.old.chain.members }
-        ensures stopped { Answers result self.old self.new (λ replies old new. Changes at old new (HasStoppedTold replies)) }
-        ensures one_volume { S.keeps_model → IsOfOneVolume S.about S.keeps S.may_leave_now no_one (handed_by (outputs_of result)) self.old self.new }
+        ensures stopped { IfSome result (λ told. Answers told self.old self.new (λ replies old new. Changes at old new (HasStoppedTold replies))) }
+        ensures idle { IfNone result (Moves self.old self.new (RestsAt at)) }
+        ensures one_volume { S.keeps_model → IsOfOneVolume S.about S.keeps S.may_leave_now no_one (handed_some result) self.old self.new }
     {
-        let replies = self.chain.stop(at);
-        tell(self.alloc, &mut self.clients, replies)
+        let replies = self.chain.stop(at)?;
+        Some(tell(self.alloc, &mut self.clients, replies))
     }
 }

@@ -1,4 +1,4 @@
-use Rattle.std.proofs.Common.{◌<◌, ◌*◌, replicate, ap, sym, ◌∙◌, arith}
+use Rattle.std.proofs.Common.{◌<◌, ◌*◌, map, replicate, ap, sym, ◌∙◌, arith}
 use Rattle.std.proofs.lemmas.List.{length-replicate}
 use Rattle.local_store.specs.About.{About}
 use Rattle.life.proofs.Starting.{about_of_store, first_all, first_at, first_even, first_long, first_slots, first_begins}
@@ -27,3 +27,6 @@ returns-clause-many c = c.in_ok-world_of.ensures.many ∙ first_long about_of_st
 
 pub returns-clause-begins : goal.returns-clause-begins
 returns-clause-begins c = first_begins c.args.geometry c.args.members c.in_ok-stores.stores.items c.in_ok-world_of.field-0 c.in_ok-stores.ensures.about c.requires.some c.in_ok-stores.ensures.kept (c.in_ok-world_of.ensures.begins tt)
+
+pub returns-clause-slots : goal.returns-clause-slots
+returns-clause-slots c = ap (map about_of_store) c.in_ok-world_of.ensures.stores ∙ c.in_ok-stores.ensures.about

@@ -3,7 +3,7 @@ use Rattle.std.specs.Prelude.{All}
 use Rattle.chain.specs.Opening.{recorded_in}
 use Rattle.configurations.specs.Record.{AreMembers, Record}
 use Rattle.configurations.specs.declared.member.Member.{Member}
-use Rattle.life.proofs.Starting.{all_mapped, are_members, disks_begin, world_begins}
+use Rattle.life.proofs.Starting.{all_mapped, are_members, disks_begin, stores_begin, world_begins}
 use Rattle.life.proofs.beginning.world_of.Goals as goal
 
 pub unreachable-requires : goal.unreachable-requires
@@ -27,3 +27,6 @@ returns-in-Ok-new-2-clause-begins g c = λ premise.
 pub returns-in-Ok-new-2-clause-disks : goal.returns-in-Ok-new-2-clause-disks
 returns-in-Ok-new-2-clause-disks g c =
     disks_begin g.S.StoreLike.about c.in-Ok.record c.args.stores.items c.in-Ok-new.chain c.in-Ok-new-2.world c.in-Ok-new.ensures.members c.requires.even c.requires.given c.in-Ok-new.ensures.sizes c.in-Ok-new-2.ensures.chain
+
+pub returns-in-Ok-new-2-clause-stores : goal.returns-in-Ok-new-2-clause-stores
+returns-in-Ok-new-2-clause-stores g c = stores_begin g.S.StoreLike.about c.in-Ok.record c.args.stores.items c.in-Ok-new.chain c.in-Ok-new-2.world c.in-Ok-new.ensures.members c.in-Ok-new-2.ensures.chain

@@ -31,7 +31,7 @@ pub returns-clause-goes_on : goal.returns-clause-goes_on
 returns-clause-goes_on c =
     let here : slice_get c.args.disks.items c.args.at ≡ Some c.swap_remove.result =
     slice_get_read c.args.disks.items (length c.args.disks.items) c.args.at c.swap_remove.result refl (omega (arith, c.if-at-len.false, c.args.disks.ok, c.len.ensures)) c.swap_remove.ensures.value in
-    IfOk-weaker c.go_on_from.result _ _ (λ world on. (c.swap_remove.result, here, on.0, on.1, on.2)) c.go_on_from.ensures.goes_on
+    IfOk-weaker c.go_on_from.result _ _ (λ world on. (c.swap_remove.result, here, on.0, on.1, on.2, on.3)) c.go_on_from.ensures.goes_on
 
 pub returns-clause-refused : goal.returns-clause-refused
 returns-clause-refused c = IfErr-weaker c.go_on_from.result _ _ (λ e memory. inl memory) c.go_on_from.ensures.refused

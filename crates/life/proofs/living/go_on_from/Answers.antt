@@ -21,7 +21,7 @@ returns-in-Ok-recover-clause-goes_on c =
     let was = subst (λ o. IfSome o (IsBack c.args.disk)) c.in-Some.is c.in-Err.ensures.back in
     let same : given_of c.disarm.new.self ≡ given_of c.args.disk =
     c.disarm.ensures.stays.given ∙ given_again c.args.disk c.in-Some.back c.cut.new.self c.requires.only was c.cut.ensures.left c.cut.ensures.gives in
-    let on = c.in-Ok-recover.ensures.goes_on in (on.0, subst (Means on.0) same on.1, on.2)
+    let on = c.in-Ok-recover.ensures.goes_on in (on.0, subst (Means on.0) same on.1, on.2, on.3)
 
 pub returns-in-Err-recover-clause-refused : goal.returns-in-Err-recover-clause-refused
 returns-in-Err-recover-clause-refused c =

@@ -21,6 +21,7 @@ loop-era-init c = record {
   disks = c.in_ok-world.ensures.disks;
   first = c.in_ok-world.world;
   first_many = c.in_ok-world.ensures.many;
+  slots = c.in_ok-world.ensures.slots;
   begins = c.in_ok-world.ensures.begins;
   state = start;
   leads = subst (λ (l : List Answers). ErasOnDisks (export_of c.args.geometry) [] l c.in_ok-world.world start c.in_ok-world.world start) (sym c.in_ok-answers.ensures.items) (refl, refl);
@@ -50,6 +51,7 @@ loop-era-preserved c =
       disks = c.in_ok-told.ensures.disks;
       first = inv.first;
       first_many = inv.first_many;
+      slots = inv.slots;
       begins = inv.begins;
       state = state;
       leads = subst (λ (l : List Era). ErasOnDisks (export_of c.args.geometry) l new inv.first start c.in_ok-told.next state) (sym here)
@@ -70,7 +72,7 @@ pub returns-clause-one_life : goal.returns-clause-one_life
 returns-clause-one_life c =
     let inv = c.loop-era.invariant in
     let whole = take_all c.loop-era.era-index c.args.eras.now c.loop-era-test.false in
-    one_life (Unit {0}) about_of_store keeps_volume pends_in leaves_now moment_in left_in failures_in disk_in c.args.geometry c.args.members c.args.eras.now c.loop-era.answers.items inv.first c.loop-era.world inv.state inv.first_many inv.begins
+    one_life (Unit {0}) about_of_store keeps_volume pends_in leaves_now moment_in left_in failures_in disk_in c.args.geometry c.args.members c.args.eras.now c.loop-era.answers.items inv.first c.loop-era.world inv.state inv.slots inv.begins
     (subst (λ (l : List Era). ErasOnDisks (export_of c.args.geometry) l c.loop-era.answers.items inv.first start c.loop-era.world inv.state) whole inv.leads) inv.fresh
 
 pub live_era-requires-clause-fresh : goal.live_era-requires-clause-fresh

@@ -1,9 +1,9 @@
-use Rattle.std.proofs.Common.{List, ◌≡◌, ◌≤◌, ◌*◌, [], length, take, vec_len, vec_capacity}
-use Rattle.std.specs.List.{AllZip}
+use Rattle.std.proofs.Common.{List, ◌≡◌, ◌≤◌, ◌*◌, [], length, map, take, vec_len, vec_capacity}
+use Rattle.std.specs.List.{AllZip, range_with_len}
 use Rattle.volume.specs.Writes.{volume_of}
 use Rattle.world_model.specs.Machine.{State, start}
 use Rattle.world.specs.World.{Seen}
-use Rattle.life.specs.Begun.{AreOnDisks, BeginsWith, export_of}
+use Rattle.life.specs.Begun.{AreOnDisks, BeginsWith, export_of, first_about, stores_of}
 use Rattle.life.specs.Lived.{IsFresh}
 use Rattle.life.specs.declared.era.Answers.{Answers}
 use Rattle.life.specs.declared.era.Era.{Era}
@@ -15,6 +15,7 @@ invariant-loop-era l = record {
   disks : AreOnDisks about_of_store l.world;
   first : Seen IsStore;
   first_many : length first.chain.members ≡ l.fn.members;
+  slots : map about_of_store (stores_of first) ≡ map (first_about l.fn.geometry) (range_with_len 0 l.fn.members);
   begins : BeginsWith about_of_store keeps_volume leaves_now l.fn.geometry 0 (volume_of (4096 * l.fn.geometry.blocks) []) first;
   state : State;
   leads : ErasOnDisks (export_of l.fn.geometry) (take l.era-index l.fn.eras) l.answers.items first start l.world state;

@@ -38,7 +38,7 @@ returns-clause-lived c =
     let one = (c.in-Ok.ensures.pass.1 fresh.view s fresh.shows (subst (λ n. StandsFor n fresh.view s) size fresh.stands)).happens in
     let stays = deeds_stay about_of_store (Unit {0}) keeps_volume pends_in leaves_now moment_in left_in failures_in disk_in c.deref.result.now c.in-Ok.told.items c.args.world c.play_all.new.world c.in-Ok.ensures.plays in
     let on = disks_stay about_of_store c.args.world c.play_all.new.world stays c.requires.disks in
-    let (disk, there, meaning, means, begins) = c.in_ok-next.ensures.goes_on in
+    let (disk, there, meaning, means, member, begins) = c.in_ok-next.ensures.goes_on in
     let (m, here, cut) = zip_there (λ m disk. IsCutFrom leaves_now disk_in c.args.era.now.cut m.node.store disk) c.play_all.new.world.chain.members c.in_ok-disks.disks.items c.args.era.now.returned disk c.in_ok-disks.ensures there in
     let (own, sizes) = cut_of_member c.play_all.new.world one.w c.args.era.now.returned m disk one.shows here c.args.era.now.cut cut on in
     era_leads (Unit {0}) about_of_store keeps_volume pends_in leaves_now moment_in left_in failures_in disk_in
@@ -56,6 +56,7 @@ returns-clause-lived c =
       means = means;
       sizes = ap (λ x. x.geometry) (c.disks_mean_one.ensures meaning own.meaning (given_of disk) means own.means) ∙ sizes;
       alone = c.in_ok-next.ensures.alone;
+      member = member;
       begins = begins;
     })
 

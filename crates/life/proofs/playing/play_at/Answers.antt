@@ -35,7 +35,7 @@ returns-in-Look g c = record {
 
 pub returns-in-AnswerFront : goal.returns-in-AnswerFront
 returns-in-AnswerFront g c = record {
-  does = rw c.in-AnswerFront.is (c.answer_front.result, c.told-in-AnswerFront.ensures, record { answered = record { did = c.answer_front.ensures.answered; idle = c.answer_front.ensures.stopped }; any_moment = c.answer_front.ensures.any_moment });
+  does = rw c.in-AnswerFront.is (c.answer_front.result, c.told-in-AnswerFront.ensures, record { answered = record { did = c.answer_front.ensures.answered; idle = c.answer_front.ensures.idle }; any_moment = c.answer_front.ensures.any_moment });
   one_volume = λ premise. told_so g.S.StoreLike.about g.S.StoreLike.keeps g.S.StoreLike.may_leave_now _ _ no_one _ c.answer_front.result c.told-in-AnswerFront.ensures (c.answer_front.ensures.one_volume premise);
 }
 
@@ -47,7 +47,7 @@ returns-in-Raise g c = record {
 
 pub returns-in-Raised : goal.returns-in-Raised
 returns-in-Raised g c = record {
-  does = rw c.in-Raised.is (c.raised.result, c.told-in-Raised.ensures, record { did = c.raised.ensures.known; idle = c.raised.ensures.stopped });
+  does = rw c.in-Raised.is (c.raised.result, c.told-in-Raised.ensures, record { did = c.raised.ensures.known; idle = c.raised.ensures.idle });
   one_volume = λ premise. told_so g.S.StoreLike.about g.S.StoreLike.keeps g.S.StoreLike.may_leave_now _ _ no_one _ c.raised.result c.told-in-Raised.ensures (c.raised.ensures.one_volume premise);
 }
 
@@ -77,7 +77,7 @@ returns-in-Settle g c = record {
 
 pub returns-in-EndCommit : goal.returns-in-EndCommit
 returns-in-EndCommit g c = record {
-  does = rw c.in-EndCommit.is (c.end_commit.result, c.told-in-EndCommit.ensures, record { ended = c.end_commit.ensures.ended; stopped = c.end_commit.ensures.stopped; any_moment = c.end_commit.ensures.any_moment });
+  does = rw c.in-EndCommit.is (c.end_commit.result, c.told-in-EndCommit.ensures, record { ended = record { did = c.end_commit.ensures.ended; idle = c.end_commit.ensures.idle }; any_moment = c.end_commit.ensures.any_moment });
   one_volume = λ premise. told_so g.S.StoreLike.about g.S.StoreLike.keeps g.S.StoreLike.may_leave_now _ _ no_one _ c.end_commit.result c.told-in-EndCommit.ensures (c.end_commit.ensures.one_volume premise);
 }
 
@@ -99,5 +99,8 @@ returns-in-BeginCommits-clause-does g c = rw c.in-BeginCommits.is c.begin_commit
 pub returns-in-Tick-clause-does : goal.returns-in-Tick-clause-does
 returns-in-Tick-clause-does g c = rw c.in-Tick.is c.tick.ensures.does
 
-pub returns-in-Stop-clause-does : goal.returns-in-Stop-clause-does
-returns-in-Stop-clause-does g c = rw c.in-Stop.is (c.stop.result, refl, c.stop.ensures.stopped)
+pub returns-in-Stop : goal.returns-in-Stop
+returns-in-Stop g c = record {
+  does = rw c.in-Stop.is (c.stop.result, c.told-in-Stop.ensures, record { did = c.stop.ensures.stopped; idle = c.stop.ensures.idle });
+  one_volume = λ premise. told_so g.S.StoreLike.about g.S.StoreLike.keeps g.S.StoreLike.may_leave_now _ _ no_one _ c.stop.result c.told-in-Stop.ensures (c.stop.ensures.one_volume premise);
+}

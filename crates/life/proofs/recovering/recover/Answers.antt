@@ -1,12 +1,27 @@
-use Rattle.std.proofs.Common.{ap, arith}
-use Rattle.disk_model.specs.Memory.{given_of}
+use Rattle.std.proofs.Common.{◌≡◌, [], ◌∷◌, ap, refl, subst, sym, ◌∙◌, arith}
+use Rattle.std.proofs.lemmas.List.Elements.{All-cons, All-nil}
+use Rattle.disk_model.specs.Disk.{NothingNew, Only}
+use Rattle.disk_model.specs.Memory.{given_of, may_be_left}
+use Rattle.disk_model.specs.declared.memory.MemDisk.{MemDisk}
 use Rattle.local_store.specs.Meaning.{Meaning}
 use Rattle.local_store.specs.Store.{meaning_in}
+use Rattle.life.specs.Begun.{AreOfMember}
+use Rattle.life.proofs.Starting.{IsStore, about_of_store}
 use Rattle.life.proofs.Returning.{reopened, reopening_of_memory}
 use Rattle.life.proofs.recovering.recover.Goals as goal
 
 pub returns-in-Ok-alone-clause-goes_on : goal.returns-in-Ok-alone-clause-goes_on
-returns-in-Ok-alone-clause-goes_on c = let was = c.in-Ok.ensures.stored tt in (meaning_in c.in-Ok.store.contents was.0, was.2, c.in-Ok-alone.ensures.begins tt was.0 was.1)
+returns-in-Ok-alone-clause-goes_on c =
+    let was = c.in-Ok.ensures.stored tt in
+    let meaning = meaning_in c.in-Ok.store.contents was.0 in (
+      meaning,
+      was.2,
+      subst (AreOfMember about_of_store meaning) (sym c.in-Ok-alone.ensures.store) (own c.in-Ok.store meaning refl refl),
+      c.in-Ok-alone.ensures.begins tt was.0 was.1,
+    )
+  where
+    own : (s : IsStore) (meaning : Meaning) → (about_of_store s).slot ≡ meaning.slot → (about_of_store s).incarnation ≡ meaning.incarnation → AreOfMember about_of_store meaning (s ∷ [])
+    own s meaning slot incarnation = All-cons (λ x. ((about_of_store x).slot ≡ meaning.slot) × ((about_of_store x).incarnation ≡ meaning.incarnation)) s [] (slot, incarnation) (All-nil (λ x. ((about_of_store x).slot ≡ meaning.slot) × ((about_of_store x).incarnation ≡ meaning.incarnation)))
 
 pub returns-then-incarnation-eq0-clause-returning : goal.returns-then-incarnation-eq0-clause-returning
 returns-then-incarnation-eq0-clause-returning c = λ member.
@@ -37,3 +52,13 @@ returns-then-incarnation-eq0-clause-calm c = λ member calm.
 
 pub returns-then-incarnation-eq0-clause-back : goal.returns-then-incarnation-eq0-clause-back
 returns-then-incarnation-eq0-clause-back c = let read = c.in-Ok.ensures.reads tt in rw c.into_disk.ensures (read.same, read.leaves)
+
+-- nothing else is left of a disk that was only read
+only_again : (disk back : MemDisk) → given_of back ≡ given_of disk → NothingNew (may_be_left disk) (may_be_left back) → Only (given_of disk) (may_be_left disk) → Only (given_of back) (may_be_left back)
+only_again disk back same leaves only = λ bytes left. only bytes (leaves bytes left) ∙ sym same
+
+pub returns-in-Err-clause-again : goal.returns-in-Err-clause-again
+returns-in-Err-clause-again c = let back = c.in-Err.ensures.back tt in only_again c.args.disk c.in-Err.disk back.same back.leaves
+
+pub returns-then-incarnation-eq0-clause-again : goal.returns-then-incarnation-eq0-clause-again
+returns-then-incarnation-eq0-clause-again c = let read = c.in-Ok.ensures.reads tt in rw c.into_disk.ensures (only_again c.args.disk c.in-Ok.store.disk read.same read.leaves)

@@ -1,4 +1,4 @@
-use Rattle.std.proofs.Common.{◌≡◌, ℕ, List, refl, subst, sym}
+use Rattle.std.proofs.Common.{◌≡◌, ℕ, List, inl, inr, refl, subst, sym}
 use Rattle.std.specs.Prelude.{IfNone, IfSome, Option, Some, None, slice_get, slice_set}
 use Rattle.disk_model.specs.Disk.{LeavesOnly}
 use Rattle.disk_model.specs.Moments.{started}
@@ -16,8 +16,8 @@ use Rattle.chain.proofs.chain.Chain.answer_front.Goals as goal
 pub invariant_of-self : goal.invariant_of-self
 invariant_of-self g c =
     let here = read_at _ _ c.args.at _ c.self.view_is c.requires c.index_mut.ensures.value in
-    either c.answer_front.result _ _ _ c.answer_front.ensures.answered c.answer_front.ensures.stopped
-    (λ replies did. formed_answered g.S.StoreLike.keeps_model g.S.StoreLike.about g.S.StoreLike.failures g.S.StoreLike.keeps g.S.StoreLike.moment g.S.StoreLike.may_have_left_since g.S.StoreLike.may_leave_now _ c.args.at _ _ here replies.items did c.self.invariant)
+    either c.answer_front.result _ _ _ c.answer_front.ensures.answered c.answer_front.ensures.idle
+    (λ replies did. formed_answered g.S.StoreLike.keeps_model g.S.StoreLike.about g.S.StoreLike.failures g.S.StoreLike.keeps g.S.StoreLike.moment g.S.StoreLike.may_have_left_since g.S.StoreLike.may_leave_now _ c.args.at _ _ here replies.items did.did c.self.invariant)
     (λ idle. formed_still _ c.args.at _ _ here _ idle.1 c.self.invariant)
 
 pub returns-clause-answered : goal.returns-clause-answered
@@ -29,10 +29,14 @@ returns-clause-answered g c = some_then c.answer_front.result _ _ c.answer_front
   are = refl;
 }))
 
-pub returns-clause-stopped : goal.returns-clause-stopped
-returns-clause-stopped g c = none_then c.answer_front.result _ _ c.answer_front.ensures.stopped (λ idle. rw (← c.self.view_is)
+pub returns-clause-idle : goal.returns-clause-idle
+returns-clause-idle g c = none_then c.answer_front.result _ _ c.answer_front.ensures.idle (λ idle. rw (← c.self.view_is)
     (let here = read_at _ _ c.args.at _ c.self.view_is c.requires c.index_mut.ensures.value in
-    record { member = c.index_mut.result.now; here = here; stopped = idle.0; same = same_then _ c.args.at _ _ here idle.1 }))
+    let same = same_then _ c.args.at _ _ here idle.1 in
+    elim idle.0 [
+      | inl stopped ↦ inl (record { member = c.index_mut.result.now; here = here; stopped = stopped; same = same })
+      | inr lacks ↦ inr (record { member = c.index_mut.result.now; here = here; lacks = lacks; same = same })
+    ]))
 
 -- what a call with a reply leaves, and one that does nothing
 leaves_either : {T A : Type 0} {B R : A → Type 0} (o : Option T) (P : T → Type 0) (N C : Type 0) → IfSome o P → IfNone o N → ((a : A) → B a → IfSome o (λ t. R a))
@@ -58,8 +62,8 @@ module _ {S : Type 0} (about : S → About) (keeps : S → List ℕ → Type 0) 
 pub returns-clause-any_moment : goal.returns-clause-any_moment
 returns-clause-any_moment g c = λ premise. rw (← c.self.view_is) (
     let here = read_at _ _ c.args.at _ c.self.view_is c.requires c.index_mut.ensures.value in
-    leaves_either c.answer_front.result _ _ _ c.answer_front.ensures.answered c.answer_front.ensures.stopped (c.answer_front.ensures.any_moment premise)
-    (λ replies did run. answers_leave g.S.StoreLike.about g.S.StoreLike.keeps g.S.StoreLike.may_leave_now g.S.StoreLike.moment g.S.StoreLike.may_have_left_since _ c.args.at _ here _ did.runs run)
+    leaves_either c.answer_front.result _ _ _ c.answer_front.ensures.answered c.answer_front.ensures.idle (c.answer_front.ensures.any_moment premise)
+    (λ replies did run. answers_leave g.S.StoreLike.about g.S.StoreLike.keeps g.S.StoreLike.may_leave_now g.S.StoreLike.moment g.S.StoreLike.may_have_left_since _ c.args.at _ here _ did.did.runs run)
     (λ idle. idle_leaves g.S.StoreLike.about g.S.StoreLike.keeps g.S.StoreLike.may_leave_now g.S.StoreLike.moment g.S.StoreLike.may_have_left_since _ c.args.at _ here _ (g.met.S.StoreLike.means_now premise) (g.met.S.StoreLike.only_now premise) idle.1))
 
 pair_some : {T : Type 0} (o : Option T) (P Q : T → Type 0) → IfSome o P → IfSome o Q → IfSome o (λ x. P x × Q x)
@@ -70,7 +74,7 @@ pub returns-clause-one_volume : goal.returns-clause-one_volume
 returns-clause-one_volume g c = λ premise. both c.answer_front.result _ _ _ (pair_some c.answer_front.result _ _ c.answer_front.ensures.answered c.answer_front.ensures.front) (c.answer_front.ensures.any_moment premise)
     (λ replies (did, fits) run v s events shows stands put_out. rw (← c.self.view_is)
     (let here = read_at _ _ c.args.at _ c.self.view_is c.requires c.index_mut.ensures.value in
-    answered_goes g.S.StoreLike.keeps_model g.S.StoreLike.about g.S.StoreLike.failures g.S.StoreLike.keeps g.S.StoreLike.moment g.S.StoreLike.may_have_left_since g.S.StoreLike.may_leave_now g.met.S.StoreLike.counts_now premise _ c.args.at _ _ here replies.items did run fits v s events (rw c.self.view_is shows) (stands_now _ _ v s c.self.view_is stands) put_out))
+    answered_goes g.S.StoreLike.keeps_model g.S.StoreLike.about g.S.StoreLike.failures g.S.StoreLike.keeps g.S.StoreLike.moment g.S.StoreLike.may_have_left_since g.S.StoreLike.may_leave_now g.met.S.StoreLike.counts_now premise _ c.args.at _ _ here replies.items did.did run fits v s events (rw c.self.view_is shows) (stands_now _ _ v s c.self.view_is stands) put_out))
   where
     both : {T A : Type 0} {B : A → Type 0} (o : Option T) (P : T → Type 0) (R : A → Type 0) (Q : T → Type 0) → IfSome o P → ((x : A) → B x → IfSome o (λ t. R x)) → ((x : T) → P x → ((a : A) → B a → R a) → Q x) → IfSome o Q
     both None P R Q some more f = some

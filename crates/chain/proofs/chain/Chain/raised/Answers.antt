@@ -1,4 +1,4 @@
-use Rattle.std.proofs.Common.{refl}
+use Rattle.std.proofs.Common.{inl, inr, refl}
 use Rattle.std.specs.Prelude.{IfSome, Option, Some, None}
 use Rattle.chain.specs.Chain.{Chained}
 use Rattle.chain.proofs.RaisedSteps.{formed_known, known_goes, within_here}
@@ -9,7 +9,7 @@ use Rattle.chain.proofs.chain.Chain.raised.Goals as goal
 pub invariant_of-self : goal.invariant_of-self
 invariant_of-self g c =
     let here = read_at _ _ c.args.at _ c.self.view_is c.requires c.index_mut.ensures.value in
-    either c.raised.result _ _ _ c.raised.ensures.known c.raised.ensures.stopped
+    either c.raised.result _ _ _ c.raised.ensures.known c.raised.ensures.idle
     (λ replies did. formed_known _ _ c.args.at _ _ here replies.items did c.self.invariant)
     (λ idle. formed_still _ c.args.at _ _ here _ idle.1 c.self.invariant)
 
@@ -22,10 +22,14 @@ returns-clause-known g c = some_then c.raised.result _ _ c.raised.ensures.known 
   are = refl;
 }))
 
-pub returns-clause-stopped : goal.returns-clause-stopped
-returns-clause-stopped g c = none_then c.raised.result _ _ c.raised.ensures.stopped (λ idle. rw (← c.self.view_is)
+pub returns-clause-idle : goal.returns-clause-idle
+returns-clause-idle g c = none_then c.raised.result _ _ c.raised.ensures.idle (λ idle. rw (← c.self.view_is)
     (let here = read_at _ _ c.args.at _ c.self.view_is c.requires c.index_mut.ensures.value in
-    record { member = c.index_mut.result.now; here = here; stopped = idle.0; same = same_then _ c.args.at _ _ here idle.1 }))
+    let same = same_then _ c.args.at _ _ here idle.1 in
+    elim idle.0 [
+      | inl stopped ↦ inl (record { member = c.index_mut.result.now; here = here; stopped = stopped; same = same })
+      | inr lacks ↦ inr (record { member = c.index_mut.result.now; here = here; lacks = lacks; same = same })
+    ]))
 
 pair_some : {T : Type 0} (o : Option T) (P Q : T → Type 0) → IfSome o P → IfSome o Q → IfSome o (λ x. P x × Q x)
 pair_some None P Q p q = p

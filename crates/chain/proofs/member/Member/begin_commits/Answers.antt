@@ -11,6 +11,11 @@ returns-then-is_some-clause-any_moment g c = λ premise volume keep.
     started g.S.StoreLike.moment g.S.StoreLike.may_have_left_since c.args.self.now.node.store (Means (meaning_with (g.S.StoreLike.about c.args.self.now.node.store) volume))
     (λ d left. g.met.S.StoreLike.means_now premise c.args.self.now.node.store volume d keep (g.met.S.StoreLike.only_now premise c.args.self.now.node.store d left))
 
+pub returns-then-not-can_begin-clause-any_moment : goal.returns-then-not-can_begin-clause-any_moment
+returns-then-not-can_begin-clause-any_moment g c = λ premise volume keep.
+    started g.S.StoreLike.moment g.S.StoreLike.may_have_left_since c.args.self.now.node.store (Means (meaning_with (g.S.StoreLike.about c.args.self.now.node.store) volume))
+    (λ d left. g.met.S.StoreLike.means_now premise c.args.self.now.node.store volume d keep (g.met.S.StoreLike.only_now premise c.args.self.now.node.store d left))
+
 pub returns-in-Err-clause-refused : goal.returns-in-Err-clause-refused
 returns-in-Err-clause-refused g c =
     let e = c.in-Err.ensures in

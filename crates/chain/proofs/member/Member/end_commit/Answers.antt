@@ -1,10 +1,16 @@
-use Rattle.std.proofs.Common.{◌≡◌, None, rules, refl, ap, sym, inl, arith}
+use Rattle.std.proofs.Common.{◌≡◌, ◌∙◌, false, true, None, rules, refl, ap, sym, inl, arith}
+use Rattle.std.specs.Prelude.{is_some}
 use Rattle.chain_steps.specs.Node.{Out}
 use Rattle.disk_model.specs.Moments.{started}
 use Rattle.chain.proofs.member.Member.end_commit.Goals as goal
 
 pub returns-then-is_some-clause-any_moment : goal.returns-then-is_some-clause-any_moment
 returns-then-is_some-clause-any_moment g c = λ premise volume keep.
+    started g.S.StoreLike.moment g.S.StoreLike.may_have_left_since c.args.self.now.node.store _
+    (λ d left. inl (g.met.S.StoreLike.means_now premise c.args.self.now.node.store volume d keep (g.met.S.StoreLike.only_now premise c.args.self.now.node.store d left)))
+
+pub returns-then-not-has_commit-clause-any_moment : goal.returns-then-not-has_commit-clause-any_moment
+returns-then-not-has_commit-clause-any_moment g c = λ premise volume keep.
     started g.S.StoreLike.moment g.S.StoreLike.may_have_left_since c.args.self.now.node.store _
     (λ d left. inl (g.met.S.StoreLike.means_now premise c.args.self.now.node.store volume d keep (g.met.S.StoreLike.only_now premise c.args.self.now.node.store d left)))
 
@@ -24,7 +30,7 @@ returns-clause-done g c =
       runs = runs;
       told = sym (ap (λ (o : Out). o.replies) c.out.view_is);
       are = rw c.in-Some.is refl;
-      idle = e.idle;
+      had = λ none. let no : false ≡ true = ap is_some (sym none) ∙ sym c.has_commit.ensures ∙ c.if-not-has_commit.false in absurd (cc);
       ended = e.ended;
       stopped = e.stopped;
       pends = e.pends;
@@ -44,7 +50,7 @@ returns-in_default-clause-done g c =
       runs = runs;
       told = sym (ap (λ (o : Out). o.replies) c.out.view_is);
       are = rw none refl;
-      idle = e.idle;
+      had = λ none. let no : false ≡ true = ap is_some (sym none) ∙ sym c.has_commit.ensures ∙ c.if-not-has_commit.false in absurd (cc);
       ended = e.ended;
       stopped = e.stopped;
       pends = e.pends;
