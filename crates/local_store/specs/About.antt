@@ -61,7 +61,12 @@ pub record IsOneLess (block : ℕ) (old new : ℕ → Type 0) : Type 0 where
   pub is_home : new block → ⊥
   pub others : (b : ℕ) → b ≢ block → (old b → new b) × (new b → old b)
 
--- the blocks of the run were pending, a longest one of `most` at most, and now they aren't; of each other it is as before
+-- two of these blocks stand one behind the other
+abbrev pub HasNeighbours : (ℕ → Type 0) → Type 0
+HasNeighbours is_pending = (b : ℕ) × is_pending b × is_pending (b + 1)
+
+-- The blocks of the run were pending, the longest of `most` blocks at most, and now they aren't; of each other it is as
+-- before.
 pub record IsWithoutRun (most : ℕ) (run : Run) (old new : ℕ → Type 0) : Type 0 where
   pub was : IsRun most old run.first run.count
   pub others : (b : ℕ) → new b ↔ (old b × (¬ IsWithin run.first run.count b))

@@ -14,7 +14,7 @@ ghost use Rattle.gate_journal.specs.Runs.{OnlyReads};
 ghost use Rattle.disk_model.specs.Part.{inside};
 ghost use Rattle.volume.specs.Writes.{block_of};
 ghost use Rattle.home_blocks.specs.Superblock.{marked};
-ghost use Rattle.local_store.specs.About.{HasNoRoom, HasRoom, IsWithoutRun, about_of};
+ghost use Rattle.local_store.specs.About.{HasNeighbours, HasNoRoom, HasRoom, IsWithoutRun, about_of};
 ghost use Rattle.local_store.specs.Meaning.{HasDamagedArea, IsUnfinished, Means};
 ghost use Rattle.local_store.specs.Overlay.{with_images};
 ghost use Rattle.local_store.specs.Pending.{AreCleared, held};
@@ -459,7 +459,7 @@ impl Contents {
             → LeavesOnly D.moment D.may_have_left_since disk.old disk.new (Means (meaning_in self.old volume)) }
         ensures size { D.size disk.new ≡ D.size disk.old }
         ensures broken { IsErrOf result Refusal.Broken ↔ (self.old.broken ≡ true) }
-        ensures memory { IsErrOf result Refusal.Memory → 1 < most }
+        ensures memory { IsErrOf result Refusal.Memory → (1 < most) × HasNeighbours (IsPending self.old.pending) }
         ensures told { IfErr result IsOfTickingRun }
         ensures unchanged { IfErr result (λ r. ¬ IsOfDevice r → (self.new ≡ self.old) × (disk.new ≡ disk.old) × (plan.new ≡ plan.old)) }
         ensures device { IfErr result (λ r. IsOfDevice r → self.new ≡ record self.old { cache = self.new.cache; broken = true }) }

@@ -2,7 +2,7 @@
 ghost use Rattle.std.specs.Prelude.{◌≡◌, ◌⊎◌, ◌+◌, ◌*◌, ◌<◌, ◌≤◌, ◌↔◌, ℕ, List, true, false, length, take, drop, Any, IfOk, IfErr, IfNone, IfSome, OnOk, OnErr, IsErrOf};
 ghost use Rattle.disk_model.specs.Disk.{LeavesOnly};
 ghost use Rattle.gate_journal.specs.Batch.{AreImages};
-ghost use Rattle.local_store.specs.About.{About, HasNoRoom, HasRoom, IsOneLess, IsWithoutRun, meaning_then, meaning_with, one_checkpoint_more, one_commit_more};
+ghost use Rattle.local_store.specs.About.{About, HasNeighbours, HasNoRoom, HasRoom, IsOneLess, IsWithoutRun, meaning_then, meaning_with, one_checkpoint_more, one_commit_more};
 ghost use Rattle.local_store.specs.Meaning.{Means};
 ghost use Rattle.local_store.specs.Overlay.{with_images};
 ghost use Rattle.local_store.specs.Refusal.{HasCause, IsOfCheckpoint, IsOfCommitting, IsOfDevice, IsOfReading, IsOfTicking, IsOfTickingRun};
@@ -159,7 +159,7 @@ pub trait StoreLike {
         ensures any_moment { keeps_model → (volume : List ℕ) → keeps self.old volume → LeavesOnly moment may_have_left_since self.old self.new (Means (meaning_with (about self.old) volume)) }
         ensures still { OnErr result ((b : ℕ) → is_pending self.new b ↔ is_pending self.old b) }
         ensures broken { IsErrOf result Refusal.Broken ↔ ((about self.old).broken ≡ true) }
-        ensures memory { IsErrOf result Refusal.Memory → 1 < most }
+        ensures memory { IsErrOf result Refusal.Memory → (1 < most) × HasNeighbours (is_pending self.old) }
         ensures told { IfErr result IsOfTickingRun }
         ensures unchanged { IfErr result (λ r. ¬ IsOfDevice r → (about self.new ≡ about self.old) × ((volume : List ℕ) → keeps self.old volume → keeps self.new volume) × ((b : ℕ) → is_pending self.new b ↔ is_pending self.old b)) }
         ensures err { IfErr result (λ r. IsOfDevice r → about self.new ≡ record (about self.old) { broken = true }) }
