@@ -1,8 +1,8 @@
 -- Runs of pending blocks that are joined and written home.
-use Rattle.std.proofs.Common.{◌≡◌, ℕ, ◌+◌, ◌-◌, ◌*◌, ◌<◌, ◌≤◌, true, false, List, [], length, take, drop, set, refl, sym, ◌∙◌, ap, subst, arith, rules, ◌⊎◌, inl, inr}
-use Rattle.std.specs.Prelude.{Option, Some, None, IsSome, slice_index_or, slice_range}
+use Rattle.std.proofs.Common.{◌≡◌, ℕ, ◌+◌, ◌-◌, ◌*◌, ◌<◌, ◌≤◌, true, false, List, [], length, take, drop, refl, sym, ◌∙◌, ap, subst, arith, rules, ◌⊎◌, inl, inr}
+use Rattle.std.specs.Prelude.{Option, Some, None, IsSome, slice_range}
 use Rattle.std.proofs.lemmas.Bool.{both_ways, cases_lt}
-use Rattle.std.proofs.lemmas.List.{get_or-set_same, get_or-set_other, length-set, places, same_lists}
+use Rattle.std.proofs.lemmas.List.{places, same_lists}
 use Rattle.disk_model.specs.Disk.{Follows, Holds, Torn, put}
 use Rattle.flusher.specs.Plan.{IsPending, IsRun, IsWithin}
 use Rattle.flusher.specs.declared.plan.Run.{Run}
@@ -26,29 +26,7 @@ within_or_not first count b = elim (cases_lt b first) [
   ]
 ]
 
--- places that are cleared one by one
-module _ {T : Type 0} (first : ℕ) (old : List (Option T)) where
-  pub none_cleared : AreCleared first 0 old old
-  none_cleared = record { table = refl; run = λ b within. absurd (omega (arith, within.0, within.1)); others = λ b apart. refl }
-
-  pub one_more_cleared : (count : ℕ) (new : List (Option T)) → first + count < length new → AreCleared first count old new → AreCleared first (count + 1) old (set new (first + count) None)
-  one_more_cleared count new below was = record {
-    table = length-set new (first + count) None ∙ was.table;
-    run = λ b within. elim (cases_lt b (first + count)) [
-      | inl earlier ↦ get_or-set_other new (first + count) b None None (λ (is : b ≡ first + count). omega (arith, is, earlier)) ∙ was.run b (within.0, earlier)
-      | inr past ↦ let here : first + count ≡ b = omega (arith, past, within.1) in
-          subst (λ (k : ℕ). slice_index_or (set new (first + count) None) k None ≡ None) here (get_or-set_same new (first + count) None None below)
-    ];
-    others = λ b apart.
-        get_or-set_other new (first + count) b None None (λ (is : b ≡ first + count). apart (omega (arith, is), omega (arith, is)))
-        ∙ was.others b (λ within. apart (within.0, omega (arith, within.1)));
-  }
-
-  pub one_cleared : first < length old → AreCleared first 1 old (set old first None)
-  one_cleared below = let at : first + 0 ≡ first = omega arith in let one : 0 + 1 ≡ 1 = omega arith in
-      subst (λ (k : ℕ). AreCleared first 1 old (set old k None)) at (subst (λ (n : ℕ). AreCleared first n old (set old (first + 0) None)) one (one_more_cleared 0 old (omega (arith, below)) none_cleared))
-
--- none of the blocks is pending then, and each other is as before
+-- none of the blocks whose places are cleared is pending then, and each other is as before
 pub cleared_without : {T : Type 0} (most : ℕ) (run : Run) (old new : List (Option T)) → IsRun most (IsPending old) run.first run.count → AreCleared run.first run.count old new → IsWithoutRun most run (IsPending old) (IsPending new)
 cleared_without {T} most run old new was cleared = record {
   was = was;
