@@ -193,8 +193,40 @@ impl Home {
         ensures size { D.size disk.new ≡ D.size disk.old }
         ensures cause { disk_error.HasCause DiskError.WriteFault (D.failures disk.old) (D.failures disk.new) result }
     {
+        self.write_run(disk, block, bytes)
+    }
+
+    /// Writes over as many bytes of the home region as there are, from a block on, by one device call. Until a sync, a stop
+    /// may leave any bytes in their places.
+    ///
+    /// 102 `WriteFault`: some of it may be written, so a read may give any bytes in these places, and a stop may leave any.
+    /// 100 `Memory`: nothing changed.
+    pub fn write_run<D: Disk>(
+        &self,
+        disk: &mut D,
+        first: u32,
+        bytes: &[u8],
+    ) -> Result<(), DiskError>
+        requires on_disk { disk_size_of self.now.superblock.geometry ≤ D.size disk.old }
+        requires within { 4096 * first + length bytes.now ≤ 4096 * self.now.superblock.geometry.blocks }
+
+        ensures gives { D.keeps_model → OnOk result (Holds (inside (places.home_part self.now.superblock.geometry) (D.gives disk.old)) (4096 * first) bytes.now
+            (inside (places.home_part self.now.superblock.geometry) (D.gives disk.new))) }
+        ensures failed { D.keeps_model → OnErr result (Torn (4096 * first) (length bytes.now) (inside (places.home_part self.now.superblock.geometry) (D.gives disk.old))
+            (inside (places.home_part self.now.superblock.geometry) (D.gives disk.new))) }
+        ensures leaves { D.keeps_model → Follows (Torn (4096 * first) (length bytes.now)) (LeftInside (places.home_part self.now.superblock.geometry) (D.may_leave_now disk.old))
+            (LeftInside (places.home_part self.now.superblock.geometry) (D.may_leave_now disk.new)) }
+        ensures unwritten { D.keeps_model → IsErrOf result DiskError.Memory → D.gives disk.new ≡ D.gives disk.old }
+        ensures memory { D.keeps_model → IsErrOf result DiskError.Memory → NothingNew (D.may_leave_now disk.old) (D.may_leave_now disk.new) }
+
+        ensures frame { D.keeps_model → TouchesOnly D.gives D.may_leave_now D.moment D.may_have_left_since (places.home_part self.now.superblock.geometry) disk.old disk.new }
+        ensures time { D.keeps_model → Elapses (D.moment disk.old) (D.moment disk.new)
+            (D.may_have_left_since disk.old) (D.may_have_left_since disk.new) (D.may_leave_now disk.new) }
+        ensures size { D.size disk.new ≡ D.size disk.old }
+        ensures cause { disk_error.HasCause DiskError.WriteFault (D.failures disk.old) (D.failures disk.new) result }
+    {
         let part = home_part(self.superblock.geometry());
-        part.write_at(disk, BLOCK_SIZE * u64::from(block), bytes)
+        part.write_at(disk, BLOCK_SIZE * u64::from(first), bytes)
     }
 
     /// Syncs the disk. After it, a stop leaves what a read gives, of the home region and of all else.

@@ -1,8 +1,8 @@
 -- Pending images in memory.
-use Rattle.std.proofs.Common.{◌≡◌, ℕ, ◌<◌, List, [], ◌∷◌, ◌++◌, length, map, set, get_or, Box, Global, refl, sym, ◌∙◌, ap, subst, inl, inr, ⊎_elim}
+use Rattle.std.proofs.Common.{◌≡◌, ℕ, ◌+◌, ◌<◌, List, [], ◌∷◌, ◌++◌, length, map, set, get_or, Box, Global, refl, sym, ◌∙◌, ap, subst, inl, inr, ⊎_elim}
 use Rattle.std.specs.Prelude.{All, Option, Some, None, IfSome, is_some, option_map}
 use Rattle.std.proofs.Math.ListN.{get_or-map as get_or-map-any}
-use Rattle.flusher.specs.Plan.{IsFrom, IsLeast, IsNext, IsPending, NonePending, behind}
+use Rattle.flusher.specs.Plan.{IsFrom, IsLeast, IsNext, IsPending, IsRun, NonePending, behind}
 use Rattle.std.proofs.lemmas.List.{map-set, map_push, length-map, get_or-map}
 use Rattle.std.proofs.lemmas.List.Sums.{fold-append}
 use Rattle.gate_journal.specs.declared.batch.Image.{Image}
@@ -68,12 +68,21 @@ next_shown places last block is = ⊎_elim (λ next. inl (from (behind last) nex
       least = λ other above. least.least other (record { from = above.from; pending = back other above.pending });
     }
 
+-- and so is its run
+pub run_shown : (places : List (Option Boxed)) (most first count : ℕ) → IsRun most (IsPending places) first count → IsRun most (IsPending (shown places)) first count
+run_shown places most first count is = record {
+  whole = λ b within. as_full places b ∙ is.whole b within;
+  some = is.some;
+  few = is.few;
+  longest = ⊎_elim (λ full. inl full) (λ empty. inr (λ is_shown. empty (sym (as_full places (first + count)) ∙ is_shown))) is.longest;
+}
+
 pub none_shown : (places : List (Option Boxed)) → NonePending (IsPending places) → NonePending (IsPending (shown places))
 none_shown places empty = λ b full. empty b (sym (as_full places b) ∙ full)
 
 pub none_within : (places : List (Option Boxed)) → NonePending (IsPending (shown places)) → NonePending (IsPending places)
 none_within places empty = λ b full. empty b (as_full places b ∙ full)
 
-pub some_next : {P Q : ℕ → Type 0} (given : Option ℕ) → ((block : ℕ) → P block → Q block) → IfSome given P → IfSome given Q
+pub some_next : {T : Type 0} {P Q : T → Type 0} (given : Option T) → ((block : T) → P block → Q block) → IfSome given P → IfSome given Q
 some_next None from is = tt
 some_next (Some block) from is = from block is

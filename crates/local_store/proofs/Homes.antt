@@ -22,7 +22,7 @@ some_is {x} same = ap (λ (o : Option (List ℕ)). unwrap_or o x) same
 empty_isnt : IsSome {T = List ℕ} None → ⊥
 empty_isnt is = both_ways false refl is
 
-some_is_none : {x : List ℕ} → Some x ≡ None → ⊥
+pub some_is_none : {x : List ℕ} → Some x ≡ None → ⊥
 some_is_none {x} same = absurd (empty_isnt (subst IsSome same refl))
 
 -- one image more, of a block that is on disk elsewhere

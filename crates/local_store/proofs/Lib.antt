@@ -2,6 +2,7 @@ mod ArmedSteps
 mod Boxes
 mod Changing
 mod Homes
+mod Joined
 mod Opening
 mod Overlays
 mod Refusals

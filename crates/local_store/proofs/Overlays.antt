@@ -7,6 +7,7 @@ use Rattle.std.proofs.lemmas.Bool.{cases_Bool, cases_lt, both_ways}
 use Rattle.std.proofs.lemmas.List.{drop-drop, drop-take, take-take}
 use Rattle.std.proofs.lemmas.Bool.Decides.{nat_tests}
 use Rattle.disk_model.specs.Disk.{Torn}
+use Rattle.flusher.specs.Plan.{IsWithin}
 use Rattle.gate_journal.specs.Batch.{Batch}
 use Rattle.gate_journal.specs.declared.batch.Image.{Image}
 use Rattle.local_store.specs.Overlay.{placed, with_images, with_batches, covers, is_covered, FitsIn, AllFitIn, BatchesCover, UncoveredBlocksStay}
@@ -143,6 +144,18 @@ torn_block b k old new torn apart =
     elim (cases_lt k b) [
       | inl below ↦ before 4096 (4096 * k) (4096 * b) old new (omega (arith, below)) torn.before
       | inr above ↦ after 4096 (4096 * k) (4096 * b + 4096) old new (omega (arith, above, apart)) torn.after
+    ]
+
+-- and those that a torn write of a run leaves
+pub torn_run : (first count k : ℕ) (old new : List ℕ) → Torn (4096 * first) (4096 * count) old new → (¬ IsWithin first count k) → block_of new k ≡ block_of old k
+unfolding block_of
+torn_run first count k old new torn apart =
+    elim (cases_lt k first) [
+      | inl below ↦ before 4096 (4096 * k) (4096 * first) old new (omega (arith, below)) torn.before
+      | inr from ↦ elim (cases_lt k (first + count)) [
+        | inl within ↦ absurd (apart (from, within))
+        | inr past ↦ after 4096 (4096 * k) (4096 * first + 4096 * count) old new (omega (arith, past)) torn.after
+      ]
     ]
 
 pub batches_cover : BatchesCover

@@ -18,5 +18,5 @@ run_is_slice volume bytes first count is =
     is ∙ slice_is (count * 4096) (first * 4096) volume ∙ ap (λ s. take (count * 4096) (drop s volume)) at ∙ ap (λ k. take k (drop (4096 * first) volume)) n
 
 -- bytes that are written back over as many
-pub written_back : (n : ℕ) (new old : List ℕ) → length new ≡ n → take n (new ++ drop (length new) old) ≡ new
+pub written_back : {T : Type 0} (n : ℕ) (new old : List T) → length new ≡ n → take n (new ++ drop (length new) old) ≡ new
 written_back n new old long = rw (← long) (take-append_seam new (drop (length new) old))

@@ -1,5 +1,5 @@
 -- A store on its disk: what the three parts come to together.
-use Rattle.std.proofs.Common.{◌≡◌, ℕ, ◌*◌, ◌<◌, ◌≤◌, true, false, List, [], ◌∷◌, ◌++◌, length, replicate, refl, sym, ◌∙◌, ap, subst, inl, inr, ◌⊎◌, ⊎_elim, arith}
+use Rattle.std.proofs.Common.{◌≡◌, ℕ, ◌+◌, ◌*◌, ◌<◌, ◌≤◌, true, false, List, [], ◌∷◌, ◌++◌, length, replicate, refl, sym, ◌∙◌, ap, subst, inl, inr, ◌⊎◌, ⊎_elim, arith}
 use Rattle.std.specs.Prelude.{All, Option, Some, None}
 use Rattle.std.proofs.lemmas.List.Elements.{All-head, All-tail, All-nil, All-cons}
 use Rattle.block_cache.specs.Cache.{Agrees, Blocks, agrees_empty}
@@ -23,9 +23,10 @@ use Rattle.home_blocks.specs.declared.progress.Progress.TheVariants.{Whole}
 use Rattle.local_store.specs.Meaning.{Means}
 use Rattle.local_store.specs.Kept.{old_meaning, parts_mean, stored_means}
 use Rattle.local_store.specs.Overlay.{with_batches, with_images, is_covered, AllFitIn, FitsIn}
-use Rattle.local_store.specs.Pending.{IsHome, AreHomeOrPending, held, with_all_pending}
+use Rattle.local_store.specs.Pending.{AreCleared, AreJoined, IsHome, AreHomeOrPending, held, with_all_pending}
 use Rattle.volume.specs.declared.geometry.Geometry.{Geometry}
 use Rattle.local_store.specs.Store.{State, IsOfSuperblock, IsStored, committed, geometry_of, meaning_after, meaning_in, with_home}
+use Rattle.local_store.proofs.Joined.{joined_torn, run_home}
 use Rattle.local_store.proofs.Homes.{as_it_is, block_home, block_torn, length-home, more_batches, one_batch}
 
 -- a settled home's superblock is held by bytes with such a first part
@@ -183,6 +184,34 @@ module _ {D : Type 0} {gives : D → List ℕ} {may_leave : D → List ℕ → T
       where
         is_whole : b < (geometry_of store).blocks → length bytes ≡ 4096
         is_whole below = ap length (was.region.waits.image b bytes full) ∙ length-block_of v b (omega (arith, below, was.region.waits.size))
+
+  -- a run of blocks written home, at any moment and after it
+  module _ (first count : ℕ) (bytes : List ℕ) (joined : AreJoined store.pending first count bytes) (run : TouchesOnly gives may_leave moment left_since (home_part (geometry_of store)) old new)
+      (follows : Follows (Torn (4096 * first) (4096 * count)) (LeftInside (home_part (geometry_of store)) (may_leave old)) (LeftInside (home_part (geometry_of store)) (may_leave new))) where
+    pub run_leaves : ((c : List ℕ) → left_since old (moment old) c → may_leave old c) → Elapses (moment old) (moment new) (left_since old) (left_since new) (may_leave new)
+        → LeavesOnly moment left_since old new (Means (meaning_in store v))
+    run_leaves only_now time =
+        at_any_moment (HoldsSuperblock store.home.superblock) (λ c. HoldsBatches store.journal.blocks store.journal.before was.batches (inside store.journal.part c))
+        (λ c. with_batches (inside (home_part (geometry_of store)) c) was.batches ≡ v) (Means (meaning_in store v))
+        (superblock_stays (home_from_superblock (geometry_of store)) run) (area_stays (home_from_area of) run)
+        (write_goes_on (home_part (geometry_of store)) (λ x. with_batches x was.batches ≡ v) new (may_leave old) (4096 * first) (4096 * count)
+        (started_inside (home_part (geometry_of store)) (λ x. with_batches x was.batches ≡ v) old (may_leave old) only_now was.region.left) time follows
+        (λ x y may torn. joined_torn first count bytes joined was.region x y may torn))
+        (old_meaning store v was.batches of was.is_whole was.area.front)
+
+    pub run_keeps : (pending : List (Option (List ℕ))) (cache : Blocks) → AreCleared first count store.pending pending → Agrees cache (inside (home_part (geometry_of store)) (gives new)) → first + count ≤ (geometry_of store).blocks
+        → Holds (inside (home_part (geometry_of store)) (gives old)) (4096 * first) bytes (inside (home_part (geometry_of store)) (gives new))
+        → IsStored (record store { pending = pending; cache = cache }) v (gives new) (may_leave new)
+    run_keeps pending cache cleared agrees within holds = record {
+      stands = record { part = of.part; slot = of.slot; blocks = of.blocks; before = of.before };
+      cached = agrees;
+      superblock = still_settled_home (run.others superblock_part (home_from_superblock (geometry_of store))) was.superblock;
+      is_whole = was.is_whole;
+      batches = was.batches;
+      area = still_settled (run.others store.journal.part (home_from_area of)) was.area;
+      region = run_home first count bytes joined was.region pending (inside (home_part (geometry_of store)) (gives new)) (LeftInside (home_part (geometry_of store)) (may_leave new)) within cleared holds follows;
+      runs = was.runs;
+    }
 
   -- calls that keep the home region as it is, until the superblock changes
   pub reads_keep_store : OnlyReads gives may_leave moment left_since old new → IsStored store v (gives new) (may_leave new)

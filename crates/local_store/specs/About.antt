@@ -1,5 +1,7 @@
 -- What a store tells of itself, whatever it is kept on.
-use Rattle.std.specs.Prelude.{◌≢◌, ℕ, ◌+◌, ◌<◌, ◌≤◌, Bool, List}
+use Rattle.std.specs.Prelude.{◌≢◌, ◌↔◌, ℕ, ◌+◌, ◌<◌, ◌≤◌, Bool, List}
+use Rattle.flusher.specs.Plan.{IsRun, IsWithin}
+use Rattle.flusher.specs.declared.plan.Run.{Run}
 use Rattle.gate_journal.specs.Batch.{batch_size}
 use Rattle.gate_journal.specs.declared.batch.Image.{Image}
 use Rattle.local_store.specs.Meaning.{Meaning}
@@ -58,3 +60,13 @@ pub record IsOneLess (block : ℕ) (old new : ℕ → Type 0) : Type 0 where
   pub was : old block
   pub is_home : new block → ⊥
   pub others : (b : ℕ) → b ≢ block → (old b → new b) × (new b → old b)
+
+-- two of these blocks stand one behind the other
+abbrev pub HasNeighbours : (ℕ → Type 0) → Type 0
+HasNeighbours is_pending = (b : ℕ) × is_pending b × is_pending (b + 1)
+
+-- The blocks of the run were pending, the longest of `most` blocks at most, and now they aren't; of each other it is as
+-- before.
+pub record IsWithoutRun (most : ℕ) (run : Run) (old new : ℕ → Type 0) : Type 0 where
+  pub was : IsRun most old run.first run.count
+  pub others : (b : ℕ) → new b ↔ (old b × (¬ IsWithin run.first run.count b))

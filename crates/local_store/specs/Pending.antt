@@ -1,5 +1,6 @@
 -- What is in a journal area and not yet home.
-use Rattle.std.specs.Prelude.{◌≡◌, ℕ, ◌*◌, ◌<◌, true, Option, Some, None, List, length, fold, set, slice_index_or}
+use Rattle.std.specs.Prelude.{◌≡◌, ℕ, ◌+◌, ◌*◌, ◌<◌, true, Option, Some, None, List, length, fold, set, slice_index_or}
+use Rattle.flusher.specs.Plan.{IsWithin}
 use Rattle.gate_journal.specs.Batch.{Batch}
 use Rattle.gate_journal.specs.declared.batch.Image.{Image}
 use Rattle.local_store.specs.Overlay.{with_batches, is_covered, AllFitIn}
@@ -32,3 +33,14 @@ pub record IsHome (blocks : ℕ) (volume : List ℕ) (batches : List Batch) (pen
   pub fit : AllFitIn blocks batches
   pub long : (x : List ℕ) → may_leave x → length x ≡ 4096 * blocks
   pub left : (x : List ℕ) → may_leave x → with_batches x batches ≡ volume
+
+-- the bytes are the pending images of so many blocks from the first one on, one behind the other
+pub record AreJoined (pending : List (Option (List ℕ))) (first count : ℕ) (bytes : List ℕ) : Type 0 where
+  pub size : length bytes ≡ 4096 * count
+  pub images : (i : ℕ) → i < count → held pending (first + i) ≡ Some (block_of bytes i)
+
+-- the places of so many blocks from the first one on are empty, and each other is as it was
+pub record AreCleared {T : Type 0} (first count : ℕ) (old new : List (Option T)) : Type 0 where
+  pub table : length new ≡ length old
+  pub run : (b : ℕ) → IsWithin first count b → slice_index_or new b None ≡ None
+  pub others : (b : ℕ) → (¬ IsWithin first count b) → slice_index_or new b None ≡ slice_index_or old b None

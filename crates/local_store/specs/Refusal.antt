@@ -78,6 +78,13 @@ IsOfTicking Broken = Unit {0}
 IsOfTicking (Device error) = disk.MayTell faults.WriteFault error
 IsOfTicking _ = ⊥
 
+-- what a tick of a run may be refused with
+abbrev pub IsOfTickingRun : Refusal → Type 0
+IsOfTickingRun Memory = Unit {0}
+IsOfTickingRun Broken = Unit {0}
+IsOfTickingRun (Device error) = disk.MayTell faults.WriteFault error
+IsOfTickingRun _ = ⊥
+
 -- what a checkpoint may be refused with
 abbrev pub IsOfCheckpoint : Refusal → Type 0
 IsOfCheckpoint Full = Unit {0}

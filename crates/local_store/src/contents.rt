@@ -1,11 +1,11 @@
 //! What a member's disk holds, as its store knows it. Each call is lent the disk.
-ghost use Rattle.std.specs.Prelude.{◌≡◌, ◌≢◌, ◌⊎◌, ◌+◌, ◌*◌, ◌<◌, ◌≤◌, ◌↔◌, ℕ, List, Some, None, true, false, length, take, drop, Any, replicate, set, IfOk, IfErr, IfNone, IfSome, OnOk, OnErr, IsErrOf, IsSome};
-ghost use Rattle.disk_model.specs.Disk.{LeavesOnly, Only};
+ghost use Rattle.std.specs.Prelude.{◌≡◌, ◌≢◌, ◌⊎◌, ◌+◌, ◌-◌, ◌*◌, ◌^◌, ◌<◌, ◌≤◌, ◌↔◌, ℕ, List, Some, None, true, false, length, take, drop, Any, replicate, set, IfOk, IfErr, IfNone, IfSome, OnOk, OnErr, IsErrOf, IsSome};
+ghost use Rattle.disk_model.specs.Disk.{LeavesOnly, Only, put};
 ghost use Rattle.gate_journal.specs.Batch.{AreImages};
 ghost use Rattle.gate_journal.specs.Journal as journals;
 ghost use Rattle.gate_journal.specs.Pair.{stored};
-ghost use Rattle.block_cache.specs.Cache.{IsCached};
-ghost use Rattle.flusher.specs.Plan.{IsNext, IsPending, NonePending};
+ghost use Rattle.block_cache.specs.Cache.{Agrees, IsCached};
+ghost use Rattle.flusher.specs.Plan.{IsNext, IsPending, IsRun, IsWithin, NonePending};
 ghost use Rattle.home_blocks.specs.Area as areas;
 ghost use Rattle.home_blocks.specs.Home.{IsNoVolume, IsOtherVersion};
 ghost use Rattle.home_blocks.specs.Places as places;
@@ -14,18 +14,18 @@ ghost use Rattle.gate_journal.specs.Runs.{OnlyReads};
 ghost use Rattle.disk_model.specs.Part.{inside};
 ghost use Rattle.volume.specs.Writes.{block_of};
 ghost use Rattle.home_blocks.specs.Superblock.{marked};
-ghost use Rattle.local_store.specs.About.{HasNoRoom, HasRoom, about_of};
+ghost use Rattle.local_store.specs.About.{HasNeighbours, HasNoRoom, HasRoom, IsWithoutRun, about_of};
 ghost use Rattle.local_store.specs.Meaning.{HasDamagedArea, IsUnfinished, Means};
 ghost use Rattle.local_store.specs.Overlay.{with_images};
-ghost use Rattle.local_store.specs.Pending.{held};
-ghost use Rattle.local_store.specs.Refusal.{HasCause, IsCaused, IsOfCheckpoint, IsOfCommitting, IsOfDevice, IsOfFormatting, IsOfOpening, IsOfReading, IsOfTicking};
+ghost use Rattle.local_store.specs.Pending.{AreCleared, held};
+ghost use Rattle.local_store.specs.Refusal.{HasCause, IsCaused, IsOfCheckpoint, IsOfCommitting, IsOfDevice, IsOfFormatting, IsOfOpening, IsOfReading, IsOfTicking, IsOfTickingRun};
 ghost use Rattle.local_store.specs.Store.{IsAllHome, IsEmptied, IsFreshJournal, IsOfSuperblock, IsSameButForPending, IsStored, State, committed, geometry_of, meaning_after, meaning_in, with_home};
 
 use crate::pending::{Pending, stage};
 use crate::refusal::Refusal;
 use block_cache::Cache;
 use disk_model::Disk;
-use flusher::Plan;
+use flusher::{Plan, Run};
 use gate_journal::{Image, Journal, MAX_NUMBER, Slot, Synced};
 use home_blocks::{Area, Home, Progress, Superblock, area_part, home_part};
 use std::alloc::Global;
@@ -430,6 +430,133 @@ impl Contents {
         Ok(())
     }
 
+    /// Writes the next pending block home, and those behind it without a gap, at most so many, by one device call; gives the
+    /// run; `None` exactly where nothing is pending. The plan says which is the next.
+    ///
+    /// 122 `Broken` exactly where a device call failed before; 100 `Memory` where there is no room for the run's bytes, of
+    /// which one block needs none: these change nothing, the plan neither. After a refusal of the device the store is broken,
+    /// and the disk means what it meant.
+    pub fn tick_run<D: Disk>(
+        &mut self,
+        alloc: Global,
+        disk: &mut D,
+        plan: &mut Plan,
+        most: u32,
+    ) -> Result<Option<Run>, Refusal>
+        requires on_disk { disk_size_of (geometry_of self.old) ≤ D.size disk.old }
+        requires some { 0 < most }
+
+        ensures next { IfOk result (λ given. IfSome given (λ run. IsNext plan.old (IsPending self.old.pending) run.first)) }
+        ensures home { IfOk result (λ given. IfSome given (λ run. IsWithoutRun most run (IsPending self.old.pending) (IsPending self.new.pending))) }
+        ensures given { IfOk result (λ given. IfSome given (λ run. plan.new ≡ Some (run.first + run.count - 1))) }
+        ensures none { IfOk result (λ given. IfNone given ((self.new ≡ self.old) × (disk.new ≡ disk.old) × (plan.new ≡ plan.old) × NonePending (IsPending self.old.pending))) }
+        ensures ok { OnOk result (self.new ≡ record self.old { pending = self.new.pending; cache = self.new.cache }) }
+        ensures stored { D.keeps_model → (volume : List ℕ) → IsStored self.old volume (D.gives disk.old) (D.may_leave_now disk.old)
+            → OnOk result (IsStored self.new volume (D.gives disk.new) (D.may_leave_now disk.new)) }
+
+        // A stop at any moment of the call leaves a disk that means what it meant.
+        ensures any_moment { D.keeps_model → (volume : List ℕ) → IsStored self.old volume (D.gives disk.old) (D.may_leave_now disk.old)
+            → LeavesOnly D.moment D.may_have_left_since disk.old disk.new (Means (meaning_in self.old volume)) }
+        ensures size { D.size disk.new ≡ D.size disk.old }
+        ensures broken { IsErrOf result Refusal.Broken ↔ (self.old.broken ≡ true) }
+        ensures memory { IsErrOf result Refusal.Memory → (1 < most) × HasNeighbours (IsPending self.old.pending) }
+        ensures told { IfErr result IsOfTickingRun }
+        ensures unchanged { IfErr result (λ r. ¬ IsOfDevice r → (self.new ≡ self.old) × (disk.new ≡ disk.old) × (plan.new ≡ plan.old)) }
+        ensures device { IfErr result (λ r. IsOfDevice r → self.new ≡ record self.old { cache = self.new.cache; broken = true }) }
+        ensures cause { HasCause (D.failures disk.old) (D.failures disk.new) result }
+    {
+        if self.broken {
+            return Err(Refusal::Broken);
+        }
+        let mut next = *plan;
+        let Some(run) = self.next_run(&mut next, most) else {
+            return Ok(None);
+        };
+        self.bring_run_home(alloc, disk, run)?;
+        *plan = next;
+        Ok(Some(run))
+    }
+
+    /// The next run of pending blocks, by the plan.
+    fn next_run(&mut self, plan: &mut Plan, most: u32) -> Option<Run>
+        requires { 0 < most }
+        ensures next { IfSome result (λ run. IsNext plan.old (IsPending self.old.pending) run.first) }
+        ensures run { IfSome result (λ run. IsRun most (IsPending self.old.pending) run.first run.count) }
+        ensures given { IfSome result (λ run. plan.new ≡ Some (run.first + run.count - 1)) }
+        ensures within { IfSome result (λ run. run.first + run.count ≤ (geometry_of self.old).blocks) }
+        ensures none { result ≡ None → NonePending (IsPending self.old.pending) }
+        ensures same { self.new ≡ self.old }
+    {
+        self.pending.next_run(plan, most)
+    }
+
+    /// Writes a run of pending blocks home, by one device call. One block needs no memory.
+    fn bring_run_home<D: Disk>(
+        &mut self,
+        alloc: Global,
+        disk: &mut D,
+        run: Run,
+    ) -> Result<(), Refusal>
+        requires on_disk { disk_size_of (geometry_of self.old) ≤ D.size disk.old }
+        requires some { 0 < run.count }
+        requires within { run.first + run.count ≤ (geometry_of self.old).blocks }
+        requires pending { (b : ℕ) → IsWithin run.first run.count b → IsPending self.old.pending b }
+        requires runs { self.old.broken ≡ false }
+        ensures ok { OnOk result (self.new ≡ record self.old { pending = self.new.pending; cache = self.new.cache }) }
+        ensures cleared { OnOk result (AreCleared run.first run.count self.old.pending self.new.pending) }
+        ensures stored { D.keeps_model → (volume : List ℕ) → IsStored self.old volume (D.gives disk.old) (D.may_leave_now disk.old)
+            → OnOk result (IsStored self.new volume (D.gives disk.new) (D.may_leave_now disk.new)) }
+        ensures any_moment { D.keeps_model → (volume : List ℕ) → IsStored self.old volume (D.gives disk.old) (D.may_leave_now disk.old)
+            → LeavesOnly D.moment D.may_have_left_since disk.old disk.new (Means (meaning_in self.old volume)) }
+        ensures size { D.size disk.new ≡ D.size disk.old }
+        ensures memory { IsErrOf result Refusal.Memory → 1 < run.count }
+        ensures runs { ¬ IsErrOf result Refusal.Broken }
+        ensures told { IfErr result IsOfTickingRun }
+        ensures unchanged { IfErr result (λ r. ¬ IsOfDevice r → (self.new ≡ self.old) × (disk.new ≡ disk.old)) }
+        ensures device { IfErr result (λ r. IsOfDevice r → self.new ≡ record self.old { cache = self.new.cache; broken = true }) }
+        ensures cause { HasCause (D.failures disk.old) (D.failures disk.new) result }
+    {
+        if run.count == 1 {
+            return self.bring_home(disk, run.first);
+        }
+        self.bring_joined_home(alloc, disk, run)
+    }
+
+    /// Writes a run of pending blocks home, joined in one buffer, by one device call.
+    fn bring_joined_home<D: Disk>(
+        &mut self,
+        alloc: Global,
+        disk: &mut D,
+        run: Run,
+    ) -> Result<(), Refusal>
+        requires on_disk { disk_size_of (geometry_of self.old) ≤ D.size disk.old }
+        requires within { run.first + run.count ≤ (geometry_of self.old).blocks }
+        requires pending { (b : ℕ) → IsWithin run.first run.count b → IsPending self.old.pending b }
+        requires runs { self.old.broken ≡ false }
+        ensures ok { OnOk result (self.new ≡ record self.old { pending = self.new.pending; cache = self.new.cache }) }
+        ensures cleared { OnOk result (AreCleared run.first run.count self.old.pending self.new.pending) }
+        ensures stored { D.keeps_model → (volume : List ℕ) → IsStored self.old volume (D.gives disk.old) (D.may_leave_now disk.old)
+            → OnOk result (IsStored self.new volume (D.gives disk.new) (D.may_leave_now disk.new)) }
+        ensures any_moment { D.keeps_model → (volume : List ℕ) → IsStored self.old volume (D.gives disk.old) (D.may_leave_now disk.old)
+            → LeavesOnly D.moment D.may_have_left_since disk.old disk.new (Means (meaning_in self.old volume)) }
+        ensures size { D.size disk.new ≡ D.size disk.old }
+        ensures runs { ¬ IsErrOf result Refusal.Broken }
+        ensures told { IfErr result IsOfTickingRun }
+        ensures unchanged { IfErr result (λ r. ¬ IsOfDevice r → (self.new ≡ self.old) × (disk.new ≡ disk.old)) }
+        ensures device { IfErr result (λ r. IsOfDevice r → self.new ≡ record self.old { broken = true }) }
+        ensures cause { HasCause (D.failures disk.old) (D.failures disk.new) result }
+    {
+        let bytes = self.pending.joined(alloc, run.first, run.count)?;
+        if let Err(error) = self.home.write_run(disk, run.first, &bytes) {
+            // A broken store reads nothing, so the cache is left as it is.
+            self.broken = true;
+            return Err(Refusal::Device(error));
+        }
+        renew_run(&mut self.cache, run.first, run.count, &bytes);
+        self.pending.drop_run(run.first, run.count);
+        Ok(())
+    }
+
     /// Writes all pending blocks home, and makes the other area the current one: one device call a pending block and nine
     /// more. After it nothing is pending, and the area is empty.
     ///
@@ -516,6 +643,18 @@ impl Contents {
                 Err(refusal)
             }
         }
+    }
+}
+
+/// Tells the cache of a run of blocks that was written home.
+fn renew_run(cache: &mut Cache, first: u32, count: u32, bytes: &[u8])
+    requires within { first + count < 2 ^ 32 }
+    requires whole { length bytes.now ≡ 4096 * count }
+    ensures { (home : List ℕ) → 4096 * (first + count) ≤ length home → Agrees cache.old home → Agrees cache.new (put home (4096 * first) bytes.now) }
+{
+    for i in 0..count {
+        let start = i as usize * BLOCK_SIZE as usize;
+        cache.renew(first + i, &bytes[start..start + BLOCK_SIZE as usize]);
     }
 }
 

@@ -1,8 +1,8 @@
 //! The store: one disk that means a member's slot, incarnation, front and volume.
 //!
-//! Its contract for the layers above: while a store keeps a volume, a stop at any moment of a `tick` or a `checkpoint`
-//! leaves a disk that means that front and volume, and at any moment of a `commit` these or the new ones; after Ok it
-//! keeps the volume that the call says. `open` finds what a disk means. What the numbers of the fronts stand for, and
+//! Its contract for the layers above: while a store keeps a volume, a stop at any moment of a `tick`, a `tick_run` or a
+//! `checkpoint` leaves a disk that means that front and volume, and at any moment of a `commit` these or the new ones;
+//! after Ok it keeps the volume that the call says. `open` finds what a disk means. What the numbers of the fronts stand for, and
 //! which blocks a write touches, is left to those layers.
 #![tactic(auto)]
 

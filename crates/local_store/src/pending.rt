@@ -1,11 +1,11 @@
 //! The images that are in the current area and not yet home.
-ghost use Rattle.std.specs.Prelude.{◌≡◌, ℕ, ◌+◌, ◌*◌, ◌<◌, ◌≤◌, Option, Some, None, unwrap_or, All, List, length, replicate, set, map, IfOk, IfSome, IfNone, option_map, ◌↔◌, ◌^◌};
-ghost use Rattle.flusher.specs.Plan.{IsNext, IsPending, NonePending};
+ghost use Rattle.std.specs.Prelude.{◌≡◌, ℕ, ◌+◌, ◌-◌, ◌*◌, ◌<◌, ◌≤◌, Option, Some, None, unwrap_or, All, List, length, replicate, set, map, IfOk, IfSome, IfNone, option_map, ◌↔◌, ◌^◌};
+ghost use Rattle.flusher.specs.Plan.{IsNext, IsPending, IsRun, IsWithin, NonePending};
 ghost use Rattle.gate_journal.specs.declared.batch.Image.{Image as Imaged};
-ghost use Rattle.local_store.specs.Pending.{held, with_all_pending, with_pending};
+ghost use Rattle.local_store.specs.Pending.{AreCleared, AreJoined, held, with_all_pending, with_pending};
 ghost use Rattle.volume.specs.Writes.{block_of};
 
-use flusher::Plan;
+use flusher::{Plan, Run};
 use gate_journal::{Batch, Image};
 use std::alloc::{AllocError, Global};
 use std::marker::Model;
@@ -113,6 +113,41 @@ impl Pending {
         block
     }
 
+    /// The next run of pending blocks, by the plan. That none is pending is looked up once, until an image is put in.
+    pub(crate) fn next_run(&mut self, plan: &mut Plan, most: u32) -> Option<Run>
+        requires size { length self.old < 2 ^ 32 }
+        requires some { 0 < most }
+        ensures next { IfSome result (λ run. IsNext plan.old (IsPending self.old) run.first) }
+        ensures run { IfSome result (λ run. IsRun most (IsPending self.old) run.first run.count) }
+        ensures given { IfSome result (λ run. plan.new ≡ Some (run.first + run.count - 1)) }
+        ensures none { (result ≡ None) ↔ NonePending (IsPending self.old) }
+        ensures unchanged { IfNone result (plan.new ≡ plan.old) }
+        ensures same { self.new ≡ self.old }
+    {
+        if self.none {
+            return None;
+        }
+        let run = plan.next_run(&self.images, most);
+        self.none = run.is_none();
+        run
+    }
+
+    /// The images of a run of pending blocks, one behind the other.
+    pub(crate) fn joined(
+        &self,
+        alloc: Global,
+        first: u32,
+        count: u32,
+    ) -> Result<Vec<u8>, AllocError>
+        requires within { first + count < 2 ^ 32 }
+        requires pending { (b : ℕ) → IsWithin first count b → IsPending self.now b }
+        ensures { IfOk result (λ bytes. AreJoined self.now first count bytes.items) }
+    {
+        let mut bytes = vec![in alloc; 0; count as usize * BLOCK_SIZE as usize]?;
+        self.put_over(first, count, &mut bytes);
+        Ok(bytes)
+    }
+
     /// The staged images are pending from now on.
     #[tactic(auto, using(crate::proofs::Boxes::one_more))]
     pub(crate) fn keep(&mut self, staged: Vec<Box<Image>>)
@@ -142,5 +177,16 @@ impl Pending {
         ensures { self.new ≡ set self.old block None }
     {
         self.images[block as usize] = None;
+    }
+
+    /// The blocks of a run are home.
+    pub(crate) fn drop_run(&mut self, first: u32, count: u32)
+        requires size { length self.old < 2 ^ 32 }
+        requires within { first + count ≤ length self.old }
+        ensures { AreCleared first count self.old self.new }
+    {
+        for i in 0..count {
+            self.drop_block(first + i);
+        }
     }
 }

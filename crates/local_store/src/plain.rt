@@ -1,16 +1,17 @@
 //! A store in memory, for tests, and as the plain program beside a store on a disk.
-ghost use Rattle.std.specs.Prelude.{◌≡◌, ◌⊎◌, ◌*◌, ◌<◌, ◌≤◌, ◌↔◌, ℕ, false, replicate, length, Any, IfErr, IfOk};
+ghost use Rattle.std.specs.Prelude.{◌≡◌, ◌⊎◌, ◌+◌, ◌*◌, ◌<◌, ◌≤◌, ◌↔◌, ℕ, false, replicate, length, Any, IfErr, IfOk};
 ghost use Rattle.flusher.specs.Plan.{IsPending};
 ghost use Rattle.disk_model.specs.Memory.{failures_of, size_of};
 ghost use Rattle.gate_journal.specs.Batch.{AreImages};
 ghost use Rattle.gate_journal.specs.declared.batch.TheConstants.{MAX_NUMBER};
 ghost use Rattle.local_store.specs.Overlay.{with_images};
+ghost use Rattle.local_store.specs.Pending.{AreCleared};
 ghost use Rattle.local_store.specs.Refusal.{HasCause, IsOfStamping};
 
 use crate::refusal::Refusal;
 use crate::store_like::StoreLike;
 use disk_model::{MemDisk, Part, Script};
-use flusher::Plan;
+use flusher::{Plan, Run};
 use gate_journal::{Image, Journal, MAX_NUMBER, Slot, Synced};
 use std::alloc::{AllocError, Global};
 use std::marker::Model;
@@ -107,6 +108,16 @@ fn put(volume: &mut [u8], pending: &mut [Option<()>], images: &[Image])
         let start = image.block as usize * BLOCK_SIZE as usize;
         volume[start..start + BLOCK_SIZE as usize].copy_from_slice(&image.bytes);
         pending[image.block as usize] = Some(());
+    }
+}
+
+/// The blocks of a run are pending no more.
+fn clear(pending: &mut [Option<()>], run: Run)
+    requires { run.first + run.count ≤ length pending.old }
+    ensures { AreCleared run.first run.count pending.old pending.new }
+{
+    for i in 0..run.count {
+        pending[run.first as usize + i as usize] = None;
     }
 }
 
@@ -242,6 +253,17 @@ impl StoreLike for PlainStore {
         };
         self.pending[block as usize] = None;
         Ok(Some(block))
+    }
+
+    fn tick_run(&mut self, _alloc: Global, most: u32) -> Result<Option<Run>, Refusal> {
+        if self.broken {
+            return Err(Refusal::Broken);
+        }
+        let Some(run) = self.plan.next_run(&self.pending, most) else {
+            return Ok(None);
+        };
+        clear(&mut self.pending, run);
+        Ok(Some(run))
     }
 
     fn checkpoint(&mut self) -> Result<(), Refusal> {

@@ -12,7 +12,7 @@ use crate::contents::Contents;
 use crate::refusal::Refusal;
 use crate::store_like::StoreLike;
 use disk_model::Disk;
-use flusher::Plan;
+use flusher::{Plan, Run};
 use gate_journal::{Image, MAX_NUMBER, Slot, Synced};
 use std::alloc::Global;
 use volume::Geometry;
@@ -182,6 +182,11 @@ impl<D: Disk + Drop> StoreLike for Store<D> {
 
     fn tick(&mut self) -> Result<Option<u32>, Refusal> {
         self.contents.tick(&mut self.disk, &mut self.plan)
+    }
+
+    fn tick_run(&mut self, alloc: Global, most: u32) -> Result<Option<Run>, Refusal> {
+        self.contents
+            .tick_run(alloc, &mut self.disk, &mut self.plan, most)
     }
 
     fn checkpoint(&mut self) -> Result<(), Refusal> {

@@ -2,13 +2,14 @@
 ghost use Rattle.std.specs.Prelude.{◌≡◌, ◌⊎◌, ◌+◌, ◌*◌, ◌<◌, ◌≤◌, ◌↔◌, ℕ, List, true, false, length, take, drop, Any, IfOk, IfErr, IfNone, IfSome, OnOk, OnErr, IsErrOf};
 ghost use Rattle.disk_model.specs.Disk.{LeavesOnly};
 ghost use Rattle.gate_journal.specs.Batch.{AreImages};
-ghost use Rattle.local_store.specs.About.{About, HasNoRoom, HasRoom, IsOneLess, meaning_then, meaning_with, one_checkpoint_more, one_commit_more};
+ghost use Rattle.local_store.specs.About.{About, HasNeighbours, HasNoRoom, HasRoom, IsOneLess, IsWithoutRun, meaning_then, meaning_with, one_checkpoint_more, one_commit_more};
 ghost use Rattle.local_store.specs.Meaning.{Means};
 ghost use Rattle.local_store.specs.Overlay.{with_images};
-ghost use Rattle.local_store.specs.Refusal.{HasCause, IsOfCheckpoint, IsOfCommitting, IsOfDevice, IsOfReading, IsOfTicking};
+ghost use Rattle.local_store.specs.Refusal.{HasCause, IsOfCheckpoint, IsOfCommitting, IsOfDevice, IsOfReading, IsOfTicking, IsOfTickingRun};
 ghost use Rattle.volume.specs.Writes.{block_of};
 
 use crate::refusal::Refusal;
+use flusher::Run;
 use gate_journal::{Image, MAX_NUMBER, Slot, Synced};
 use std::alloc::Global;
 use volume::{BLOCK_SIZE, Geometry};
@@ -140,6 +141,28 @@ pub trait StoreLike {
         ensures broken { IsErrOf result Refusal.Broken ↔ ((about self.old).broken ≡ true) }
         ensures told { IfErr result IsOfTicking }
         ensures err { OnErr result (about self.new ≡ record (about self.old) { broken = true }) }
+        ensures cause { HasCause (failures self.old) (failures self.new) result };
+
+    /// Writes the next pending block home, and those behind it without a gap, at most so many, by one device call; gives the
+    /// run; `None` exactly where nothing is pending.
+    ///
+    /// 122 `Broken` exactly where a device call failed before; 100 `Memory` where there is no room for the run's bytes, of
+    /// which one block needs none: nothing changed; and what the device refuses: then the store is broken.
+    fn tick_run(&mut self, alloc: Global, most: u32) -> Result<Option<Run>, Refusal>
+        requires { 0 < most }
+        ensures home { IfOk result (λ given. IfSome given (λ run. IsWithoutRun most run (is_pending self.old) (is_pending self.new))) }
+        ensures none { IfOk result (λ given. IfNone given ((b : ℕ) → is_pending self.old b → ⊥)) }
+        ensures ok { OnOk result (about self.new ≡ about self.old) }
+        ensures kept { keeps_model → (volume : List ℕ) → keeps self.old volume → OnOk result (keeps self.new volume) }
+
+        // A stop at any moment of the call leaves what means what it meant.
+        ensures any_moment { keeps_model → (volume : List ℕ) → keeps self.old volume → LeavesOnly moment may_have_left_since self.old self.new (Means (meaning_with (about self.old) volume)) }
+        ensures still { OnErr result ((b : ℕ) → is_pending self.new b ↔ is_pending self.old b) }
+        ensures broken { IsErrOf result Refusal.Broken ↔ ((about self.old).broken ≡ true) }
+        ensures memory { IsErrOf result Refusal.Memory → (1 < most) × HasNeighbours (is_pending self.old) }
+        ensures told { IfErr result IsOfTickingRun }
+        ensures unchanged { IfErr result (λ r. ¬ IsOfDevice r → (about self.new ≡ about self.old) × ((volume : List ℕ) → keeps self.old volume → keeps self.new volume) × ((b : ℕ) → is_pending self.new b ↔ is_pending self.old b)) }
+        ensures err { IfErr result (λ r. IsOfDevice r → about self.new ≡ record (about self.old) { broken = true }) }
         ensures cause { HasCause (failures self.old) (failures self.new) result };
 
     /// Writes all pending blocks home, and empties the area. After it nothing is pending.

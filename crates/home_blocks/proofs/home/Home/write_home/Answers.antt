@@ -1,39 +1,17 @@
-use Rattle.std.proofs.Common.{◌≡◌, ◌*◌, ℕ, OnOk, OnErr, length, ap, subst, ◌∙◌}
-use Rattle.disk_model.specs.Disk.{Follows, Holds, Torn}
+use Rattle.std.proofs.Common.{◌*◌, ℕ, OnErr, subst}
+use Rattle.disk_model.specs.Disk.{Follows, Torn}
 use Rattle.disk_model.specs.Part.{inside, LeftInside}
-use Rattle.disk_model.specs.declared.part.Part.{Part}
-use Rattle.home_blocks.specs.Home.{State}
 use Rattle.home_blocks.specs.Places.{home_part}
 use Rattle.home_blocks.proofs.home.Home.write_home.Goals as goal
 
-pub returns-clause-gives : goal.returns-clause-gives
-returns-clause-gives g c = λ keeps.
-    let sb = c.args.self.now.superblock in
-    let old = g.D.Disk.gives c.args.disk.now in
-    let new = g.D.Disk.gives c.write_at.new.disk in
-    let bytes = c.args.bytes.now in
-    let same : c.home_part-part.result ≡ home_part sb.geometry = c.home_part-part.ensures.part ∙ ap home_part (c.geometry.ensures ∙ ap (λ (h : State). h.superblock.geometry) c.self.view_is) in
-    subst (λ (k : ℕ). OnOk c.write_at.result (Holds (inside (home_part sb.geometry) old) (4096 * k) bytes (inside (home_part sb.geometry) new))) c.from.ensures
-    (subst (λ (part : Part). OnOk c.write_at.result (Holds (inside part old) (4096 * c.from.result) bytes (inside part new))) same (c.write_at.ensures.gives keeps))
-
 pub returns-clause-failed : goal.returns-clause-failed
 returns-clause-failed g c = λ keeps.
-    let sb = c.args.self.now.superblock in
-    let old = g.D.Disk.gives c.args.disk.now in
-    let new = g.D.Disk.gives c.write_at.new.disk in
-    let same : c.home_part-part.result ≡ home_part sb.geometry = c.home_part-part.ensures.part ∙ ap home_part (c.geometry.ensures ∙ ap (λ (h : State). h.superblock.geometry) c.self.view_is) in
-    let Failed : Part → ℕ → ℕ → Type 0 = λ part k n. OnErr c.write_at.result (Torn (4096 * k) n (inside part old) (inside part new)) in
-    subst (λ (n : ℕ). Failed (home_part sb.geometry) c.args.block n) c.requires.whole
-    (subst (λ (k : ℕ). Failed (home_part sb.geometry) k (length c.args.bytes.now)) c.from.ensures
-    (subst (λ (part : Part). Failed part c.from.result (length c.args.bytes.now)) same (c.write_at.ensures.failed keeps)))
+    let home = home_part c.args.self.now.superblock.geometry in
+    subst (λ (n : ℕ). OnErr c.write_run.result (Torn (4096 * c.args.block) n (inside home (g.D.Disk.gives c.args.disk.now)) (inside home (g.D.Disk.gives c.write_run.new.disk)))) c.requires.whole
+    (c.write_run.ensures.failed keeps)
 
 pub returns-clause-leaves : goal.returns-clause-leaves
 returns-clause-leaves g c = λ keeps.
-    let sb = c.args.self.now.superblock in
-    let old = g.D.Disk.may_leave_now c.args.disk.now in
-    let new = g.D.Disk.may_leave_now c.write_at.new.disk in
-    let same : c.home_part-part.result ≡ home_part sb.geometry = c.home_part-part.ensures.part ∙ ap home_part (c.geometry.ensures ∙ ap (λ (h : State). h.superblock.geometry) c.self.view_is) in
-    let Leaves : Part → ℕ → ℕ → Type 0 = λ part k n. Follows (Torn (4096 * k) n) (LeftInside part old) (LeftInside part new) in
-    subst (λ (n : ℕ). Leaves (home_part sb.geometry) c.args.block n) c.requires.whole
-    (subst (λ (k : ℕ). Leaves (home_part sb.geometry) k (length c.args.bytes.now)) c.from.ensures
-    (subst (λ (part : Part). Leaves part c.from.result (length c.args.bytes.now)) same (c.write_at.ensures.leaves keeps)))
+    let home = home_part c.args.self.now.superblock.geometry in
+    subst (λ (n : ℕ). Follows (Torn (4096 * c.args.block) n) (LeftInside home (g.D.Disk.may_leave_now c.args.disk.now)) (LeftInside home (g.D.Disk.may_leave_now c.write_run.new.disk))) c.requires.whole
+    (c.write_run.ensures.leaves keeps)

@@ -1,0 +1,24 @@
+use Rattle.std.proofs.Common.{subst}
+use Rattle.disk_model.specs.Disk.{LeavesOnly}
+use Rattle.local_store.specs.Meaning.{Means}
+use Rattle.local_store.specs.Store.{IsStored, State, meaning_in}
+use Rattle.local_store.proofs.Stored.{at_rest}
+use Rattle.local_store.proofs.contents.Contents.tick_run.Goals as goal
+
+pub returns-in_default-clause-any_moment : goal.returns-in_default-clause-any_moment
+returns-in_default-clause-any_moment g c = λ keeps v.
+    subst (λ (s : State). IsStored s v (g.D.Disk.gives c.args.disk.now) (g.D.Disk.may_leave_now c.args.disk.now) → LeavesOnly g.D.Disk.moment g.D.Disk.may_have_left_since c.args.disk.now c.args.disk.now (Means (meaning_in s v))) c.self.view_is
+    (λ was. at_rest c.args.disk.now c.self.invariant.journal was (g.met.D.Disk.only_now keeps c.args.disk.now))
+
+pub returns-clause-stored : goal.returns-clause-stored
+returns-clause-stored g c = λ keeps v was. c.in_ok-bring_run_home.ensures.stored keeps v (rw c.next_run.ensures.same was)
+
+pub returns-clause-any_moment : goal.returns-clause-any_moment
+returns-clause-any_moment g c = λ keeps v was.
+    subst (λ (s : State). LeavesOnly g.D.Disk.moment g.D.Disk.may_have_left_since c.args.disk.now c.bring_run_home.new.disk (Means (meaning_in s v))) c.next_run.ensures.same
+    (c.bring_run_home.ensures.any_moment keeps v (rw c.next_run.ensures.same was))
+
+pub returns-in_err-bring_run_home-clause-any_moment : goal.returns-in_err-bring_run_home-clause-any_moment
+returns-in_err-bring_run_home-clause-any_moment g c = λ keeps v was.
+    subst (λ (s : State). LeavesOnly g.D.Disk.moment g.D.Disk.may_have_left_since c.args.disk.now c.bring_run_home.new.disk (Means (meaning_in s v))) c.next_run.ensures.same
+    (c.bring_run_home.ensures.any_moment keeps v (rw c.next_run.ensures.same was))
