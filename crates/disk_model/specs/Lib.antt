@@ -6,6 +6,7 @@ pub mod Error
 pub mod Event
 pub mod File
 pub mod Frames
+pub mod Halves
 pub mod Images
 pub mod Kept
 pub mod Memory
