@@ -5,9 +5,11 @@
 
 mod content;
 mod disk;
+mod era;
 mod error;
 mod file;
 mod halves;
+mod halving;
 mod memory;
 mod part;
 mod script;
@@ -17,6 +19,6 @@ pub use disk::Disk;
 pub use error::DiskError;
 pub use file::{FileDisk, FilePast};
 pub use halves::HalvedDisk;
-pub use memory::MemDisk;
+pub use memory::{MemDisk, MemPast};
 pub use part::Part;
 pub use script::{Event, Script};
