@@ -5,7 +5,7 @@ use Rattle.std.proofs.Math.Nat.{le_refl}
 use Rattle.std.proofs.lemmas.List.{take_at, drop_at, drop-drop, drop-take, take-take}
 use Rattle.disk_model.specs.Part.{inside}
 use Rattle.disk_model.specs.declared.part.Part.{Part}
-use Rattle.disk_model.specs.Disk.{Elapses, LeavesOnly, NothingNew}
+use Rattle.disk_model.specs.Disk.{Elapses, LeavesOnly, NothingNew, Torn}
 
 -- What a read gives of the whole, and what a stop may leave of it, is that of its two halves, each on its own.
 pub record AreHalves (border : ℕ) (gives home_gives log_gives : List ℕ) (may_leave home_may_leave log_may_leave : List ℕ → Type 0) : Type 0 where
@@ -61,6 +61,10 @@ rejoined {moment = moment} {left_since} {log_moment} {log_left_since} {until = u
       home_run.each (take border c) (subst (λ (n : ℕ). left_since home_then n (take border c)) (sym home_begins) a),
       log_run.each (drop border c) (subst (λ (n : ℕ). log_left_since log_then n (drop border c)) (sym log_begins) x),
     )
+
+-- what a write of n bytes at this place may make of what may be left
+abbrev pub MayBeTorn : ℕ → ℕ → (List ℕ → Type 0) → List ℕ → Type 0
+MayBeTorn at n may_leave c = (d : List ℕ) × may_leave d × Torn at n d c
 
 -- what may be left below the border, of each content that may be left
 abbrev pub LeftBelow : ℕ → (List ℕ → Type 0) → List ℕ → Type 0

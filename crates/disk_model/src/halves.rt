@@ -1,6 +1,7 @@
 // A disk whose log half can be lent out, as a disk of its own.
-ghost use Rattle.std.specs.Prelude.{◌≡◌, ◌+◌, ◌≤◌, List, ℕ, max, IfOk, IfErr, OnErr};
-ghost use Rattle.disk_model.specs.Halves.{AreHalves, IsPast, IsUntouched, Rejoins};
+ghost use Rattle.std.specs.Prelude.{◌≡◌, ◌+◌, ◌≤◌, List, ℕ, length, drop, max, IfOk, IfErr, OnErr};
+ghost use Rattle.disk_model.specs.Disk.{LeavesOnly};
+ghost use Rattle.disk_model.specs.Halves.{AreHalves, Beside, IsPast, IsUntouched, LeftBehind, LeftBelow, MayBeTorn, Rejoins};
 
 use crate::{Disk, DiskError};
 
@@ -61,4 +62,24 @@ pub trait HalvedDisk: Disk {
 
     /// Where the disk keeps the disk model, so does its log.
     ghost log_keeps: { Self.keeps_model → Self.Log.keeps_model };
+}
+
+/// Writes below the border while the log is lent. The log is out of reach: it is as it was, for a read and at any stop.
+pub fn write_beside_log<D: HalvedDisk>(
+    disk: &mut D,
+    border: u64,
+    at: u64,
+    bytes: &[u8],
+) -> Result<(), DiskError>
+    requires border { border ≤ D.size disk.old }
+    requires range { at + length bytes.now ≤ border }
+    ensures size { D.size disk.new ≡ D.size disk.old }
+    ensures log { D.keeps_model → drop border (D.gives disk.new) ≡ drop border (D.gives disk.old) }
+    ensures any_moment { D.keeps_model → LeavesOnly D.moment D.may_have_left_since disk.old disk.new
+        (Beside border (MayBeTorn at (length bytes.now) (LeftBelow border (D.may_leave_now disk.old))) (LeftBehind border (D.may_leave_now disk.old))) }
+{
+    let (log, past) = disk.lend_log(border)?;
+    let written = disk.write_at(at, bytes);
+    disk.return_log(log, past);
+    written
 }

@@ -18,7 +18,7 @@ pub use content::Cut;
 pub use disk::Disk;
 pub use error::DiskError;
 pub use file::{FileDisk, FilePast};
-pub use halves::HalvedDisk;
+pub use halves::{HalvedDisk, write_beside_log};
 pub use memory::{MemDisk, MemPast};
 pub use part::Part;
 pub use script::{Event, Script};
