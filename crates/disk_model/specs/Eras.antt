@@ -17,14 +17,17 @@ mutual
     none : Stages
     first : Stage → Stages → Stages
 
+-- stages, one after the other
 abbrev pub stages_of : List Stage → Stages
 stages_of [] = none
 stages_of (s ∷ ss) = first s (stages_of ss)
 
+-- what an era is, once those in it are
 abbrev pub stage_step : Era-F Stage → Stage
 stage_step (Era-F.Whole run) = whole run
 stage_step (Era-F.Halved border home home_run log log_run) = halved border (stages_of home.items) home_run (stages_of log.items) log_run
 
+-- what an era is
 abbrev pub stage_of : Era → Stage
 stage_of = fold-Era Stage stage_step
 
@@ -33,10 +36,12 @@ abbrev pub moments_at : Stage → ℕ
 moments_at (whole run) = length run.log.items + 1
 moments_at (halved border home home_run log log_run) = 1
 
+-- how many moments they have together
 abbrev pub moments_in : Stages → ℕ
 moments_in none = 0
 moments_in (first s ss) = moments_at s + moments_in ss
 
+-- a stop in a run may have left it, since its t-th moment
 abbrev pub LeftInRun : Run → ℕ → List ℕ → Type 0
 LeftInRun run t c = MayHaveLeft run.base.items (ranges_from 0 run.loose.items) run.log.items t c
 
