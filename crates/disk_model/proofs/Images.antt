@@ -5,6 +5,7 @@ use Rattle.std.proofs.lemmas.Bool.{cases_lt}
 use Rattle.disk_model.specs.Disk.{Torn, Elapses}
 use Rattle.disk_model.specs.Content.{shown_after, unsynced_after, IsOutside, IsImage, MayHaveLeft}
 use Rattle.disk_model.specs.Disk.{put}
+use Rattle.disk_model.specs.Waiting.{waiting_first, waiting_now}
 use Rattle.disk_model.specs.declared.content.Change.{Change}
 use Rattle.disk_model.specs.declared.content.Content.{Content}
 use Rattle.disk_model.specs.declared.content.Extent.{Extent}
@@ -69,33 +70,48 @@ module _ (bytes written : List ℕ) (ranges : List Extent) (at len : ℕ) (fits 
   }
 
 -- the calls of a content go on
-module _ (old new : Content) (same : new.base.items ≡ old.base.items) where
-  pub elapses_same : new.log.items ≡ old.log.items → Elapses (length old.log.items) (length new.log.items) (MayHaveLeft old.base.items old.log.items) (MayHaveLeft new.base.items new.log.items) (IsImage new.bytes.items new.unsynced.items)
+module _ (old new : Content) (same : new.base.items ≡ old.base.items) (first : waiting_first new ≡ waiting_first old) where
+  abbrev Left : List ℕ → List Extent → List Change → List ℕ → Type 0
+  Left base waiting log c = IsImage (shown_after base log) (unsynced_after waiting log) c
+
+  abbrev Since : List Change → ℕ → List ℕ → Type 0
+  Since log t c = MayHaveLeft new.base.items (waiting_first new) log t c
+
+  was : (log : List Change) (t : ℕ) (c : List ℕ) → Since log t c → MayHaveLeft old.base.items (waiting_first old) log t c
+  was log t c left =
+      subst (λ (b : List ℕ). MayHaveLeft b (waiting_first old) log t c) same (subst (λ (r : List Extent). MayHaveLeft new.base.items r log t c) first left)
+
+  is_still : (log : List Change) (t : ℕ) (c : List ℕ) → MayHaveLeft old.base.items (waiting_first old) log t c → Since log t c
+  is_still log t c left =
+      subst (λ (r : List Extent). MayHaveLeft new.base.items r log t c) (sym first) (subst (λ (b : List ℕ). MayHaveLeft b (waiting_first old) log t c) (sym same) left)
+
+  pub elapses_same : new.log.items ≡ old.log.items
+      → Elapses (length old.log.items) (length new.log.items) (MayHaveLeft old.base.items (waiting_first old) old.log.items) (MayHaveLeft new.base.items (waiting_first new) new.log.items) (IsImage new.bytes.items (waiting_now new))
   elapses_same is = record {
     later = omega (arith, ap length is);
-    nothing_else = λ t c le left. inl (subst (λ (b : List ℕ). MayHaveLeft b old.log.items t c) same (subst (λ (l : List Change). MayHaveLeft new.base.items l t c) is left));
-    keeps = λ t c le left. subst (λ (l : List Change). MayHaveLeft new.base.items l t c) (sym is) (subst (λ (b : List ℕ). MayHaveLeft b old.log.items t c) (sym same) left);
+    nothing_else = λ t c le left. inl (was old.log.items t c (subst (λ (l : List Change). Since l t c) is left));
+    keeps = λ t c le left. subst (λ (l : List Change). Since l t c) (sym is) (is_still old.log.items t c left);
   }
 
   module _ (x : Change) (is : new.log.items ≡ old.log.items ++ x ∷ []) where
     earlier : (k : ℕ) → k ≤ length old.log.items → take k new.log.items ≡ take k old.log.items
     earlier k le = ap (λ (l : List Change). take k l) is ∙ take-append-le k old.log.items (x ∷ []) le
 
-    abbrev Left : List ℕ → List Change → List ℕ → Type 0
-    Left base log c = IsImage (shown_after base log) (unsynced_after [] log) c
-
     -- what is replayed in full is what is there now
-    now : (c : List ℕ) → Left new.base.items new.log.items c → IsImage new.bytes.items new.unsynced.items c
-    now c left = subst (λ (b : List ℕ). IsImage b new.unsynced.items c) (sym new.replayed) (subst (λ (r : List Extent). IsImage (shown_after new.base.items new.log.items) r c) (sym new.ranges) left)
+    now : (c : List ℕ) → Left new.base.items (waiting_first new) new.log.items c → IsImage new.bytes.items (waiting_now new) c
+    now c left =
+        subst (λ (b : List ℕ). IsImage b (waiting_now new) c) (sym new.replayed) (subst (λ (r : List Extent). IsImage (shown_after new.base.items new.log.items) r c) (sym new.ranges) left)
 
-    pub elapses_added : Elapses (length old.log.items) (length new.log.items) (MayHaveLeft old.base.items old.log.items) (MayHaveLeft new.base.items new.log.items) (IsImage new.bytes.items new.unsynced.items)
+    pub elapses_added : Elapses (length old.log.items) (length new.log.items) (MayHaveLeft old.base.items (waiting_first old) old.log.items) (MayHaveLeft new.base.items (waiting_first new) new.log.items) (IsImage new.bytes.items (waiting_now new))
     elapses_added = record {
       later = omega (arith, count);
       nothing_else = λ t c le (k, from, to, left). ⊎_elim
-          (λ here. inl (k, from, here, subst (λ (b : List ℕ). Left b (take k old.log.items) c) same (subst (λ (l : List Change). Left new.base.items l c) (earlier k here) left)))
-          (λ past. inr (now c (subst (λ (l : List Change). Left new.base.items l c) (take_all k new.log.items (omega (arith, count))) left)))
+          (λ here. inl (was old.log.items t c (k, from, here, subst (λ (l : List Change). Left new.base.items (waiting_first new) l c) (earlier k here) left)))
+          (λ past. inr (now c (subst (λ (l : List Change). Left new.base.items (waiting_first new) l c) (take_all k new.log.items (omega (arith, count))) left)))
           (within k);
-      keeps = λ t c le (k, from, to, left). (k, from, omega (arith, count), subst (λ (l : List Change). Left new.base.items l c) (sym (earlier k to)) (subst (λ (b : List ℕ). Left b (take k old.log.items) c) (sym same) left));
+      keeps = λ t c le left.
+          let (k, from, to, here) = is_still old.log.items t c left in
+          (k, from, omega (arith, count), subst (λ (l : List Change). Left new.base.items (waiting_first new) l c) (sym (earlier k to)) here);
     }
       where
         count : length new.log.items ≡ length old.log.items + 1

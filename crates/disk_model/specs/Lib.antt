@@ -2,10 +2,13 @@ pub mod Calm
 pub mod Content
 pub mod Counts
 pub mod Disk
+pub mod EraLaws
+pub mod Eras
 pub mod Error
 pub mod Event
 pub mod File
 pub mod Frames
+pub mod Halves
 pub mod Images
 pub mod Kept
 pub mod Memory
@@ -13,4 +16,5 @@ pub mod Moments
 pub mod Part
 pub mod Script
 pub mod There
+pub mod Waiting
 pub mod Writes

@@ -1,10 +1,12 @@
 -- What a disk in memory shows of itself, and what a call makes of that.
 use Rattle.std.specs.Prelude.{◌≡◌, ℕ, min, Bool, true, false, is_some, is_ok, ◌+◌, if◌then◌else◌, List, ◌++◌, [], ◌∷◌, length, take, Result, Err}
-use Rattle.disk_model.specs.Content.{IsImage, MayHaveLeft}
+use Rattle.disk_model.specs.Content.{IsImage}
 use Rattle.disk_model.specs.Counts.{most_by}
 use Rattle.disk_model.specs.Disk.{put}
+use Rattle.disk_model.specs.Eras.{moments_of, LeftSince}
 use Rattle.disk_model.specs.There.{there_or}
 use Rattle.disk_model.specs.Script.{fate_of, next_call, answer}
+use Rattle.disk_model.specs.Waiting.{waiting_first, waiting_now}
 use Rattle.disk_model.specs.declared.content.Change.{Change}
 use Rattle.disk_model.specs.declared.content.Change.TheVariants.{Sync}
 use Rattle.disk_model.specs.declared.content.Extent.{Extent}
@@ -29,15 +31,15 @@ size_of disk = length disk.content.bytes.items
 
 -- what a stop now may leave
 abbrev pub may_be_left : MemDisk → List ℕ → Type 0
-may_be_left disk c = IsImage disk.content.bytes.items disk.content.unsynced.items c
+may_be_left disk c = IsImage disk.content.bytes.items (waiting_now disk.content) c
 
--- the moment: how many calls have changed its bytes, or what may be left of them
+-- the moment: how many calls have changed its bytes, or what may be left of them, and those of the eras before
 abbrev pub moment_of : MemDisk → ℕ
-moment_of disk = length disk.content.log.items
+moment_of disk = moments_of disk.eras.items + length disk.content.log.items
 
 -- what a stop at some moment since t may have left
 abbrev pub left_since : MemDisk → ℕ → List ℕ → Type 0
-left_since disk t c = MayHaveLeft disk.content.base.items disk.content.log.items t c
+left_since disk t c = LeftSince disk.eras.items disk.content.base.items (waiting_first disk.content) disk.content.log.items t c
 
 -- how often it has failed
 abbrev pub failures_of : MemDisk → ℕ
@@ -45,7 +47,7 @@ failures_of disk = disk.turns.failures
 
 -- the ranges that no sync has reached
 abbrev pub unsynced_of : MemDisk → List Extent
-unsynced_of disk = disk.content.unsynced.items
+unsynced_of disk = waiting_now disk.content
 
 -- how many calls it has served: what comes after a stop isn't counted
 abbrev pub calls_of : MemDisk → ℕ

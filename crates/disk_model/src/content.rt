@@ -1,7 +1,7 @@
 // What a disk in memory holds, and the calls by which it came to hold it.
 ghost use Rattle.std.specs.Prelude.{◌≡◌, ◌≤◌, ◌+◌, [], ◌∷◌, ◌++◌, length, replicate, All, OnOk, OnErr};
 ghost use Rattle.std.specs.Option.{ForSome};
-ghost use Rattle.disk_model.specs.Content.{shown_after, unsynced_after, filled, left_by};
+ghost use Rattle.disk_model.specs.Content.{shown_after, unsynced_after, unsynced_in, ranges_from, filled, left_by};
 ghost use Rattle.disk_model.specs.Disk.{put};
 ghost use Rattle.disk_model.specs.There.{there_or};
 
@@ -40,33 +40,42 @@ pub struct Extent {
 pub struct Content {
     /// The bytes at the beginning.
     pub base: Vec<u8>,
+    /// Which of them waited for a sync then. Those that have no mark here didn't.
+    pub loose: Vec<bool>,
     /// The calls since then.
     pub log: Vec<Change>,
     /// What a read gives.
     pub bytes: Vec<u8>,
-    /// The ranges that were written since the last sync.
+    /// Whether what waited at the beginning still waits.
+    pub waits: bool,
+    /// The ranges that were written since the last sync, or since the beginning.
     pub unsynced: Vec<Extent>,
     ghost replayed: { bytes.items ≡ shown_after base.items log.items },
-    ghost ranges: { unsynced.items ≡ unsynced_after [] log.items },
+    ghost ranges: { unsynced_in waits loose.items unsynced.items ≡ unsynced_after (ranges_from 0 loose.items) log.items },
     ghost size: { length bytes.items ≡ length base.items },
     ghost within: { All (λ range. range.at + range.len ≤ length bytes.items) unsynced.items },
+    ghost short: { length loose.items ≤ length bytes.items },
 }
 
 impl Content {
     ghost use Rattle.std.specs.Prelude.{IfOk};
     ghost use Rattle.disk_model.specs.Content.{AddsWrite};
     ghost use Rattle.disk_model.specs.Kept.{IsSame};
+    ghost use Rattle.disk_model.specs.Waiting.{waiting_first, waiting_now};
     ghost use Rattle.disk_model.specs.declared.content.Change.TheVariants.{Sync};
 
     /// Zeros, to which nothing was done.
     pub fn zeros(alloc: Global, len: usize) -> Result<Self, AllocError>
         ensures base { IfOk result (λ new. new.base.items ≡ replicate len 0) }
         ensures log { IfOk result (λ new. new.log.items ≡ []) }
+        ensures waiting { IfOk result (λ new. waiting_now new ≡ []) }
     {
         Ok(Content {
             base: vec![in alloc; 0; len]?,
+            loose: Vec::new(alloc),
             log: Vec::new(alloc),
             bytes: vec![in alloc; 0; len]?,
+            waits: false,
             unsynced: Vec::new(alloc),
         })
     }
@@ -82,9 +91,10 @@ impl Content {
         requires range { at + len ≤ length self.old.bytes.items }
         requires within { length bytes.now ≤ len }
         ensures base { self.new.base.items ≡ self.old.base.items }
+        ensures first { waiting_first self.new ≡ waiting_first self.old }
         ensures log { OnOk result (AddsWrite self.old.log.items self.new.log.items at bytes.now len) }
         ensures bytes { OnOk result (self.new.bytes.items ≡ put self.old.bytes.items at bytes.now) }
-        ensures unsynced { OnOk result (self.new.unsynced.items ≡ self.old.unsynced.items ++ record { at = at; len = len } ∷ []) }
+        ensures unsynced { OnOk result (waiting_now self.new ≡ waiting_now self.old ++ record { at = at; len = len } ∷ []) }
         ensures err { OnErr result (IsSame self.old self.new) }
     {
         let written = bytes.to_vec(alloc)?;
@@ -105,12 +115,14 @@ impl Content {
     /// Makes all durable. At an `Err` nothing changed.
     pub fn sync(&mut self) -> Result<(), AllocError>
         ensures base { self.new.base.items ≡ self.old.base.items }
+        ensures first { waiting_first self.new ≡ waiting_first self.old }
         ensures log { OnOk result (self.new.log.items ≡ self.old.log.items ++ Sync ∷ []) }
         ensures bytes { OnOk result (self.new.bytes.items ≡ self.old.bytes.items) }
-        ensures unsynced { OnOk result (self.new.unsynced.items ≡ []) }
+        ensures unsynced { OnOk result (waiting_now self.new ≡ []) }
         ensures err { OnErr result (IsSame self.old self.new) }
     {
         self.log.push(Change::Sync)?;
+        self.waits = false;
         self.unsynced.clear();
         Ok(())
     }
@@ -118,31 +130,83 @@ impl Content {
     /// Begins again with what a stop leaves: of these bytes, or else of its own.
     pub fn cut(&mut self, there: Option<Vec<u8>>, cut: Cut)
         requires { ForSome there (λ v. length v.items ≡ length self.old.bytes.items) }
-        ensures bytes { self.new.bytes.items ≡ left_by cut (there_or there self.old.bytes.items) self.old.unsynced.items }
+        ensures bytes { self.new.bytes.items ≡ left_by cut (there_or there self.old.bytes.items) (waiting_now self.old) }
         ensures size { length self.new.bytes.items ≡ length self.old.bytes.items }
         ensures base { self.new.base.items ≡ self.new.bytes.items }
         ensures log { self.new.log.items ≡ [] }
-        ensures unsynced { self.new.unsynced.items ≡ [] }
+        ensures unsynced { waiting_now self.new ≡ [] }
     {
-        leave(&mut self.bytes, there, cut, &self.unsynced);
+        leave(
+            &mut self.bytes,
+            there,
+            cut,
+            self.waits,
+            &self.loose,
+            &self.unsynced,
+        );
         self.base.copy_from_slice(&self.bytes);
+        self.loose.clear();
         self.log.clear();
+        self.waits = false;
         self.unsynced.clear();
     }
 }
 
 // Leaves what a cut leaves.
-fn leave(bytes: &mut Vec<u8>, there: Option<Vec<u8>>, cut: Cut, ranges: &[Extent])
+fn leave(
+    bytes: &mut Vec<u8>,
+    there: Option<Vec<u8>>,
+    cut: Cut,
+    waits: bool,
+    loose: &[bool],
+    ranges: &[Extent],
+)
     requires size { ForSome there (λ v. length v.items ≡ length bytes.old.items) }
+    requires short { length loose.now ≤ length bytes.old.items }
     requires within { All (λ range. range.at + range.len ≤ length bytes.old.items) ranges.now }
-    ensures bytes { bytes.new.items ≡ left_by cut (there_or there bytes.old.items) ranges.now }
+    ensures bytes { bytes.new.items ≡ left_by cut (there_or there bytes.old.items) (unsynced_in waits loose.now ranges.now) }
     ensures size { length bytes.new.items ≡ length bytes.old.items }
 {
     if let Some(there) = there {
         *bytes = there;
     }
     if cut == Cut::None {
-        fill(bytes, ranges);
+        fill_all(bytes, waits, loose, ranges);
+    }
+}
+
+// Fills what waits: what does since the beginning, and these ranges.
+fn fill_all(bytes: &mut Vec<u8>, waits: bool, loose: &[bool], ranges: &[Extent])
+    requires short { length loose.now ≤ length bytes.old.items }
+    requires within { All (λ range. range.at + range.len ≤ length bytes.old.items) ranges.now }
+    ensures bytes { bytes.new.items ≡ filled bytes.old.items (unsynced_in waits loose.now ranges.now) }
+    ensures size { length bytes.new.items ≡ length bytes.old.items }
+{
+    fill_first(bytes, waits, loose);
+    fill(bytes, ranges);
+}
+
+// Fills what waited at the beginning, if it still does.
+fn fill_first(bytes: &mut Vec<u8>, waits: bool, loose: &[bool])
+    requires { length loose.now ≤ length bytes.old.items }
+    ensures bytes { bytes.new.items ≡ filled bytes.old.items (unsynced_in waits loose.now []) }
+    ensures size { length bytes.new.items ≡ length bytes.old.items }
+{
+    if waits {
+        fill_marked(bytes, loose);
+    }
+}
+
+// Fills each of the bytes that are marked.
+fn fill_marked(bytes: &mut Vec<u8>, marks: &[bool])
+    requires { length marks.now ≤ length bytes.old.items }
+    ensures bytes { bytes.new.items ≡ filled bytes.old.items (ranges_from 0 marks.now) }
+    ensures size { length bytes.new.items ≡ length bytes.old.items }
+{
+    for at in 0..marks.len() {
+        if marks[at] {
+            fill_range(bytes, at, 1);
+        }
     }
 }
 

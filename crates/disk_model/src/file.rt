@@ -1,11 +1,11 @@
 // A file of fixed length. No contract can say what a file holds, so its premise is one that nobody proves.
 ghost use Rattle.std.specs.Prelude.{◌≡◌, ◌+◌, ◌-◌, ◌<◌, ◌≤◌, ◌^◌, false, None, length, IfOk, OnOk, OnErr, if◌then◌else◌, is_ok};
 
-use crate::{Disk, DiskError};
+use crate::{Disk, DiskError, HalvedDisk};
 use std::fs::{File, Files, OpenOptions};
 use std::io::{self, ErrorKind};
 use std::os::fd::AsRawFd;
-use std::os::unix::fs::FileExt;
+use std::os::unix::fs::{FileExt, MetadataExt};
 use std::path::Path;
 
 /// The bytes that `create` writes at once.
@@ -18,15 +18,52 @@ const CHUNK: usize = 4_096;
 /// sync of the system that failed once is told as done the next time, though its bytes are lost. A read goes on
 /// working. Only opening the file again ends this.
 ///
-/// A value holds the file's exclusive lock for as long as it lives. The lock is advisory: it keeps out who asks for
-/// it, as `open` and `create` do, in this process or another.
+/// A value holds the file's exclusive lock for as long as it lives, and so does each of its halves while its log is
+/// lent. The lock is advisory: it keeps out who asks for it, as `open` and `create` do, in this process or another.
 #[derive(Drop)]
 pub struct FileDisk {
     file: File,
+    // where the lock is another handle's, as at a log, it is kept here
+    lock: Option<File>,
+    // what a log is called by, while it isn't lent
+    second: Option<Second>,
+    // its first byte in the file
+    start: u64,
     len: u64,
     failures: u64,
     broken: bool,
     last_error: Option<i32>,
+    ghost fits: { start + len < 2 ^ 64 },
+}
+
+// The same file, opened once more: the system tells each opened file of a failed sync, and all clones of a handle once.
+#[derive(Drop)]
+struct Second {
+    file: File,
+    // a clone of the handle that has the lock
+    lock: File,
+}
+
+impl Second {
+    // Opens the file of this path, which has to be the one that is locked.
+    fn open<R: Files<File = File>>(rt: &R, path: &str, locked: &File) -> io::Result<Self> {
+        let file = OpenOptions::new().read(true).write(true).open(rt, path)?;
+        let (here, there) = (locked.metadata()?, file.metadata()?);
+        if here.dev() != there.dev() || here.ino() != there.ino() {
+            return Err(io::Error::new(ErrorKind::InvalidInput, "not the file that was locked"));
+        }
+        let lock = locked.try_clone()?;
+        Ok(Second { file, lock })
+    }
+}
+
+/// Where the two halves of a file's disk belong.
+#[derive(Drop)]
+pub struct FilePast {
+    start: u64,
+    border: u64,
+    len: u64,
+    ghost fits: { start + len < 2 ^ 64 },
 }
 
 impl FileDisk {
@@ -35,7 +72,8 @@ impl FileDisk {
     ghost use Rattle.disk_model.specs.File.{file_len, file_failures, file_is_broken, file_last_error, IsNewlyOpened};
 
     /// Opens a regular file that is there, as long as it is now. Each error is the system's, but for `InvalidInput`
-    /// at what is no regular file; `WouldBlock` comes where another value holds its lock.
+    /// at what is no regular file, or where the path leads to another file meanwhile; `WouldBlock` comes where another
+    /// value holds its lock.
     ///
     /// What an earlier process left in the system's cache is made durable before the first read, and dropped from
     /// there where the system does so: after a sync that failed, the cache may hold bytes that the disk hasn't.
@@ -51,12 +89,13 @@ impl FileDisk {
         // Advice: where the system doesn't follow it, the file is read as it is cached.
         let _ = libc::posix_fadvise(file.as_raw_fd(), 0, 0, libc::POSIX_FADV_DONTNEED);
         let len = file.metadata()?.len();
-        Ok(FileDisk::new(file, len))
+        let second = Second::open(rt, path, &file)?;
+        Ok(FileDisk::with_second(file, second, len))
     }
 
     /// Makes a new file of `len` zeros, which is durable, and so is its name in its folder. Its bytes are written, so
-    /// that no later write finds the device full. A file that is there already is an error; each is the system's.
-    /// After an error the file may be there, shorter.
+    /// that no later write finds the device full. A file that is there already is an error; each is the system's, but for
+    /// `InvalidInput` as at `open`. After an error the file may be there, shorter.
     pub fn create<R: Files<File = File>>(rt: &R, path: &str, len: u64) -> io::Result<Self>
         ensures len { IfOk result (λ disk. file_len disk ≡ len) }
         ensures new { IfOk result IsNewlyOpened }
@@ -66,7 +105,8 @@ impl FileDisk {
         write_zeros(&file, len)?;
         file.sync_all()?;
         File::open(rt, folder_of(path))?.sync_all()?;
-        Ok(FileDisk::new(file, len))
+        let second = Second::open(rt, path, &file)?;
+        Ok(FileDisk::with_second(file, second, len))
     }
 
     /// The system's number of the error of the last call that failed, for a log. None before the first failure, and
@@ -79,18 +119,31 @@ impl FileDisk {
     }
 
     /// The disk that an open file is, `len` bytes long, as if nothing had failed yet. The caller has taken its lock, and what is
-    /// in it is durable. Where the file is shorter, a read behind its end fails with 101.
+    /// in it is durable. Where the file is shorter, a read behind its end fails with 101. It lends no log.
     pub fn new(file: File, len: u64) -> Self
         ensures len { file_len result ≡ len }
         ensures new { IsNewlyOpened result }
     {
         FileDisk {
             file,
+            lock: None,
+            second: None,
+            start: 0,
             len,
             failures: 0,
             broken: false,
             last_error: None,
         }
+    }
+
+    // A disk that can lend its log.
+    fn with_second(file: File, second: Second, len: u64) -> Self
+        ensures len { file_len result ≡ len }
+        ensures new { IsNewlyOpened result }
+    {
+        let mut disk = FileDisk::new(file, len);
+        disk.second = Some(second);
+        disk
     }
 
     // What a call of the system comes to: an error is noted and counted, and told as this fault.
@@ -208,7 +261,7 @@ impl Disk for FileDisk {
         if self.failures == u64::MAX {
             return Err(DiskError::Memory);
         }
-        let done = self.file.read_exact_at(bytes, at);
+        let done = self.file.read_exact_at(bytes, self.start + at);
         self.settle(done, DiskError::ReadFault)
     }
 
@@ -230,7 +283,7 @@ impl Disk for FileDisk {
         if self.broken {
             return self.fail(DiskError::WriteFault);
         }
-        let done = self.file.write_all_at(bytes, at);
+        let done = self.file.write_all_at(bytes, self.start + at);
         self.latch(done, DiskError::WriteFault)
     }
 
@@ -253,5 +306,96 @@ impl Disk for FileDisk {
         }
         let done = self.file.sync_data();
         self.latch(done, DiskError::SyncFault)
+    }
+}
+
+/// The log goes by a handle of its own, and each half is stopped at once by its own failed write or sync. Where there is no
+/// second handle, as at a half, nothing is lent: 100 `Memory`. What is returned has to be the log that was lent: no clause
+/// knows one file from another.
+impl HalvedDisk for FileDisk {
+    ghost use Rattle.std.specs.Prelude.{◌≡◌, ◌⊎◌, ◌↔◌, ◌+◌, ◌≤◌, ◌<◌, max, IsTrue, IfErr};
+    ghost use Rattle.disk_model.specs.File.{file_len, file_failures, file_most_failures, file_is_broken, file_last_error};
+
+    type Log = FileDisk;
+
+    type Past = FilePast;
+
+    ghost left_before = { λ _ _ _. Unit {0} };
+
+    ghost until = { λ _. 0 };
+
+    ghost cut_at = { λ p. p.border };
+
+    ghost whole = { λ p. p.len };
+
+    ghost log_keeps = { λ no. absurd no };
+
+    fn lend_log(&mut self, border: u64) -> Result<(FileDisk, FilePast), DiskError>
+        requires { border ≤ file_len self.old }
+        ensures home { IfOk result (λ r. file_len self.new ≡ border) }
+        ensures log { IfOk result (λ r. border + file_len r.0 ≡ file_len self.old) }
+        ensures sizes { IfOk result (λ r. (r.1.border ≡ border) × (r.1.len ≡ file_len self.old)) }
+        ensures failures { IfOk result (λ r. (file_failures self.new ≡ file_failures self.old) × (file_failures r.0 ≡ file_failures self.old)) }
+        ensures most { IfOk result (λ r. (file_most_failures self.new ≤ file_most_failures self.old) × (file_most_failures r.0 ≤ file_most_failures self.old)) }
+        // A half of what is broken is broken.
+        ensures latch { IfOk result (λ r. (file_is_broken self.new ≡ file_is_broken self.old) × (file_is_broken r.0 ≡ file_is_broken self.old)) }
+        ensures last_error { IfOk result (λ r. (file_last_error self.new ≡ file_last_error self.old) × (file_last_error r.0 ≡ file_last_error self.old)) }
+        ensures unlent { OnErr result (self.new ≡ self.old) }
+        ensures err { OnErr result ((file_len self.new ≡ file_len self.old) × (file_failures self.new ≡ file_failures self.old) × (file_most_failures self.new ≤ file_most_failures self.old)) }
+        ensures told { IfErr result (λ e. e ≡ DiskError.Memory) }
+    {
+        let Some(Second { file, lock }) = self.second.take() else {
+            return Err(DiskError::Memory);
+        };
+        let past = FilePast {
+            start: self.start,
+            border,
+            len: self.len,
+        };
+        let log = FileDisk {
+            file,
+            lock: Some(lock),
+            second: None,
+            start: self.start + border,
+            len: self.len - border,
+            failures: self.failures,
+            broken: self.broken,
+            last_error: self.last_error,
+        };
+        self.len = border;
+        Ok((log, past))
+    }
+
+    fn return_log(&mut self, log: FileDisk, past: FilePast)
+        requires home { file_len self.old ≡ past.border }
+        requires log { past.border + file_len log ≡ past.len }
+        ensures size { file_len self.new ≡ past.len }
+        ensures failures { file_failures self.new ≡ max (file_failures self.old) (file_failures log) }
+        ensures most { file_most_failures self.new ≤ max (file_most_failures self.old) (file_most_failures log) }
+        // A failed write or sync of either half stops both.
+        ensures latch { IsTrue (file_is_broken self.new) ↔ (IsTrue (file_is_broken self.old) ⊎ IsTrue (file_is_broken log)) }
+        // The error is the home's, unless the log has failed more often.
+        ensures home_error { file_failures log ≤ file_failures self.old → file_last_error self.new ≡ file_last_error self.old }
+        ensures log_error { file_failures self.old < file_failures log → file_last_error self.new ≡ file_last_error log }
+    {
+        let FileDisk {
+            file,
+            lock,
+            failures,
+            broken,
+            last_error,
+            ..
+        } = log;
+        self.second = match lock {
+            Some(lock) => Some(Second { file, lock }),
+            None => None,
+        };
+        self.start = past.start;
+        self.len = past.len;
+        if self.failures < failures {
+            self.failures = failures;
+            self.last_error = last_error;
+        }
+        self.broken = self.broken || broken;
     }
 }

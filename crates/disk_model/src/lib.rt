@@ -5,8 +5,11 @@
 
 mod content;
 mod disk;
+mod era;
 mod error;
 mod file;
+mod halves;
+mod halving;
 mod memory;
 mod part;
 mod script;
@@ -14,7 +17,8 @@ mod script;
 pub use content::Cut;
 pub use disk::Disk;
 pub use error::DiskError;
-pub use file::FileDisk;
-pub use memory::MemDisk;
+pub use file::{FileDisk, FilePast};
+pub use halves::{HalvedDisk, write_beside_log};
+pub use memory::{MemDisk, MemPast};
 pub use part::Part;
 pub use script::{Event, Script};

@@ -6,6 +6,7 @@ ghost use Rattle.disk_model.specs.declared.script.Fate.TheVariants.{Works};
 use crate::DiskError;
 use std::alloc::{AllocError, Global};
 use std::marker::Model;
+use std::mem;
 
 /// What is to happen at a device call. Calls are counted from 1, reads, writes and syncs alike.
 #[derive(Clone, Copy, Debug, PartialEq, Eq)]
@@ -125,7 +126,7 @@ pub struct Turns {
 }
 
 impl Turns {
-    ghost use Rattle.std.specs.Prelude.{◌≤◌};
+    ghost use Rattle.std.specs.Prelude.{◌≤◌, ◌||◌, min, max, Bool};
     ghost use Rattle.disk_model.specs.Counts.{most_by};
 
     /// What becomes of the next call. A stopped disk counts a failure and tells that it stopped.
@@ -164,6 +165,37 @@ impl Turns {
             Fate::Fails => self.fail(fault),
             Fate::Stops(_) => self.fail(DiskError::Stopped),
         }
+    }
+
+    /// Gives the script and the calls away. What is left begins anew, but for the failures.
+    pub fn lend(&mut self, alloc: Global) -> Turns
+        ensures lent { result ≡ self.old }
+        ensures script { self.new.script ≡ [] }
+        ensures calls { self.new.calls ≡ 0 }
+        ensures failures { self.new.failures ≡ self.old.failures }
+        ensures most { (stopped : Bool) → most_by self.new.script stopped self.new.failures ≤ most_by self.old.script stopped self.old.failures }
+    {
+        let home = Turns {
+            script: Script::new(alloc),
+            calls: 0,
+            failures: self.failures,
+        };
+        mem::replace(self, home)
+    }
+
+    /// Takes them back, and adds its own calls. Its own script is forgotten.
+    pub fn rejoin(&mut self, lent: Turns)
+        ensures script { self.new.script ≡ lent.script }
+        ensures calls { self.new.calls ≡ min (lent.calls + self.old.calls) (2 ^ 64 - 1) }
+        ensures failures { self.new.failures ≡ max self.old.failures lent.failures }
+        ensures most { (here there : Bool) → most_by self.new.script (here || there) self.new.failures
+            ≤ max (most_by self.old.script here self.old.failures) (most_by lent.script there lent.failures) }
+    {
+        *self = Turns {
+            calls: lent.calls.saturating_add(self.calls),
+            failures: self.failures.max(lent.failures),
+            script: lent.script,
+        };
     }
 
     // Counts a failure, and tells it.

@@ -1,12 +1,13 @@
 use Rattle.std.proofs.Common.{All, subst, length, arith, ◌+◌, ◌≤◌, ◌≡◌, List, ℕ, [], ◌∷◌, ◌++◌, sym, ◌∙◌, ap, rules}
 use Rattle.std.proofs.lemmas.Grind.{common_steps}
-use Rattle.disk_model.specs.Content.{shown_after, unsynced_after}
+use Rattle.disk_model.specs.Content.{shown_after, unsynced_after, unsynced_in}
 use Rattle.disk_model.specs.Disk.{put}
 use Rattle.disk_model.specs.declared.content.Change.TheVariants.{Write}
 use Rattle.disk_model.specs.declared.content.Extent.{Extent}
 use Rattle.std.proofs.lemmas.List.Elements.{All-push}
 use Rattle.disk_model.specs.Writes.{length-put}
-use Rattle.disk_model.proofs.Replay.{shown-push, unsynced-push}
+use Rattle.disk_model.specs.Waiting.{waiting_first}
+use Rattle.disk_model.proofs.Replay.{shown-push, unsynced-push, unsynced_in-push}
 use Rattle.disk_model.proofs.content.Content.write.Goals as goal
 
 pub invariant_of-self-2-clause-replayed : goal.invariant_of-self-2-clause-replayed
@@ -28,10 +29,18 @@ invariant_of-self-2-clause-ranges c =
     let range : Extent = record { at = c.args.at; len = c.args.len } in
     let added : c.push.new.self.items ≡ self.log.items ++ write ∷ [] = search (rules, common_steps) in
     let ranged : c.push-2.new.self.items ≡ self.unsynced.items ++ range ∷ [] = search (rules, common_steps) in
-    ranged
+    ap (unsynced_in self.waits self.loose.items) ranged
+    ∙ unsynced_in-push self.waits self.loose.items self.unsynced.items range
     ∙ ap (λ (ranges : List Extent). ranges ++ range ∷ []) self.ranges
-    ∙ sym (unsynced-push [] self.log.items write)
-    ∙ ap (unsynced_after []) (sym added)
+    ∙ sym (unsynced-push (waiting_first self) self.log.items write)
+    ∙ ap (unsynced_after (waiting_first self)) (sym added)
+
+pub returns-clause-unsynced : goal.returns-clause-unsynced
+returns-clause-unsynced c =
+    let self = c.args.self.now in
+    let range : Extent = record { at = c.args.at; len = c.args.len } in
+    let ranged : c.push-2.new.self.items ≡ self.unsynced.items ++ range ∷ [] = search (rules, common_steps) in
+    ap (unsynced_in self.waits self.loose.items) ranged ∙ unsynced_in-push self.waits self.loose.items self.unsynced.items range
 
 pub returns-clause-log : goal.returns-clause-log
 returns-clause-log c =

@@ -2,6 +2,7 @@ use Rattle.std.proofs.Common.{◌≡◌, ◌≤◌, length, take, sym, ◌∙◌
 use Rattle.disk_model.specs.Content.{AddsWrite}
 use Rattle.disk_model.specs.Disk.{put}
 use Rattle.disk_model.specs.Memory.{given}
+use Rattle.disk_model.specs.Waiting.{waiting_now}
 use Rattle.disk_model.specs.declared.script.Fate.{Fate}
 use Rattle.disk_model.proofs.Images.{stopped_image}
 use Rattle.disk_model.proofs.memory.MemDisk.put.Goals as goal
@@ -15,7 +16,7 @@ invariant_of-self-in-Stops c =
     record {
       left = λ v is.
           let same : v.items ≡ c.replace.new.bytes.items = cc in
-          stopped_image self.content.bytes.items kept self.content.unsynced.items c.args.at (length c.args.bytes.now) c.requires.range short _ _ _ c.in_ok-write-in-Stops.ensures.bytes c.in_ok-write-in-Stops.ensures.unsynced (same ∙ there);
+          stopped_image self.content.bytes.items kept (waiting_now self.content) c.args.at (length c.args.bytes.now) c.requires.range short _ _ _ c.in_ok-write-in-Stops.ensures.bytes c.in_ok-write-in-Stops.ensures.unsynced (same ∙ there);
     }
 
 pub returns-in_ok-write-in-Works-clause-log : goal.returns-in_ok-write-in-Works-clause-log
