@@ -1,6 +1,7 @@
 // A disk whose log half can be lent out, as a disk of its own.
-ghost use Rattle.std.specs.Prelude.{◌≡◌, ◌+◌, ◌≤◌, List, ℕ, length, drop, max, IfOk, IfErr, OnErr};
-ghost use Rattle.disk_model.specs.Disk.{LeavesOnly};
+ghost use Rattle.std.specs.Prelude.{◌≡◌, ◌+◌, ◌≤◌, List, ℕ, length, take, drop, max, IfOk, IfErr, OnOk, OnErr};
+ghost use Rattle.disk_model.specs.Disk.{Holds, LeavesOnly};
+ghost use Rattle.disk_model.specs.Error.{HasCause};
 ghost use Rattle.disk_model.specs.Halves.{AreHalves, Beside, IsPast, IsUntouched, LeftBehind, LeftBelow, MayBeTorn, Rejoins};
 
 use crate::{Disk, DiskError};
@@ -74,9 +75,11 @@ pub fn write_beside_log<D: HalvedDisk>(
     requires border { border ≤ D.size disk.old }
     requires range { at + length bytes.now ≤ border }
     ensures size { D.size disk.new ≡ D.size disk.old }
+    ensures written { D.keeps_model → OnOk result (Holds (take border (D.gives disk.old)) at bytes.now (take border (D.gives disk.new))) }
     ensures log { D.keeps_model → drop border (D.gives disk.new) ≡ drop border (D.gives disk.old) }
     ensures any_moment { D.keeps_model → LeavesOnly D.moment D.may_have_left_since disk.old disk.new
         (Beside border (MayBeTorn at (length bytes.now) (LeftBelow border (D.may_leave_now disk.old))) (LeftBehind border (D.may_leave_now disk.old))) }
+    ensures cause { HasCause DiskError.WriteFault (D.failures disk.old) (D.failures disk.new) result }
 {
     let (log, past) = disk.lend_log(border)?;
     let written = disk.write_at(at, bytes);

@@ -1,5 +1,5 @@
 // A content that is cut in two, and two that are put together.
-ghost use Rattle.std.specs.Prelude.{◌≡◌, ◌≤◌, ◌<◌, ◌+◌, ℕ, List, [], ◌++◌, length, take, drop, get_or, true, All, IfOk};
+ghost use Rattle.std.specs.Prelude.{◌≡◌, ◌≤◌, ◌<◌, ◌+◌, ℕ, List, [], ◌++◌, length, take, drop, get_or, true, false, All, IfOk};
 ghost use Rattle.disk_model.specs.Content.{unsynced_in, ranges_from, AreMarked, IsImage};
 ghost use Rattle.disk_model.specs.Halves.{AreHalves};
 ghost use Rattle.disk_model.specs.Waiting.{waiting_now};
@@ -22,7 +22,7 @@ impl Content {
         Ok(Content::begun(alloc, base, bytes, loose))
     }
 
-    // The same, of bytes that are there twice.
+    // The same, of bytes that are there twice. Marks of nothing aren't kept.
     fn begun(alloc: Global, base: Vec<u8>, bytes: Vec<u8>, loose: Vec<bool>) -> Self
         requires same { base.items ≡ bytes.items }
         requires short { length loose.items ≤ length bytes.items }
@@ -30,6 +30,11 @@ impl Content {
         ensures log { result.log.items ≡ [] }
         ensures waiting { waiting_now result ≡ ranges_from 0 loose.items }
     {
+        let loose = if is_marked(&loose) {
+            loose
+        } else {
+            Vec::new(alloc)
+        };
         Content {
             base,
             loose,
@@ -109,6 +114,18 @@ pub fn join<T: Copy + Drop>(whole: &mut Vec<T>, home: &[T], log: &[T])
     let (front, back) = whole.split_at_mut(home.len());
     front.copy_from_slice(home);
     back.copy_from_slice(log);
+}
+
+// Whether there is a mark.
+fn is_marked(marks: &[bool]) -> bool
+    ensures { result ≡ false → ranges_from 0 marks.now ≡ [] }
+{
+    for mark in marks {
+        if *mark {
+            return true;
+        }
+    }
+    false
 }
 
 // Marks what waits of two contents, one behind the other.

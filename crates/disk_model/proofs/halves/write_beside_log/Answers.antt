@@ -1,6 +1,7 @@
-use Rattle.std.proofs.Common.{ℕ, List, length, take, refl, ◌∙◌}
-use Rattle.disk_model.specs.Disk.{Torn}
-use Rattle.disk_model.specs.Halves.{Beside, LeftBehind, LeftBelow, MayBeTorn, left_behind, left_below, rejoined}
+use Rattle.std.proofs.Common.{ℕ, List, length, take, refl, sym, ap, ◌∙◌}
+use Rattle.std.proofs.lemmas.Result.{on_ok_weaker}
+use Rattle.disk_model.specs.Disk.{put, Torn}
+use Rattle.disk_model.specs.Halves.{Beside, LeftBehind, LeftBelow, MayBeTorn, gives_below, left_behind, left_below, rejoined}
 use Rattle.disk_model.specs.Moments.{goes_on, started}
 use Rattle.disk_model.proofs.halves.write_beside_log.Goals as goal
 
@@ -45,3 +46,15 @@ returns-clause-any_moment g c = λ keeps.
     (λ x left. at_first border c.args.at n (d.may_leave_now old) x (g.met.D.Disk.only_now keeps old x left))
     (c.in_ok-log.ensures.past keeps) (c.in_ok-log.ensures.begins keeps).0 (c.in_ok-log.ensures.begins keeps).1
     home_run log_run c.in_ok-log.ensures.sizes.0 (c.return_log.ensures.time keeps)
+
+pub returns-clause-written : goal.returns-clause-written
+returns-clause-written g c = λ keeps.
+    let d = g.D.Disk in
+    let home = c.lend_log.new.self in
+    let then = c.write_at-written.new.self in
+    let same = c.in_ok-log.ensures.sizes.0 in
+    let below = gives_below (c.in_ok-log.ensures.halves keeps) (g.met.D.Disk.gives_size keeps home ∙ c.in_ok-log.ensures.home) in
+    let again = gives_below (c.return_log.ensures.halves keeps) (g.met.D.Disk.gives_size keeps then ∙ c.write_at-written.ensures.size ∙ c.in_ok-log.ensures.home ∙ sym same) in
+    on_ok_weaker c.write_at-written.result
+    (λ holds. ap (λ (n : ℕ). take n (d.gives c.return_log.new.self)) (sym same) ∙ again ∙ holds ∙ ap (λ (l : List ℕ). put l c.args.at c.args.bytes.now) (sym below))
+    (c.write_at-written.ensures.gives keeps)
