@@ -1,6 +1,7 @@
 //! A folder of files, as disks. No contract can say what a file holds: what is done with the disks is done with disks of
 //! any kind, by `restart` and `format_disks`.
 ghost use Rattle.std.specs.Prelude.{◌≡◌, ◌⊎◌, ◌<◌, ◌≤◌, [], ◌∷◌, ◌++◌, All, Err, None, Ok, Some, IfErr, IfNone, IfOk, IfSome, IsErrAnd, OnOk, length, slice_get};
+ghost use Rattle.std.specs.List.{range_with_len};
 ghost use Rattle.disk_model.specs.File.{file_len};
 ghost use Rattle.home_blocks.specs.Places.{disk_size_of};
 ghost use Rattle.folder.specs.Files.{AreAscendingFrom, AreOpenings, IsFailureAmong, IsNotFound, OthersAreAbsent, disks_there, slots_there};
@@ -95,6 +96,7 @@ fn create_all<R: Files<File = File> + AllocGlobal>(
     layout: Layout,
 ) -> Result<FolderDisks<FileDisk>, Failure>
     ensures config { IfOk result (λ f. file_len f.config ≡ PAIR_SIZE) }
+    ensures slots { IfOk result (λ f. f.slots.items ≡ range_with_len 0 layout.members) }
     ensures as_many { IfOk result (λ f. length f.disks.items ≡ layout.members) }
     ensures long { IfOk result (λ f. All (λ disk. disk_size_of layout.geometry ≤ file_len disk) f.disks.items) }
     ensures told { IfErr result (λ f. IsOfFiles f.refusal) }
