@@ -21,7 +21,7 @@ loop-number-preserved g c =
     let long = λ (one : FileDisk). disk_size_of c.args.layout.geometry ≤ file_len one in
     record {
       config = ap file_len c.add.ensures.config ∙ inv.config;
-      slots = c.in-Ok.ensures.slot ∙ ap (λ (l : List ℕ). l ++ c.slot_of-2.result ∷ []) inv.slots ∙ ap (λ (s : ℕ). range_with_len 0 c.loop-number.number ++ s ∷ []) c.slot_of-2.ensures ∙ sym (range_more c.loop-number.number);
+      slots = c.in-Ok.ensures.slot ∙ ap (λ (l : List ℕ). l ++ c.slot_of-in-loop-number.result ∷ []) inv.slots ∙ ap (λ (s : ℕ). range_with_len 0 c.loop-number.number ++ s ∷ []) c.slot_of-in-loop-number.ensures ∙ sym (range_more c.loop-number.number);
       many =
           let all : length c.add.new.self.disks.items ≡ length (before ++ disk ∷ []) = ap (λ (l : List FileDisk). length l) items in
           let more = length-append before (disk ∷ []) in
