@@ -4,9 +4,7 @@ ghost use Rattle.disk_model.specs.Disk.{LeavesOnly, Only, Torn};
 
 use crate::comparing::{prints, same, same_at};
 use crate::disks::new_disk;
-use disk_model::{
-    Cut, Disk, DiskError, Event, HalvedDisk, MemDisk, Part, Script, write_beside_log,
-};
+use disk_model::{Cut, Disk, DiskError, Event, MemDisk, Part, Script};
 
 // Writes, syncs and reads back. A stop at any moment of it leaves all but the range as it was.
 fn write_through<D: Disk>(
@@ -217,63 +215,6 @@ fn parts(rt: HostRuntime) {
     same(&rt, part.read(&mut disk, 0, &mut back), DONE);
     same(&rt, back, [0, 8]);
     same(&rt, disk.bytes(), [1, 2, 0, 8, 9, 0].as_slice());
-}
-
-// A script's calls are counted across the halves, where they are made one after another.
-#[test]
-fn scripts_go_out_with_the_log(rt: HostRuntime) {
-    let alloc = rt.alloc();
-    let mut disk = new_disk(&rt, alloc, 6);
-    for event in [
-        Event::FailAt { call: 3 },
-        Event::StopAt { call: 6, bytes: 1 },
-    ] {
-        disk.arm(event).expect(&rt, "memory");
-    }
-    same(&rt, disk.write_at(0, &[1, 2]), DONE);
-    let (mut log, past) = disk.lend_log(2).expect(&rt, "a log");
-    same(&rt, (disk.len(), log.len()), (2, 4));
-    same(&rt, log.write_at(0, &[3, 4, 5, 6]), DONE);
-    same(&rt, log.sync(), Err(DiskError::SyncFault));
-    same(&rt, disk.sync(), DONE);
-    assert!(rt; disk.len() == 2 && log.len() == 4);
-    disk.return_log(log, past);
-    same(&rt, (disk.len(), disk.calls()), (6, 4));
-    same(&rt, disk.bytes(), [1, 2, 3, 4, 5, 6].as_slice());
-    same(&rt, write_beside_log(&mut disk, 2, 1, &[7]), DONE);
-    same(&rt, disk.write_at(3, &[8, 9]), Err(DiskError::Stopped));
-    same(&rt, disk.bytes(), [1, 7, 3, 8, 5, 6].as_slice());
-    disk.cut(Cut::None);
-    same(
-        &rt,
-        disk.bytes(),
-        [1, 0xff, 0xff, 0xff, 0xff, 0xff].as_slice(),
-    );
-}
-
-// Stopped in the log half, the whole has stopped, with what is there of both.
-#[test]
-fn a_stop_in_the_log_stops_the_whole(rt: HostRuntime) {
-    let mut disk = new_disk(&rt, rt.alloc(), 6);
-    let stop = Event::StopAt { call: 1, bytes: 1 };
-    disk.arm(stop).expect(&rt, "memory");
-    let (mut log, past) = disk.lend_log(2).expect(&rt, "a log");
-    same(&rt, disk.write_at(0, &[1, 2]), DONE);
-    same(&rt, log.write_at(1, &[3, 4]), STOPPED);
-    same(&rt, (disk.is_stopped(), log.is_stopped()), (false, true));
-    same(&rt, disk.sync(), DONE);
-    assert!(rt; disk.len() == 2 && log.len() == 4);
-    disk.return_log(log, past);
-    same(&rt, (disk.is_stopped(), disk.calls()), (true, 3));
-    same(&rt, disk.sync(), STOPPED);
-    same(&rt, disk.bytes(), [1, 2, 0, 3, 0, 0].as_slice());
-    assert!(rt; disk.len() == 6);
-    let (log, past) = disk.lend_log(3).expect(&rt, "a log");
-    same(&rt, (disk.is_stopped(), log.is_stopped()), (true, true));
-    same(&rt, log.bytes(), [3, 0, 0].as_slice());
-    disk.return_log(log, past);
-    disk.cut(Cut::None);
-    same(&rt, disk.bytes(), [1, 2, 0, 0xff, 0xff, 0].as_slice());
 }
 
 #[test]

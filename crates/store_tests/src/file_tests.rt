@@ -2,7 +2,7 @@
 use crate::comparing::{same, same_at};
 use crate::disks::new_disk;
 use crate::folders::{new_folder, path};
-use disk_model::{Disk, DiskError, FileDisk, HalvedDisk};
+use disk_model::{Disk, DiskError, FileDisk};
 use std::fs::{self, File, OpenOptions};
 use std::io::{self, ErrorKind};
 use std::process::{self, Abort};
@@ -121,90 +121,6 @@ fn files_read_as_memory_does(rt: HostRuntime) {
     };
     is_alike(&rt, &mut again, &mut memory, all, 0);
     drop(again);
-    fs::remove_dir_all(&rt, folder.as_str()).expect(&rt, "the folder is removed");
-}
-
-// Within a page, and odd.
-const BORDER: u64 = 5_001;
-
-// The same call on both disks, where they have room for it, tells the same and reads the same bytes.
-fn is_alike_within<D: Disk, E: Disk>(
-    rt: &(impl AllocGlobal + Abort),
-    file: &mut D,
-    memory: &mut E,
-    call: Call,
-    first: u8,
-) {
-    let mut in_file = vec![in rt.alloc(); 0; SIZE as usize].expect(rt, "memory");
-    let mut in_memory = vec![in rt.alloc(); 0; SIZE as usize].expect(rt, "memory");
-    let told = play(file, call, &mut in_file, first);
-    same_at(rt, told, play(memory, call, &mut in_memory, first), call);
-    same_at(rt, in_file.as_slice(), in_memory.as_slice(), call);
-}
-
-// Calls on the halves of both disks, by turns.
-fn play_halves<D: HalvedDisk, E: HalvedDisk>(
-    rt: &(impl AllocGlobal + Abort),
-    file: &mut D,
-    memory: &mut E,
-    begin: u8,
-) {
-    assert!(rt; file.len() == SIZE && memory.len() == SIZE);
-    let (mut file_log, file_past) = file.lend_log(BORDER).expect(rt, "a log");
-    let (mut log, past) = memory.lend_log(BORDER).expect(rt, "a log");
-    let mut first = begin;
-    for call in CALLS {
-        is_alike_within(rt, file, memory, call, first);
-        is_alike_within(rt, &mut file_log, &mut log, call, first.wrapping_add(20));
-        first = first.wrapping_add(40);
-    }
-    assert!(rt; file.len() == BORDER && memory.len() == BORDER);
-    assert!(rt; file_log.len() == SIZE - BORDER && log.len() == SIZE - BORDER);
-    file.return_log(file_log, file_past);
-    memory.return_log(log, past);
-}
-
-#[test]
-fn halves_of_files_lie_where_those_of_memory_do(rt: HostRuntime) {
-    let folder = new_folder(&rt, process::id(rt.process()), "halves");
-    let path = path(&rt, folder.as_str(), "disk");
-    let mut memory = new_disk(&rt, rt.alloc(), SIZE);
-    let mut file = FileDisk::create(&rt, path.as_str(), SIZE).expect(&rt, "a new file");
-    let all = Call::Read {
-        at: 0,
-        len: SIZE as usize,
-    };
-    for begin in [1, 100] {
-        play_halves(&rt, &mut file, &mut memory, begin);
-        is_alike(&rt, &mut file, &mut memory, all, 0);
-    }
-    drop(file);
-    let mut again = FileDisk::open(&rt, path.as_str()).expect(&rt, "the file");
-    play_halves(&rt, &mut again, &mut memory, 7);
-    is_alike(&rt, &mut again, &mut memory, all, 0);
-    fs::remove_dir_all(&rt, folder.as_str()).expect(&rt, "the folder is removed");
-}
-
-// The lock goes with the last of the halves, and a half lends nothing.
-#[test]
-fn each_half_of_a_file_keeps_its_lock(rt: HostRuntime) {
-    let folder = new_folder(&rt, process::id(rt.process()), "half_locks");
-    let path = path(&rt, folder.as_str(), "disk");
-    let mut file = FileDisk::create(&rt, path.as_str(), 6).expect(&rt, "a new file");
-    same(&rt, file.len(), 6);
-    let (mut log, past) = file.lend_log(4).expect(&rt, "a log");
-    same(&rt, (file.len(), log.len()), (4, 2));
-    same(&rt, file.lend_log(1).err(), Some(DiskError::Memory));
-    same(&rt, log.lend_log(1).err(), Some(DiskError::Memory));
-    drop(past);
-    drop(file);
-    same(
-        &rt,
-        kind_of(FileDisk::open(&rt, path.as_str())),
-        Some(ErrorKind::WouldBlock),
-    );
-    drop(log);
-    same(&rt, kind_of(FileDisk::open(&rt, path.as_str())), None);
     fs::remove_dir_all(&rt, folder.as_str()).expect(&rt, "the folder is removed");
 }
 
