@@ -1,5 +1,5 @@
 -- What the disks mean decides the answer, but for memory and what a device refuses.
-use Rattle.std.proofs.Common.{◌≡◌, ◌≢◌, inl, inr, ℕ, ◌≤◌, List, [], Option, None, Some, arith, length, map, ap, subst, sym, ◌∙◌, refl}
+use Rattle.std.proofs.Common.{◌≡◌, ◌≢◌, ◌⊎◌, inl, inr, ℕ, ◌≤◌, List, [], ◌∷◌, Option, None, Some, arith, length, map, ap, subst, sym, ◌∙◌, refl}
 use Rattle.std.specs.Prelude.{slice_get}
 use Rattle.std.proofs.lemmas.List.{length-map}
 use Rattle.configurations.specs.Record.{Record}
@@ -8,7 +8,9 @@ use Rattle.configurations.specs.Store.{HoldsRecord}
 use Rattle.configurations.specs.declared.refusal.Refusal.{Refusal as RecordRefusal}
 use Rattle.configurations.specs.declared.refusal.Refusal.TheVariants as records
 use Rattle.local_store.specs.Meaning.{Meaning}
+use Rattle.local_store.specs.declared.refusal.Refusal.{Refusal as StoreRefusal}
 use Rattle.local_store.specs.declared.refusal.Refusal.TheVariants as faults
+use Rattle.recovery.specs.declared.refusal.Refusal.{Refusal as ChoiceRefusal}
 use Rattle.recovery.specs.declared.refusal.Refusal.TheVariants.{NoneReturned, NotInChain}
 use Rattle.folder.specs.Chain.{HasNoRecord, HasRecord, config_part}
 use Rattle.folder.specs.Disks.{IsReturned, IsSourceOf}

@@ -1,7 +1,7 @@
 -- What came of opening files, one more after the other.
-use Rattle.std.proofs.Common.{◌≡◌, ℕ, ◌+◌, ◌≤◌, List, [], ◌∷◌, ◌++◌, Result, Ok, Err, IfErr, ◌⊎◌, inl, inr, length, arith, ap, subst, sym, ◌∙◌, refl, zero, suc}
+use Rattle.std.proofs.Common.{◌≡◌, ℕ, ◌+◌, ◌≤◌, List, [], ◌∷◌, ◌++◌, Result, Ok, Err, All, IfErr, IfSome, ◌⊎◌, inl, inr, length, append-nil, arith, ap, subst, sym, ◌∙◌, refl, zero, suc}
 use Rattle.std.specs.Prelude.{IsErrAnd, None, Some, slice_get}
-use Rattle.folder.specs.Files.{AreAscendingFrom, AreOpenings, IsFailureAmong, IsNotFound, disks_there, slots_there}
+use Rattle.folder.specs.Files.{AreAscendingFrom, AreOpenings, IsFailureAmong, IsNotFound, OthersAreAbsent, disks_there, slots_there}
 use Rattle.folder.specs.Refusal.{IsOfFiles}
 use Rattle.folder.specs.declared.failure.Failure.{Failure}
 use Rattle.folder.specs.declared.names.FileName.TheVariants.{Slot}

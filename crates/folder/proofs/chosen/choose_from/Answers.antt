@@ -1,7 +1,13 @@
-use Rattle.std.proofs.Common.{◌≡◌, Err, ap, subst, ◌∙◌}
+use Rattle.std.proofs.Common.{◌≡◌, [], Err, List, Some, length, map, arith, ap, subst, sym, ◌∙◌, refl}
+use Rattle.std.proofs.lemmas.Option.{slice_get_read}
 use Rattle.recovery.specs.Choice.{NoneRecorded}
 use Rattle.recovery.specs.declared.refusal.Refusal.{Refusal}
-use Rattle.recovery.specs.declared.refusal.Refusal.TheVariants.{NotInChain}
+use Rattle.recovery.specs.declared.refusal.Refusal.TheVariants.{NoneReturned, NotInChain}
+use Rattle.folder.specs.Found.{returned_as}
+use Rattle.folder.specs.declared.found.OnDisk.{OnDisk}
+use Rattle.folder.specs.declared.found.OnDisk.TheVariants.{Nothing, Volume}
+use Rattle.folder.proofs.Finding.{none_left}
+use Rattle.folder.proofs.Sources.{source_is_found, source_is_within}
 use Rattle.folder.proofs.chosen.choose_from.Goals as goal
 
 pub returns-in-Err-clause-strangers : goal.returns-in-Err-clause-strangers
