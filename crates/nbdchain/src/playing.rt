@@ -25,11 +25,18 @@ pub(crate) fn words<'a>(alloc: Global) -> Result<Command<'a>, AllocError> {
         .long("explain")
         .action(ArgAction::SetTrue)
         .help("Tells what a line has wrong that is 301, on standard error");
+    let again = Arg::new(alloc, "again")
+        .long("again")
+        .action(ArgAction::SetTrue)
+        .help(
+            "Lives all of it once more as one life, and tells whether that is answered as before, on standard error",
+        );
     Command::new(alloc, "sim")
         .about("Plays a script over disks in memory")
         .after_help(EXAMPLE)
         .arg(file)?
         .arg(trace)?
+        .arg(again)?
         .arg(explain)
 }
 
@@ -49,6 +56,7 @@ pub(crate) fn play_file<R: Files<File = File> + AllocGlobal, O: Write, E: Write>
     let telling = Telling {
         steps: sim.get_flag("trace"),
         mistakes: sim.get_flag("explain"),
+        again: sim.get_flag("again"),
     };
     let file = File::open(rt, path)?;
     let mut reader = BufReader::new(rt.alloc(), file)?;

@@ -1,6 +1,7 @@
 //! How worlds begin, are armed, are cut and go on.
 ghost use Rattle.std.specs.Prelude.{◌≤◌, ◌<◌, vec_len};
 
+use crate::again::Kept;
 use crate::refusal::Refusal;
 use crate::sim::{Left, Sim};
 use disk_model::{Cut, Event, MemDisk};
@@ -40,6 +41,9 @@ impl Sim {
         };
         match life::begin(self.alloc, geometry, members) {
             Ok(world) => {
+                if self.is_kept {
+                    self.kept = Some(Kept::new(self.alloc, geometry, members));
+                }
                 self.goes_on_with(world);
                 Ok(())
             }
@@ -61,7 +65,13 @@ impl Sim {
             return Ok(());
         };
         match &mut self.world {
-            Some(world) if call > 0 && at < world.len() => Ok(world.arm(at, event)?),
+            Some(world) if call > 0 && at < world.len() => {
+                world.arm(at, event)?;
+                match &mut self.kept {
+                    Some(kept) => kept.add_event(at, event),
+                    None => Ok(()),
+                }
+            }
             _ => Ok(()),
         }
     }
@@ -97,6 +107,9 @@ impl Sim {
         let Some(world) = self.world.take() else {
             return Ok(());
         };
+        if let Some(kept) = &mut self.kept {
+            kept.cut(cut);
+        }
         let disks = life::cut(self.alloc, world, cut)?;
         for (slot, disk) in slots.into_iter().zip(disks) {
             self.left.push(Left { slot, disk })?;
@@ -139,6 +152,9 @@ impl Sim {
                 self.speakers.clear();
                 self.faulty.clear();
                 self.goes_on_with(world);
+                if let Some(kept) = &mut self.kept {
+                    kept.returned(at)?;
+                }
                 let member = slot.number();
                 Ok(writeln!(writer, "source {member} front {front}")?)
             }
@@ -146,6 +162,9 @@ impl Sim {
                 let Some(disk) = disk else {
                     return Err(Refusal::Memory);
                 };
+                if let Some(kept) = &mut self.kept {
+                    kept.broken_off();
+                }
                 self.stopped = disk.is_stopped();
                 self.left.push(Left { slot, disk })?;
                 self.not_begun(refusal, writer)

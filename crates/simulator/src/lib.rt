@@ -5,6 +5,7 @@
 #![tactic(auto)]
 
 mod acts;
+mod again;
 mod client;
 mod eras;
 mod manual;

@@ -1,4 +1,5 @@
 //! `nbdchain sim`: plays a script over disks in memory.
+use crate::again::Kept;
 use crate::printed::Printed;
 use crate::refusal::Refusal;
 use crate::script::{ScriptCommand, parse};
@@ -26,6 +27,7 @@ pub fn sim_on<R: BufRead, W: Write>(
     let telling = Telling {
         steps: false,
         mistakes: false,
+        again: false,
     };
     let mut untold: Vec<u8> = Vec::new(alloc);
     tell_on(alloc, reader, writer, telling, &mut untold)
@@ -40,6 +42,7 @@ pub fn tell_on<R: BufRead, W: Write, T: Write>(
     told: &mut T,
 ) -> Result<(), Refusal> {
     let mut sim = Sim::new(alloc);
+    sim.is_kept = telling.again;
     if telling.steps {
         sim.notes = Some(Vec::new(alloc));
     }
@@ -64,7 +67,7 @@ fn play_lines<R: BufRead, W: Write, T: Write>(
         let line = text.strip_suffix(b"\n").unwrap_or(&text);
         sim.tell_line(number, line, writer, telling, told)?;
     }
-    Ok(())
+    sim.tell_again(told)
 }
 
 /// A member's disk, which a cut left.
@@ -88,6 +91,9 @@ pub struct Sim {
     pub(crate) faulty: Vec<Slot>,
     /// What is to be told of the steps since the last command, where they are told.
     pub(crate) notes: Option<Vec<u8>>,
+    /// Whether what is played is kept, to be lived once more.
+    pub(crate) is_kept: bool,
+    pub(crate) kept: Option<Kept>,
 }
 
 impl Sim {
@@ -102,6 +108,8 @@ impl Sim {
             speakers: BTreeMap::new(alloc),
             faulty: Vec::new(alloc),
             notes: None,
+            is_kept: false,
+            kept: None,
         }
     }
 
@@ -116,6 +124,8 @@ impl Sim {
             speakers: _,
             faulty: _,
             notes: _,
+            is_kept: _,
+            kept: _,
         } = self;
         if let Some(world) = world {
             let _stores = world.abandon();

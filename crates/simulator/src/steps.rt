@@ -49,6 +49,10 @@ impl Sim {
         let answer = life::play(self.alloc, world, &step);
         self.note_step(&step, &answer)?;
         self.look_at_devices(printed)?;
+        let is_stopped = self.stopped;
+        if let Some(kept) = &mut self.kept {
+            kept.add_step(step, if is_stopped { None } else { Some(&answer) })?;
+        }
         match answer {
             _ if self.stopped => Ok(Outcome::Skipped),
             Answer::Taken(Told::Out(outputs)) => {

@@ -14,6 +14,8 @@ pub struct Telling {
     pub steps: bool,
     /// What the line has wrong at which the script ends.
     pub mistakes: bool,
+    /// Whether the script, lived once more as one life, is answered as it was.
+    pub again: bool,
 }
 
 /// A step, as a line tells it.
