@@ -72,9 +72,10 @@ impl<S: StoreLike> Model for Node<S> {
 
 impl<S: StoreLike + Drop> Node<S> {
     /// The member whose store this is, in a chain that starts: all that the store holds is known, and no token waits. The
-    /// store isn't broken, and keeps a volume of its size.
+    /// store isn't broken, its log is there, and it keeps a volume of its size.
     pub fn new(alloc: Global, board: &Board, chain: Record, store: S) -> Node<S>
         requires runs { (S.about store).broken ≡ false }
+        requires here { (S.about store).lent ≡ false }
         requires keeps { S.keeps_model → (volume : List ℕ) × S.keeps store volume × (length volume ≡ size_of (S.about store)) }
         ensures store { result.store ≡ store }
         ensures state { result.state ≡ record {

@@ -20,11 +20,12 @@ abbrev pub disk_in : {S D : Type 0} → OnDisk S D → (S → D) → D
 disk_in (Volume store) disk_of = disk_of store
 disk_in (Nothing disk) disk_of = disk
 
--- a store that was found runs, and its incarnation is one that disks are given
+-- a store that was found runs, its log is there, and its incarnation is one that disks are given
 pub record IsRunning {S : Type 0} (about : S → About) (store : S) : Type 0 where
   pub given : 0 < (about store).incarnation
   pub limit : (about store).incarnation < 2 ^ 63
   pub runs : (about store).broken ≡ false
+  pub here : (about store).lent ≡ false
 
 -- what is told to the rule of recovery
 abbrev pub returned_as : {S D : Type 0} → (S → About) → OnDisk S D → Returned

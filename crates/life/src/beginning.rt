@@ -90,6 +90,7 @@ pub(crate) fn world_of<S: StoreLike + Drop>(
     requires given { All (λ s. 0 < (S.about s).incarnation) stores.items }
     requires even { AreEven S.about stores.items }
     requires runs { All (λ s. (S.about s).broken ≡ false) stores.items }
+    requires here { All (λ s. (S.about s).lent ≡ false) stores.items }
     requires keeps { S.keeps_model → All (λ s. (volume : List ℕ) × S.keeps s volume × (length volume ≡ size_of (S.about s))) stores.items }
     ensures many { IfOk result (λ world. length world.chain.members ≡ length stores.items) }
     ensures stores { IfOk result (λ world. stores_of world ≡ stores.items) }

@@ -1,5 +1,5 @@
 -- What a store tells of itself, whatever it is kept on.
-use Rattle.std.specs.Prelude.{◌≢◌, ◌↔◌, ℕ, ◌+◌, ◌<◌, ◌≤◌, Bool, List}
+use Rattle.std.specs.Prelude.{◌≢◌, ◌↔◌, ℕ, ◌+◌, ◌<◌, ◌≤◌, Bool, false, List}
 use Rattle.flusher.specs.Plan.{IsRun, IsWithin}
 use Rattle.flusher.specs.declared.plan.Run.{Run}
 use Rattle.gate_journal.specs.Batch.{batch_size}
@@ -10,7 +10,7 @@ use Rattle.local_store.specs.Store.{State, geometry_of}
 use Rattle.volume.specs.declared.geometry.Geometry.{Geometry}
 
 -- whose disk it is, the sizes, the front, the bytes of the current area that batches have, how many superblocks were
--- stored, and whether a device call failed
+-- stored, whether a device call failed, and whether the log is lent out
 pub record About : Type 0 where
   pub slot : ℕ
   pub incarnation : ℕ
@@ -19,6 +19,7 @@ pub record About : Type 0 where
   pub used : ℕ
   pub stores : ℕ
   pub broken : Bool
+  pub lent : Bool
 
 -- what a store means that tells this of itself and keeps the volume
 abbrev pub meaning_with : About → List ℕ → Meaning
@@ -53,6 +54,7 @@ about_of store = record {
   used = store.journal.end;
   stores = store.home.pair.number;
   broken = store.broken;
+  lent = false;
 }
 
 -- one of these was pending, the block, and now it isn't; of each other it is as before

@@ -70,7 +70,7 @@ impl Contents {
         requires on_disk { disk_size_of geometry ≤ D.size disk.old }
         requires limit { incarnation ≤ MAX_NUMBER }
 
-        ensures about { IfOk result (λ s. about_of s ≡ record { slot = slot; incarnation = incarnation; geometry = geometry; front = 0; used = 0; stores = 1; broken = false }) }
+        ensures about { IfOk result (λ s. about_of s ≡ record { slot = slot; incarnation = incarnation; geometry = geometry; front = 0; used = 0; stores = 1; broken = false; lent = false }) }
         ensures stored { D.keeps_model → IfOk result (λ s. IsStored s (replicate (4096 * geometry.blocks) 0) (D.gives disk.new) (D.may_leave_now disk.new)) }
         ensures size { D.size disk.new ≡ D.size disk.old }
         ensures told { IfErr result IsOfFormatting }

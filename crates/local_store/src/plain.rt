@@ -52,14 +52,14 @@ impl Model for PlainStore {
     ghost Value = { Plain };
 
     ghost view = { λ s. record {
-      about = record { slot = s.slot; incarnation = s.incarnation; geometry = s.geometry; front = s.front; used = s.used; stores = s.stores; broken = s.broken };
+      about = record { slot = s.slot; incarnation = s.incarnation; geometry = s.geometry; front = s.front; used = s.used; stores = s.stores; broken = s.broken; lent = false };
       volume = s.volume.items;
       pending = s.pending.items;
       failures = failures_of s.stamps;
     } };
 
     ghost invariant = { λ s. IsPlain (record {
-      about = record { slot = s.slot; incarnation = s.incarnation; geometry = s.geometry; front = s.front; used = s.used; stores = s.stores; broken = s.broken };
+      about = record { slot = s.slot; incarnation = s.incarnation; geometry = s.geometry; front = s.front; used = s.used; stores = s.stores; broken = s.broken; lent = false };
       volume = s.volume.items;
       pending = s.pending.items;
       failures = failures_of s.stamps;
@@ -75,7 +75,7 @@ impl PlainStore {
         geometry: Geometry,
     ) -> Result<PlainStore, AllocError>
         requires { incarnation ≤ MAX_NUMBER }
-        ensures about { IfOk result (λ s. s.about ≡ record { slot = slot; incarnation = incarnation; geometry = geometry; front = 0; used = 0; stores = 1; broken = false }) }
+        ensures about { IfOk result (λ s. s.about ≡ record { slot = slot; incarnation = incarnation; geometry = geometry; front = 0; used = 0; stores = 1; broken = false; lent = false }) }
         ensures volume { IfOk result (λ s. s.volume ≡ replicate (4096 * geometry.blocks) 0) }
     {
         let blocks = geometry.blocks as usize;

@@ -41,7 +41,7 @@ impl<D: Disk + Drop> Store<D> {
     ) -> Result<Store<D>, (Refusal, D)>
         requires on_disk { disk_size_of geometry ≤ D.size disk }
         requires limit { incarnation ≤ MAX_NUMBER }
-        ensures about { IfOk result (λ s. about_of s.contents ≡ record { slot = slot; incarnation = incarnation; geometry = geometry; front = 0; used = 0; stores = 1; broken = false }) }
+        ensures about { IfOk result (λ s. about_of s.contents ≡ record { slot = slot; incarnation = incarnation; geometry = geometry; front = 0; used = 0; stores = 1; broken = false; lent = false }) }
         ensures stored { D.keeps_model → IfOk result (λ s. IsStored s.contents (replicate (4096 * geometry.blocks) 0) (D.gives s.disk) (D.may_leave_now s.disk)) }
         ensures unchanged { IfErr result (λ e. e.0 ≡ Refusal.Memory → e.1 ≡ disk) }
         ensures size { IfErr result (λ e. D.size e.1 ≡ D.size disk) }

@@ -109,6 +109,7 @@ pub trait StoreLike {
     fn commit(&mut self, alloc: Global, front: u64, images: &[Image]) -> Result<Synced, Refusal>
         requires images { AreImages (about self.old).geometry.blocks images.now }
         requires limit { front ≤ MAX_NUMBER }
+        requires here { (about self.old).lent ≡ false }
         ensures receipt { IfOk result (λ receipt. receipt ≡ record { slot = (about self.old).slot; front = front }) }
         ensures ok { OnOk result (about self.new ≡ one_commit_more (about self.old) front (length images.now)) }
         ensures pends { OnOk result ((b : ℕ) → is_pending self.new b ↔ (is_pending self.old b ⊎ Any (λ image. image.block ≡ b) images.now)) }
@@ -170,6 +171,7 @@ pub trait StoreLike {
     /// 122 `Broken` exactly where a device call failed before; else 121 `Full` exactly where no number is left for another
     /// superblock: these change nothing. After a refusal of the device the store is broken.
     fn checkpoint(&mut self) -> Result<(), Refusal>
+        requires here { (about self.old).lent ≡ false }
         ensures ok { OnOk result (about self.new ≡ one_checkpoint_more (about self.old)) }
         ensures empty { OnOk result ((b : ℕ) → is_pending self.new b → ⊥) }
         ensures kept { keeps_model → (volume : List ℕ) → keeps self.old volume → OnOk result (keeps self.new volume) }

@@ -13,6 +13,7 @@ loop-store-init g c = let given = c.into_iter-store-iterator.ensures.into_iter_g
       ∙ ap (map (beginning_of g.S.StoreLike.about c.args.board.now c.args.told.now)) given;
   copies = rw given c.requires.copies;
   runs = rw given c.requires.runs;
+  here = rw given c.requires.here;
   keeps = rw given c.requires.keeps;
   room = rw given (search rules);
   capacity = search rules;
@@ -35,6 +36,7 @@ loop-store-preserved g c =
           (c.new.ensures ∙ ap (λ (told : Record). beginning_of g.S.StoreLike.about c.args.board.now told c.in-Some.store) taken.1) split c.loop-store.invariant.members;
       copies = taken.0;
       runs = others_have (λ store. (g.S.StoreLike.about store).broken ≡ false) c.in-Some.store c.next.new.self.rest.items c.loop-store.store-iterator.rest.items split c.loop-store.invariant.runs;
+      here = others_have (λ store. (g.S.StoreLike.about store).lent ≡ false) c.in-Some.store c.next.new.self.rest.items c.loop-store.store-iterator.rest.items split c.loop-store.invariant.here;
       keeps = λ premise. others_have (λ store. (volume : List ℕ) × g.S.StoreLike.keeps store volume × (length volume ≡ size_of (g.S.StoreLike.about store))) c.in-Some.store c.next.new.self.rest.items
           c.loop-store.store-iterator.rest.items split (c.loop-store.invariant.keeps premise);
       room = omega (arith, c.loop-store.invariant.room, more, c.push_reserved.ensures.len);
