@@ -15,6 +15,8 @@ import kit
 # The kinds of tasks that may use several processors.
 SHARED = ("proof", "tests")
 MOST_JOBS = 4
+# How much a command that gives way lowers its priority.
+PATIENCE = 10
 # What a check was seen to take at most of the memory that the kit counts for it, and what each job more takes of that.
 MEMORY, MEMORY_A_JOB = 0.65, 0.6
 
@@ -51,12 +53,12 @@ class Task:
         return self.crate.name, self.kind
 
 
-def run(words, log):
-    """Runs a command; what it prints goes to the log."""
+def run(words, log, gives_way):
+    """Runs a command, which gives way to others if it is told to; what it prints goes to the log."""
     begun = time.time()
     os.makedirs(os.path.dirname(log), exist_ok=True)
     with open(log, "wb") as out:
-        started = subprocess.Popen(words, cwd=kit.ROOT, stdin=subprocess.DEVNULL, stdout=out, stderr=subprocess.STDOUT)
+        started = subprocess.Popen(words, cwd=kit.ROOT, stdin=subprocess.DEVNULL, stdout=out, stderr=subprocess.STDOUT, preexec_fn=(lambda: os.nice(PATIENCE)) if gives_way else None)
         _, status, usage = os.wait4(started.pid, 0)
     started.returncode = os.waitstatus_to_exitcode(status)
     return Done(started.returncode, log, time.time() - begun, usage.ru_utime + usage.ru_stime)
@@ -81,7 +83,7 @@ def minutes_of(crates):
 
 class Lanes:
     """Runs tasks side by side, one a processor, as many as memory holds; those first that the longest chain of others waits for. The
-    first of all has two jobs, and where others leave processors idle, more."""
+    first of all has as many jobs as there are processors, since the whole waits for it; the others give way to it."""
 
     def __init__(self, tasks, logs, tell):
         self.tasks = {it.key: it for it in tasks}
@@ -110,10 +112,10 @@ class Lanes:
             visit(key)
         return order
 
-    def call(self, task, jobs):
+    def call(self, task, jobs, gives_way):
         log = f"{self.logs}/{task.crate.name}.{task.kind.replace(' ', '-')}.log"
         if all(it not in self.given or self.given[it].is_well for it in task.waits):
-            done = run([*task.words, "--jobs", str(jobs)] if task.kind in SHARED else task.words, log)
+            done = run([*task.words, "--jobs", str(jobs)] if task.kind in SHARED else task.words, log, gives_way)
         else:
             done = Done(None, log)
         with self.telling:
@@ -121,11 +123,15 @@ class Lanes:
         return done
 
     def jobs_for(self, task, idle, ready):
-        """How many processors the task may use. The first of all tasks that are left gets two, whatever else runs: all others end before it."""
+        """How many processors the task may use. The first of all tasks that are left gets all, whatever else runs: all others end before it."""
         if task.kind not in SHARED:
             return 1
-        is_first = self.behind[task.key] >= max(self.behind[it] for it in self.tasks if it not in self.given)
-        return max(2 if is_first else 1, min(MOST_JOBS, idle // ready))
+        most = min(MOST_JOBS, self.lanes)
+        return most if self.is_first(task) else max(1, min(most, idle // ready))
+
+    def is_first(self, task):
+        """Whether the longest chain of tasks that are left begins with this one."""
+        return self.behind[task.key] >= max(self.behind[it] for it in self.tasks if it not in self.given)
 
     def memory_for(self, task, jobs):
         return kit.rt.need(task.crate) * MEMORY * (1 + MEMORY_A_JOB * (jobs - 1))
@@ -135,7 +141,8 @@ class Lanes:
         ready = [it for it in left if all(key in self.given or key not in self.tasks for key in self.tasks[it].waits)]
         for at, key in enumerate(ready):
             task = self.tasks[key]
-            idle = self.lanes - sum(jobs for _, jobs, _ in self.running.values())
+            # However many jobs a task has, some of them wait for others: it leaves room for two of those that give way.
+            idle = self.lanes - sum(min(jobs, max(1, self.lanes - 2)) for _, jobs, _ in self.running.values())
             if idle <= 0:
                 return
             jobs = self.jobs_for(task, idle, len(ready) - at)
@@ -145,7 +152,7 @@ class Lanes:
             if self.running and self.memory_for(task, jobs) > room:
                 continue
             left.remove(key)
-            self.running[pool.submit(self.call, task, jobs)] = key, jobs, self.memory_for(task, jobs)
+            self.running[pool.submit(self.call, task, jobs, not self.is_first(task))] = key, jobs, self.memory_for(task, jobs)
 
     def all_run(self):
         left = sorted(self.tasks, key=lambda it: -self.behind[it])

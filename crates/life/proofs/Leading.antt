@@ -18,7 +18,7 @@ module _ {S : Type 0} (premise : Type 0) (about : S → About) (keeps : S → Li
 
   -- one deed more
   pub leads_more : (deeds : List Deed) (answers : List Answer) (old mid new : Seen S) (deed : Deed) (answer : Answer) → length answers ≡ length deeds → Lead deeds answers old mid
-      → Does deed answer mid new → (HasMetStop new → ⊥) → Lead (deeds ++ deed ∷ []) (answers ++ answer ∷ []) old new
+      → Does deed answer mid new → (HasMetStop disk new → ⊥) → Lead (deeds ++ deed ∷ []) (answers ++ answer ∷ []) old new
   leads_more [] [] old mid new deed answer many leads did runs = (new, subst (λ w. Does deed answer w new) leads did, runs, refl)
   leads_more [] (a ∷ answers) old mid new deed answer many leads did runs = absurd leads
   leads_more (d ∷ deeds) [] old mid new deed answer many leads did runs = absurd (omega (arith, many))
@@ -27,7 +27,7 @@ module _ {S : Type 0} (premise : Type 0) (about : S → About) (keeps : S → Li
 
   -- and one in which a stop was met, whatever deeds were to come
   pub leads_to_stop : (deeds : List Deed) (answers : List Answer) (old mid new : Seen S) (deed : Deed) (answer : Answer) (rest : List Deed) → length answers ≡ length deeds → Lead deeds answers old mid
-      → Does deed answer mid new → HasMetStop new → Lead (deeds ++ deed ∷ rest) answers old new
+      → Does deed answer mid new → HasMetStop disk new → Lead (deeds ++ deed ∷ rest) answers old new
   leads_to_stop [] [] old mid new deed answer rest many leads did met = (answer, subst (λ w. Does deed answer w new) leads did, met)
   leads_to_stop [] (a ∷ answers) old mid new deed answer rest many leads did met = absurd leads
   leads_to_stop (d ∷ deeds) [] old mid new deed answer rest many leads did met = absurd (omega (arith, many))

@@ -1,15 +1,16 @@
 -- A device call that met its stop: lemmas.
-use Rattle.std.proofs.Common.{◌≡◌, ℕ, zero, suc, ◌<◌, None, Option, Some, List, [], ◌∷◌, length, refl, ap, sym, subst, ◌∙◌, arith}
-use Rattle.std.specs.Prelude.{IfSome, slice_get}
-use Rattle.std.proofs.lemmas.Option.{get_or_from_slice_get, slice_get_within}
-use Rattle.chain_steps.specs.declared.cause.Cause.{Cause}
-use Rattle.chain_steps.specs.declared.cause.Cause.TheVariants.{Device}
-use Rattle.disk_model.specs.declared.error.DiskError.TheVariants.{Stopped}
+use Rattle.std.proofs.Common.{◌≡◌, ◌⊎◌, ℕ, zero, suc, ◌+◌, ◌<◌, ◌≤◌, true, false, Some, List, [], ◌∷◌, length, map, refl, ap, inl, inr, ⊎_elim, sym, subst, ◌∙◌, arith}
+use Rattle.std.specs.Prelude.{IfSome, option_map, slice_get}
+use Rattle.std.proofs.lemmas.Bool.{cases_lt}
+use Rattle.std.proofs.lemmas.List.{length-map}
+use Rattle.std.proofs.lemmas.Option.{get_or_from_slice_get, same_Some, slice_get-map, slice_get_within}
+use Rattle.chain.specs.Member.{Linked}
+use Rattle.disk_model.specs.Memory.{has_stopped}
 use Rattle.disk_model.specs.declared.memory.MemDisk.{MemDisk}
 use Rattle.flush_barrier.specs.declared.session_id.SessionId.{SessionId}
 use Rattle.local_store.specs.About.{About}
 use Rattle.world.specs.World.{Seen}
-use Rattle.life.specs.Begun.{AllRun}
+use Rattle.life.specs.Begun.{AllGo, stores_of}
 use Rattle.life.specs.Does.{DoesDeed}
 use Rattle.life.specs.Played.{fed_by}
 use Rattle.life.specs.Plays.{HasMetStop}
@@ -24,32 +25,53 @@ there_at [] at within = absurd (omega (arith, within))
 there_at (x ∷ xs) zero within = (x, refl)
 there_at (x ∷ xs) (suc at) within = there_at xs at (omega (arith, within))
 
--- a stop was met where the cause is told
-pub met_at : {S : Type 0} (w : Seen S) (at : ℕ) (cause : Option Cause) → at < length w.chain.members → IfSome (slice_get w.chain.members at) (λ m. cause ≡ m.node.state.stopped) → cause ≡ Some (Device Stopped) → HasMetStop w
-met_at w at cause within tells stopped =
-    let (m, here) = there_at w.chain.members at within in
-    let is : cause ≡ m.node.state.stopped = subst (λ o. IfSome o (λ n. cause ≡ n.node.state.stopped)) here tells in
-    record { at = at; member = m; here = here; stopped = sym is ∙ stopped }
+module _ {S : Type 0} (disk : S → MemDisk) (w : Seen S) where
+  store_at : (at : ℕ) (s : S) → at < length w.chain.members → IfSome (slice_get w.chain.members at) (λ m. s ≡ m.node.store) → slice_get (stores_of w) at ≡ Some s
+  store_at at s within is =
+      let (m, here) = there_at w.chain.members at within in
+      let same : s ≡ m.node.store = subst (λ o. IfSome o (λ n. s ≡ n.node.store)) here is in
+      slice_get-map (λ (m : Linked S). m.node.store) w.chain.members at ∙ ap (option_map (λ (m : Linked S). m.node.store)) here ∙ ap Some (sym same)
 
--- where every member runs none was met
-pub none_met : {S : Type 0} (w : Seen S) → AllRun w → HasMetStop w → ⊥
-none_met w run met =
-    let runs : met.member.node.state.stopped ≡ None = subst (λ m. m.node.state.stopped ≡ None) (get_or_from_slice_get w.chain.members met.at met.member met.member met.here)
-    (run met.at met.member (slice_get_within w.chain.members met.at met.member met.here)) in
-    let no : None ≡ Some (Device Stopped) = sym runs ∙ met.stopped in
-    absurd (cc)
+  -- a stop was met where the disk says so
+  pub met_at : (at : ℕ) (s : S) → at < length w.chain.members → IfSome (slice_get w.chain.members at) (λ m. s ≡ m.node.store) → has_stopped (disk s) ≡ true → HasMetStop disk w
+  met_at at s within is stopped = record { at = at; store = s; here = store_at at s within is; stopped = stopped }
+
+  -- none was met by so many members' disks
+  abbrev pub NoneBefore : ℕ → Type 0
+  NoneBefore at = (k : ℕ) (s : S) → k < at → slice_get (stores_of w) k ≡ Some s → has_stopped (disk s) ≡ false
+
+  pub none_more : (at : ℕ) (s : S) → at < length w.chain.members → IfSome (slice_get w.chain.members at) (λ m. s ≡ m.node.store) → has_stopped (disk s) ≡ false → NoneBefore at → NoneBefore (at + 1)
+  none_more at s within is runs before k other below here = ⊎_elim (λ less. before k other less here) (λ (more : at ≤ k). last (omega (arith, more, below))) (cases_lt k at)
+    where
+      last : k ≡ at → has_stopped (disk other) ≡ false
+      last same =
+          let there : slice_get (stores_of w) k ≡ Some s = subst (λ (n : ℕ). slice_get (stores_of w) n ≡ Some s) (sym same) (store_at at s within is) in
+          subst (λ (s : S). has_stopped (disk s) ≡ false) (same_Some s other (sym there ∙ here)) runs
+
+  pub none_at_all : (at : ℕ) → length w.chain.members ≤ at → NoneBefore at → HasMetStop disk w → ⊥
+  none_at_all at all before met =
+      let within = slice_get_within (stores_of w) met.at met.store met.here in
+      let long = length-map w.chain.members (λ (m : Linked S). m.node.store) in
+      let no : false ≡ true = sym (before met.at met.store (omega (arith, within, long, all)) met.here) ∙ met.stopped in absurd (cc)
+
+  -- where no disk has stopped none was met
+  pub none_met : AllGo disk w → HasMetStop disk w → ⊥
+  none_met go met =
+      let runs : has_stopped (disk met.store) ≡ false = subst (λ (s : S). has_stopped (disk s) ≡ false) (get_or_from_slice_get (stores_of w) met.at met.store met.store met.here)
+      (go met.at met.store (slice_get_within (stores_of w) met.at met.store met.here)) in
+      let no : false ≡ true = sym runs ∙ met.stopped in absurd (cc)
 
 -- nor by what leaves the chain as it was
-met_before : {S : Type 0} (old new : Seen S) → new.chain ≡ old.chain → HasMetStop new → HasMetStop old
-met_before old new same met = record { at = met.at; member = met.member; here = ap (λ c. slice_get c.members met.at) (sym same) ∙ met.here; stopped = met.stopped }
+met_before : {S : Type 0} (disk : S → MemDisk) (old new : Seen S) → new.chain ≡ old.chain → HasMetStop disk new → HasMetStop disk old
+met_before disk old new same met = record { at = met.at; store = met.store; here = ap (λ c. slice_get (map (λ m. m.node.store) c.members) met.at) (sym same) ∙ met.here; stopped = met.stopped }
 
 module _ {S : Type 0} (premise : Type 0) (about : S → About) (keeps : S → List ℕ → Type 0) (is_pending : S → ℕ → Type 0) (may_leave_now : S → List ℕ → Type 0) (moment : S → ℕ)
     (left_since : S → ℕ → List ℕ → Type 0) (failures : S → ℕ) (disk : S → MemDisk) where
   -- so what met one fed no session
-  pub unfed : (deed : Deed) (answer : Answer) (old new : Seen S) → DoesDeed premise about keeps is_pending may_leave_now moment left_since failures disk deed answer old new → (HasMetStop old → ⊥) → HasMetStop new
+  pub unfed : (deed : Deed) (answer : Answer) (old new : Seen S) → DoesDeed premise about keeps is_pending may_leave_now moment left_since failures disk deed answer old new → (HasMetStop disk old → ⊥) → HasMetStop disk new
       → (id : SessionId) → fed_by deed answer id ≡ []
   unfed (deeds.Step (Connect session at)) answer old new does runs met id = refl
-  unfed (deeds.Step (Bytes session piece)) answer old new (given, tells, did) runs met id = absurd (runs (met_before old new (takes_in about premise keeps is_pending may_leave_now moment left_since failures session piece.items given old new did) met))
+  unfed (deeds.Step (Bytes session piece)) answer old new (given, tells, did) runs met id = absurd (runs (met_before disk old new (takes_in about premise keeps is_pending may_leave_now moment left_since failures session piece.items given old new did) met))
   unfed (deeds.Step (End session)) answer old new does runs met id = refl
   unfed (deeds.Step (HandOut session)) answer old new does runs met id = refl
   unfed (deeds.Step (Member at act)) answer old new does runs met id = refl

@@ -2,7 +2,7 @@
 use Rattle.std.specs.Prelude.{◌≡◌, ℕ, ◌*◌, ◌<◌, ◌≤◌, false, All, List, [], None, length, map}
 use Rattle.disk_model.specs.Disk.{Only}
 use Rattle.disk_model.specs.Content.{left_by}
-use Rattle.disk_model.specs.Memory.{bytes_of, given_of, may_be_left, unsynced_of}
+use Rattle.disk_model.specs.Memory.{bytes_of, given_of, has_stopped, may_be_left, unsynced_of}
 use Rattle.disk_model.specs.declared.content.Cut.{Cut}
 use Rattle.disk_model.specs.declared.memory.MemDisk.{MemDisk}
 use Rattle.home_blocks.specs.Places.{disk_size_of}
@@ -46,6 +46,10 @@ pub record IsCutFrom {S : Type 0} (may_leave_now : S → List ℕ → Type 0) (o
   pub content : given_of disk ≡ left_by cut (bytes_of (own store)) (unsynced_of (own store))
   pub left : may_leave_now store (given_of disk)
   pub only : Only (given_of disk) (may_be_left disk)
+
+-- no member's disk has stopped
+abbrev pub AllGo : {S : Type 0} → (S → MemDisk) → Seen S → Type 0
+AllGo disk w = All (λ s. has_stopped (disk s) ≡ false) (stores_of w)
 
 -- each member's disk is that of an incarnation, counted from 1, and has the sizes of the chain's volume
 abbrev pub AreOnDisks : {S : Type 0} → (S → About) → Seen S → Type 0

@@ -1,12 +1,9 @@
 -- How an era is played: each deed does what it names, one after another, and then the chain goes on from one disk.
-use Rattle.std.specs.Prelude.{◌≡◌, ℕ, Some, List, [], ◌∷◌, length, slice_get}
+use Rattle.std.specs.Prelude.{◌≡◌, ℕ, true, Some, List, [], ◌∷◌, length, slice_get}
 use Rattle.std.specs.List.{AllZip, flat_map}
 use Rattle.std.specs.Option.{option_to_list}
-use Rattle.chain.specs.Member.{Linked}
 use Rattle.chain_steps.specs.declared.cause.Cause.{Cause}
-use Rattle.chain_steps.specs.declared.cause.Cause.TheVariants.{Device}
-use Rattle.disk_model.specs.Memory.{given_of}
-use Rattle.disk_model.specs.declared.error.DiskError.TheVariants.{Stopped}
+use Rattle.disk_model.specs.Memory.{given_of, has_stopped}
 use Rattle.disk_model.specs.declared.memory.MemDisk.{MemDisk}
 use Rattle.local_store.specs.About.{About}
 use Rattle.local_store.specs.Meaning.{Meaning, Means}
@@ -21,12 +18,12 @@ use Rattle.life.specs.declared.era.Era.{Era}
 abbrev pub causes_of : {S : Type 0} → Seen S → List Cause
 causes_of w = flat_map (λ m. option_to_list m.node.state.stopped) w.chain.members
 
--- a device call met its stop: the member whose disk it was has stopped for that
-pub record HasMetStop {S : Type 0} (w : Seen S) : Type 0 where
+-- a device call met its stop: the disk of a member has stopped
+pub record HasMetStop {S : Type 0} (disk : S → MemDisk) (w : Seen S) : Type 0 where
   pub at : ℕ
-  pub member : Linked S
-  pub here : slice_get w.chain.members at ≡ Some member
-  pub stopped : member.node.state.stopped ≡ Some (Device Stopped)
+  pub store : S
+  pub here : slice_get (stores_of w) at ≡ Some store
+  pub stopped : has_stopped (disk store) ≡ true
 
 module _ {S : Type 0} (premise : Type 0) (about : S → About) (keeps : S → List ℕ → Type 0) (is_pending : S → ℕ → Type 0) (may_leave_now : S → List ℕ → Type 0) (moment : S → ℕ)
     (left_since : S → ℕ → List ℕ → Type 0) (failures : S → ℕ) (disk : S → MemDisk) where
@@ -35,9 +32,9 @@ module _ {S : Type 0} (premise : Type 0) (about : S → About) (keeps : S → Li
   abbrev pub DeedsLead : List Deed → List Answer → Seen S → Seen S → Type 0
   DeedsLead [] [] old new = new ≡ old
   DeedsLead [] (answer ∷ answers) old new = ⊥
-  DeedsLead (deed ∷ deeds) [] old new = (answer : Answer) × DoesDeed premise about keeps is_pending may_leave_now moment left_since failures disk deed answer old new × HasMetStop new
+  DeedsLead (deed ∷ deeds) [] old new = (answer : Answer) × DoesDeed premise about keeps is_pending may_leave_now moment left_since failures disk deed answer old new × HasMetStop disk new
   DeedsLead (deed ∷ deeds) (answer ∷ answers) old new =
-      (mid : Seen S) × DoesDeed premise about keeps is_pending may_leave_now moment left_since failures disk deed answer old mid × (HasMetStop mid → ⊥) × DeedsLead deeds answers mid new
+      (mid : Seen S) × DoesDeed premise about keeps is_pending may_leave_now moment left_since failures disk deed answer old mid × (HasMetStop disk mid → ⊥) × DeedsLead deeds answers mid new
 
 -- Everything stopped, each disk was cut as the era says, and the chain goes on alone from the one at its place: with what that means.
 pub record GoesOnFrom {S : Type 0} (about : S → About) (keeps : S → List ℕ → Type 0) (may_leave_now : S → List ℕ → Type 0) (disk : S → MemDisk) (era : Era) (old new : Seen S) : Type 0 where

@@ -1,6 +1,8 @@
 -- Why a world doesn't begin, or doesn't go on.
-use Rattle.std.specs.Prelude.{◌≡◌, ◌≢◌, ◌⊎◌, ℕ, ◌≤◌, List, [], ◌∷◌}
+use Rattle.std.specs.Prelude.{◌≡◌, ◌≢◌, ◌⊎◌, ℕ, ◌≤◌, true, List, [], ◌∷◌}
+use Rattle.disk_model.specs.Memory.{has_stopped}
 use Rattle.disk_model.specs.declared.error.DiskError.TheVariants as faults
+use Rattle.disk_model.specs.declared.memory.MemDisk.{MemDisk}
 use Rattle.local_store.specs.Refusal.{IsCaused, IsOfOpening}
 use Rattle.local_store.specs.declared.refusal.Refusal as store
 use Rattle.local_store.specs.declared.refusal.Refusal.TheVariants as stores
@@ -26,6 +28,10 @@ abbrev pub IsCausedBy : (before now : ℕ) → Refusal → Type 0
 IsCausedBy before now Memory = Unit {0}
 IsCausedBy before now NotInChain = Unit {0}
 IsCausedBy before now (Store refusal) = IsCaused before now refusal
+
+-- the disk met its stop, and says so
+abbrev pub IsStopOf : MemDisk → Refusal → Type 0
+IsStopOf disk refusal = (refusal ≡ Store (stores.Device faults.Stopped)) × (has_stopped disk ≡ true)
 
 -- what the store of a member's disk may be refused with: its device's error, or memory that runs out
 abbrev pub IsOfReopening : store.Refusal → Type 0

@@ -3,7 +3,8 @@ ghost use Rattle.std.specs.Prelude.{◌≡◌, ◌≢◌, ◌*◌, ◌<◌, ◌�
 ghost use Rattle.std.specs.List.{AllPairs, range_with_len};
 ghost use Rattle.chain.specs.Opening.{AreEven, recorded_in};
 ghost use Rattle.chain_core.specs.Node.{size_of};
-ghost use Rattle.life.specs.Begun.{AreOnDisks, BeginsWith, first_about, stores_of};
+ghost use Rattle.disk_model.specs.Memory.{has_stopped};
+ghost use Rattle.life.specs.Begun.{AllGo, AreOnDisks, BeginsWith, first_about, stores_of};
 ghost use Rattle.life.specs.Refusal.{IsOfMemory};
 ghost use Rattle.volume.specs.Writes.{volume_of};
 
@@ -37,6 +38,7 @@ pub fn begin(
     ensures many { IfOk result (λ world. length world.chain.members ≡ members) }
     ensures slots { IfOk result (λ world. map ⟦<Store<MemDisk> as StoreLike>⟧.about (stores_of world) ≡ map (first_about geometry) (range_with_len 0 members)) }
     ensures disks { IfOk result (λ world. AreOnDisks ⟦<Store<MemDisk> as StoreLike>⟧.about world) }
+    ensures go { IfOk result (AllGo (λ s. s.disk)) }
     ensures begins { IfOk result (BeginsWith ⟦<Store<MemDisk> as StoreLike>⟧.about ⟦<Store<MemDisk> as StoreLike>⟧.keeps ⟦<Store<MemDisk> as StoreLike>⟧.may_leave_now
         geometry 0 (volume_of (4096 * geometry.blocks) [])) }
     ensures refused { IfErr result IsOfMemory }
@@ -54,6 +56,7 @@ fn first_stores(
     requires few { members ≤ 8 }
     ensures about { IfOk result (λ stores. map ⟦<Store<MemDisk> as StoreLike>⟧.about stores.items ≡ map (first_about geometry) (range_with_len 0 members)) }
     ensures kept { IfOk result (λ stores. All (λ s. ⟦<Store<MemDisk> as StoreLike>⟧.keeps s (replicate (4096 * geometry.blocks) 0)) stores.items) }
+    ensures go { IfOk result (λ stores. All (λ s. has_stopped s.disk ≡ false) stores.items) }
     ensures refused { IfErr result IsOfMemory }
 {
     let mut stores = Vec::with_capacity(alloc, usize::from(members))?;
@@ -68,6 +71,7 @@ fn first_store(alloc: Global, geometry: Geometry, number: u8) -> Result<Store<Me
     requires { number < 8 }
     ensures about { IfOk result (λ s. ⟦<Store<MemDisk> as StoreLike>⟧.about s ≡ first_about geometry number) }
     ensures kept { IfOk result (λ s. ⟦<Store<MemDisk> as StoreLike>⟧.keeps s (replicate (4096 * geometry.blocks) 0)) }
+    ensures go { IfOk result (λ s. has_stopped s.disk ≡ false) }
     ensures refused { IfErr result IsOfMemory }
 {
     let slot = Slot::new(number).unwrap();

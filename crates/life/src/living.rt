@@ -7,7 +7,7 @@ ghost use Rattle.flush_barrier.specs.declared.session_id.SessionId.{SessionId};
 ghost use Rattle.disk_model.specs.declared.memory.MemDisk.{MemDisk};
 ghost use Rattle.local_store.specs.Meaning.{Meaning, Means};
 ghost use Rattle.std.specs.List.{AllZip};
-ghost use Rattle.life.specs.Begun.{AreOfMember, AreOnDisks, BeginsWith, IsOfMember, stores_of};
+ghost use Rattle.life.specs.Begun.{AllGo, AreOfMember, AreOnDisks, BeginsWith, IsOfMember, stores_of};
 ghost use Rattle.life.specs.Does.{DoesDeed, IsArmed};
 ghost use Rattle.life.specs.Headline.{EraLeads, IsOneLife};
 ghost use Rattle.life.specs.Lived.{AreOfOneVolume, IsFresh};
@@ -25,9 +25,8 @@ use crate::era::{Answers, Deed, Era};
 use crate::playing::play;
 use crate::recovering::{Refused, recover};
 use crate::refusal::Refusal;
-use chain_steps::Cause;
 use clients::sessions_are_lawful;
-use disk_model::{Cut, DiskError, Event, MemDisk};
+use disk_model::{Cut, Event, MemDisk};
 use local_store::{Store, StoreLike, disks_mean_one};
 use std::alloc::{AllocError, Global};
 use volume::Geometry;
@@ -79,7 +78,9 @@ fn live_era(
 ) -> Result<(Vec<Answer>, World<Store<MemDisk>>), Refusal>
     requires fresh { (export : Export) × (s : State) × IsFresh ⟦<Store<MemDisk> as StoreLike>⟧.about ⟦<Store<MemDisk> as StoreLike>⟧.keeps ⟦<Store<MemDisk> as StoreLike>⟧.may_leave_now export.size export world s }
     requires disks { AreOnDisks ⟦<Store<MemDisk> as StoreLike>⟧.about world }
+    requires go { AllGo (λ s. s.disk) world }
     ensures disks { IfOk result (λ lived. AreOnDisks ⟦<Store<MemDisk> as StoreLike>⟧.about lived.1) }
+    ensures go { IfOk result (λ lived. AllGo (λ s. s.disk) lived.1) }
     ensures all { IfOk result (λ lived. length lived.0.items ≤ length era.now.deeds.items) }
     ensures lived { IfOk result (λ lived. (export : Export) (s : State) → IsFresh ⟦<Store<MemDisk> as StoreLike>⟧.about ⟦<Store<MemDisk> as StoreLike>⟧.keeps ⟦<Store<MemDisk> as StoreLike>⟧.may_leave_now export.size export world s
         → (t : State) × EraLeads ⟦<Store<MemDisk> as StoreLike>⟧.keeps_model ⟦<Store<MemDisk> as StoreLike>⟧.about ⟦<Store<MemDisk> as StoreLike>⟧.keeps ⟦<Store<MemDisk> as StoreLike>⟧.is_pending ⟦<Store<MemDisk> as StoreLike>⟧.may_leave_now ⟦<Store<MemDisk> as StoreLike>⟧.moment ⟦<Store<MemDisk> as StoreLike>⟧.may_have_left_since ⟦<Store<MemDisk> as StoreLike>⟧.failures (λ s. s.disk)
@@ -114,7 +115,7 @@ fn play_all(
     world: &mut World<Store<MemDisk>>,
     deeds: &[Deed],
 ) -> Result<Vec<Answer>, AllocError>
-    requires { HasMetStop world.old → ⊥ }
+    requires { HasMetStop (λ s. s.disk) world.old → ⊥ }
     ensures all { IfOk result (λ answers. length answers.items ≤ length deeds.now) }
     ensures plays { IfOk result (λ answers. DeedsLead ⟦<Store<MemDisk> as StoreLike>⟧.keeps_model ⟦<Store<MemDisk> as StoreLike>⟧.about ⟦<Store<MemDisk> as StoreLike>⟧.keeps ⟦<Store<MemDisk> as StoreLike>⟧.is_pending ⟦<Store<MemDisk> as StoreLike>⟧.may_leave_now
         ⟦<Store<MemDisk> as StoreLike>⟧.moment ⟦<Store<MemDisk> as StoreLike>⟧.may_have_left_since ⟦<Store<MemDisk> as StoreLike>⟧.failures (λ s. s.disk)
@@ -137,12 +138,12 @@ fn play_all(
     Ok(answers)
 }
 
-/// Whether a device call met its stop.
+/// Whether a device call met its stop: the disk that met it says so.
 fn has_met_stop(world: &World<Store<MemDisk>>) -> bool
-    ensures { IsTrue result ↔ HasMetStop world.now }
+    ensures { IsTrue result ↔ HasMetStop (λ s. s.disk) world.now }
 {
     for at in 0..world.len() {
-        if matches!(world.cause(at), Some(Cause::Device(DiskError::Stopped))) {
+        if world.store(at).disk().is_stopped() {
             return true;
         }
     }
@@ -189,6 +190,7 @@ fn go_on(
     requires { IfSome (slice_get disks.items at) (λ disk. IsOfMember disk × Only (given_of disk) (may_be_left disk)) }
     ensures alone { IfOk result (λ world. length world.chain.members ≡ 1) }
     ensures disks { IfOk result (λ world. AreOnDisks ⟦<Store<MemDisk> as StoreLike>⟧.about world) }
+    ensures go { IfOk result (AllGo (λ s. s.disk)) }
     ensures goes_on { IfOk result (λ world. (disk : MemDisk) × (slice_get disks.items at ≡ Some disk) × (meaning : Meaning) × Means meaning (given_of disk)
         × AreOfMember ⟦<Store<MemDisk> as StoreLike>⟧.about meaning (stores_of world)
         × BeginsWith ⟦<Store<MemDisk> as StoreLike>⟧.about ⟦<Store<MemDisk> as StoreLike>⟧.keeps ⟦<Store<MemDisk> as StoreLike>⟧.may_leave_now
@@ -209,6 +211,7 @@ fn go_on_from(alloc: Global, disk: MemDisk, cut: Cut) -> Result<World<Store<MemD
     requires only { Only (given_of disk) (may_be_left disk) }
     ensures alone { IfOk result (λ world. length world.chain.members ≡ 1) }
     ensures disks { IfOk result (λ world. AreOnDisks ⟦<Store<MemDisk> as StoreLike>⟧.about world) }
+    ensures go { IfOk result (AllGo (λ s. s.disk)) }
     ensures goes_on { IfOk result (λ world. (meaning : Meaning) × Means meaning (given_of disk)
         × AreOfMember ⟦<Store<MemDisk> as StoreLike>⟧.about meaning (stores_of world)
         × BeginsWith ⟦<Store<MemDisk> as StoreLike>⟧.about ⟦<Store<MemDisk> as StoreLike>⟧.keeps ⟦<Store<MemDisk> as StoreLike>⟧.may_leave_now

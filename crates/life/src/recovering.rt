@@ -1,14 +1,14 @@
 //! A chain of one goes on.
-ghost use Rattle.std.specs.Prelude.{◌≡◌, ◌<◌, ◌∷◌, [], ℕ, List, IfErr, IfOk, IfSome, None, false, length};
+ghost use Rattle.std.specs.Prelude.{◌≡◌, ◌⊎◌, ◌<◌, ◌∷◌, [], ℕ, List, IfErr, IfOk, IfSome, None, false, length};
 ghost use Rattle.disk_model.specs.Disk.{NothingNew, Only};
 ghost use Rattle.disk_model.specs.Memory.{failures_of, given_of, may_be_left, most_failures_of};
-ghost use Rattle.life.specs.Begun.{AreOfMember, AreOnDisks, BeginsWith, IsOfMember, stores_of};
-ghost use Rattle.life.specs.Refusal.{IsCausedBy, IsOfMemory, IsOfRecovering, IsOfReturning};
+ghost use Rattle.life.specs.Begun.{AllGo, AreOfMember, AreOnDisks, BeginsWith, IsOfMember, stores_of};
+ghost use Rattle.life.specs.Refusal.{IsCausedBy, IsStopOf, IsOfMemory, IsOfRecovering, IsOfReturning};
 ghost use Rattle.local_store.specs.Meaning.{Meaning, Means};
 
 use crate::beginning::world_of;
 use crate::refusal::Refusal;
-use disk_model::MemDisk;
+use disk_model::{DiskError, MemDisk};
 use local_store::{Store, StoreLike, disks_mean_one, meanings_are_opened};
 use std::alloc::{AllocError, Global};
 use world::World;
@@ -28,13 +28,14 @@ pub struct Refused {
 pub fn recover(alloc: Global, disk: MemDisk) -> Result<World<Store<MemDisk>>, Refused>
     ensures alone { IfOk result (λ world. length world.chain.members ≡ 1) }
     ensures disks { IfOk result (λ world. AreOnDisks ⟦<Store<MemDisk> as StoreLike>⟧.about world) }
+    ensures go { IfOk result (AllGo (λ s. s.disk)) }
     ensures goes_on { IfOk result (λ world. (meaning : Meaning) × Means meaning (given_of disk)
         × AreOfMember ⟦<Store<MemDisk> as StoreLike>⟧.about meaning (stores_of world)
         × BeginsWith ⟦<Store<MemDisk> as StoreLike>⟧.about ⟦<Store<MemDisk> as StoreLike>⟧.keeps ⟦<Store<MemDisk> as StoreLike>⟧.may_leave_now
         meaning.geometry meaning.front meaning.volume world) }
     ensures refused { IfErr result (λ e. IsOfRecovering e.refusal) }
     ensures returning { IfErr result (λ e. IsOfMember disk → IsOfReturning e.refusal) }
-    ensures cause { IfErr result (λ e. IfSome e.disk (λ back. IsCausedBy (failures_of disk) (failures_of back) e.refusal)) }
+    ensures cause { IfErr result (λ e. IfSome e.disk (λ back. IsCausedBy (failures_of disk) (failures_of back) e.refusal ⊎ IsStopOf back e.refusal)) }
     ensures calm { IfErr result (λ e. IsOfMember disk → failures_of disk ≡ most_failures_of disk → IsOfMemory e.refusal) }
     ensures back { IfErr result (λ e. IfSome e.disk (λ back. (given_of back ≡ given_of disk) × NothingNew (may_be_left disk) (may_be_left back))) }
     // A recovery that was broken off can be cut, and done again: nothing else is left than was before it.
@@ -45,7 +46,12 @@ pub fn recover(alloc: Global, disk: MemDisk) -> Result<World<Store<MemDisk>>, Re
     meanings_are_opened();
     match Store::open(alloc, disk) {
         Ok(store) => {
-            if store.incarnation() == 0 {
+            if store.disk().is_stopped() {
+                Err(Refused {
+                    refusal: Refusal::Store(local_store::Refusal::Device(DiskError::Stopped)),
+                    disk: Some(store.into_disk()),
+                })
+            } else if store.incarnation() == 0 {
                 Err(Refused {
                     refusal: Refusal::Store(local_store::Refusal::NotAVolume),
                     disk: Some(store.into_disk()),

@@ -47,6 +47,8 @@ impl<D: Disk + Drop> Store<D> {
         ensures size { IfErr result (λ e. D.size e.1 ≡ D.size disk) }
         ensures told { IfErr result (λ e. IsOfFormatting e.0) }
         ensures cause { IfErr result (λ e. IsCaused (D.failures disk) (D.failures e.1) e.0) }
+        ensures done { IfOk result (λ s. D.failures s.disk ≡ D.failures disk) }
+        ensures most { IfOk result (λ s. D.most_failures s.disk ≤ D.most_failures disk) }
         // Where the disk can't fail any more, the refusal isn't the device's.
         ensures calm { IfErr result (λ e. D.failures disk ≡ D.most_failures disk → IsNotOfDevice e.0) }
     {
@@ -78,6 +80,8 @@ impl<D: Disk + Drop> Store<D> {
         ensures size { IfErr result (λ e. D.size e.1 ≡ D.size disk) }
         ensures told { IfErr result (λ e. IsOfOpening e.0) }
         ensures cause { IfErr result (λ e. IsCaused (D.failures disk) (D.failures e.1) e.0) }
+        ensures done { IfOk result (λ s. D.failures s.disk ≡ D.failures disk) }
+        ensures most { IfOk result (λ s. D.most_failures s.disk ≤ D.most_failures disk) }
         // Where the disk can't fail any more, the refusal isn't the device's.
         ensures calm { IfErr result (λ e. D.failures disk ≡ D.most_failures disk → IsNotOfDevice e.0) }
     {

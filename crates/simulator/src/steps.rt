@@ -94,8 +94,10 @@ impl Sim {
         };
         for at in 0..world.len() {
             let (slot, cause) = (world.slot(at), world.cause(at));
+            if world.store(at).disk().is_stopped() {
+                self.stopped = true;
+            }
             match cause {
-                Some(Cause::Device(DiskError::Stopped)) => self.stopped = true,
                 Some(Cause::Device(fault)) if !self.faulty.contains(&slot) => {
                     self.faulty.push(slot)?;
                     if let Some(number) = fault.number() {

@@ -1,7 +1,8 @@
-use Rattle.std.proofs.Common.{◌<◌, ◌*◌, map, replicate, ap, sym, ◌∙◌, arith}
+use Rattle.std.proofs.Common.{◌≡◌, ◌<◌, ◌*◌, All, false, map, replicate, ap, subst, sym, ◌∙◌, arith}
+use Rattle.disk_model.specs.Memory.{has_stopped}
 use Rattle.std.proofs.lemmas.List.{length-replicate}
 use Rattle.local_store.specs.About.{About}
-use Rattle.life.proofs.Starting.{about_of_store, first_all, first_at, first_even, first_long, first_slots, first_begins}
+use Rattle.life.proofs.Starting.{IsStore, about_of_store, disk_in, first_all, first_at, first_even, first_long, first_slots, first_begins}
 use Rattle.life.proofs.beginning.begin.Goals as goal
 
 pub world_of-requires-clause-few : goal.world_of-requires-clause-few
@@ -30,3 +31,6 @@ returns-clause-begins c = first_begins c.args.geometry c.args.members c.in_ok-st
 
 pub returns-clause-slots : goal.returns-clause-slots
 returns-clause-slots c = ap (map about_of_store) c.in_ok-world_of.ensures.stores ∙ c.in_ok-stores.ensures.about
+
+pub returns-clause-go : goal.returns-clause-go
+returns-clause-go c = subst (All (λ (s : IsStore). has_stopped (disk_in s) ≡ false)) (sym c.in_ok-world_of.ensures.stores) c.in_ok-stores.ensures.go

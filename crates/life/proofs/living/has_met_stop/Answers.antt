@@ -1,25 +1,23 @@
-use Rattle.std.proofs.Common.{◌≡◌, true, false, Some, refl, ap, sym, ◌∙◌, arith}
-use Rattle.std.proofs.lemmas.Option.{slice_get_within}
-use Rattle.chain_steps.specs.declared.cause.Cause.TheVariants.{Device}
-use Rattle.life.proofs.Stops.{met_at}
-use Rattle.life.proofs.living.has_met_stop.Goals.{in-Some-Device-Stopped, in_default, in_default-2, in_default-3}
+use Rattle.std.proofs.Common.{◌≡◌, true, false, refl, sym, ◌∙◌, arith}
+use Rattle.life.proofs.Starting.{disk_in}
+use Rattle.life.proofs.Stops.{met_at, none_at_all, none_more}
 use Rattle.life.proofs.living.has_met_stop.Goals as goal
 
-pub returns-then-matches : goal.returns-then-matches
-returns-then-matches c = (
-  λ yes. elim c.match-matches.branch [
-    | in-Some-Device-Stopped w ↦ met_at c.args.world.now c.loop-at.at c.cause.result (omega (arith, c.loop-at-test.true, c.len-at-end.ensures)) c.cause.ensures (w.in-Some-Device-Stopped.is ∙ ap Some (w.in-Some-Device-Stopped.field-0-is ∙ ap Device w.in-Some-Device-Stopped.field-0-0-is))
-    | in_default w ↦ let no : false ≡ true = sym w.matches-is ∙ c.if-matches.true in absurd (cc)
-    | in_default-2 w ↦ let no : false ≡ true = sym w.matches-is ∙ c.if-matches.true in absurd (cc)
-    | in_default-3 w ↦ let no : false ≡ true = sym w.matches-is ∙ c.if-matches.true in absurd (cc)
-  ],
+pub loop-at-preserved : goal.loop-at-preserved
+loop-at-preserved c = record {
+  none = none_more disk_in c.args.world.now c.loop-at.at c.store.result.now (omega (arith, c.loop-at-test.true, c.len-at-end.ensures)) c.store.ensures
+      (rw (← c.disk.ensures) (sym c.is_stopped.ensures ∙ c.if-is_stopped.false)) c.loop-at.invariant.none;
+}
+
+pub returns-then-is_stopped : goal.returns-then-is_stopped
+returns-then-is_stopped c = (
+  λ yes. met_at disk_in c.args.world.now c.loop-at.at c.store.result.now (omega (arith, c.loop-at-test.true, c.len-at-end.ensures)) c.store.ensures
+      (rw (← c.disk.ensures) (sym c.is_stopped.ensures ∙ c.if-is_stopped.true)),
   λ met. refl,
 )
 
 pub returns : goal.returns
 returns c = (
   λ wrong. let no : false ≡ true = wrong in absurd (cc),
-  λ met.
-      let within = slice_get_within c.args.world.now.chain.members met.at met.member met.here in
-      absurd (c.loop-at.invariant.none met.at met.member (omega (arith, within, c.loop-at-test.false, c.len-at-end.ensures)) met.here met.stopped),
+  λ met. absurd (none_at_all disk_in c.args.world.now c.loop-at.at (omega (arith, c.loop-at-test.false, c.len-at-end.ensures)) c.loop-at.invariant.none met),
 )

@@ -19,6 +19,7 @@ IsAll era answers = length answers.items.items ≤ length era.deeds.items
 pub loop-era-init : goal.loop-era-init
 loop-era-init c = record {
   disks = c.in_ok-world.ensures.disks;
+  go = c.in_ok-world.ensures.go;
   first = c.in_ok-world.world;
   first_many = c.in_ok-world.ensures.many;
   slots = c.in_ok-world.ensures.slots;
@@ -49,6 +50,7 @@ loop-era-preserved c =
     let here : take (i + 1) eras ≡ take i eras ++ era ∷ [] = take_more eras i era c.loop-era-test.true ∙ ap (λ (e : Era). take i eras ++ e ∷ []) (sym c.era-item.is) in
     record {
       disks = c.in_ok-told.ensures.disks;
+      go = c.in_ok-told.ensures.go;
       first = inv.first;
       first_many = inv.first_many;
       slots = inv.slots;

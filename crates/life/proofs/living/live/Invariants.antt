@@ -3,16 +3,17 @@ use Rattle.std.specs.List.{AllZip, range_with_len}
 use Rattle.volume.specs.Writes.{volume_of}
 use Rattle.world_model.specs.Machine.{State, start}
 use Rattle.world.specs.World.{Seen}
-use Rattle.life.specs.Begun.{AreOnDisks, BeginsWith, export_of, first_about, stores_of}
+use Rattle.life.specs.Begun.{AllGo, AreOnDisks, BeginsWith, export_of, first_about, stores_of}
 use Rattle.life.specs.Lived.{IsFresh}
 use Rattle.life.specs.declared.era.Answers.{Answers}
 use Rattle.life.specs.declared.era.Era.{Era}
-use Rattle.life.proofs.Starting.{ErasOnDisks, IsStore, about_of_store, keeps_volume, leaves_now}
+use Rattle.life.proofs.Starting.{ErasOnDisks, IsStore, about_of_store, disk_in, keeps_volume, leaves_now}
 use Rattle.life.proofs.living.live.Given as goal
 
 abbrev pub invariant-loop-era : goal.invariant-loop-era
 invariant-loop-era l = record {
   disks : AreOnDisks about_of_store l.world;
+  go : AllGo disk_in l.world;
   first : Seen IsStore;
   first_many : length first.chain.members ≡ l.fn.members;
   slots : map about_of_store (stores_of first) ≡ map (first_about l.fn.geometry) (range_with_len 0 l.fn.members);

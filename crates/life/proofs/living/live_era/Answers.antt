@@ -18,7 +18,7 @@ use Rattle.life.proofs.Stops.{none_met}
 use Rattle.life.proofs.living.live_era.Goals as goal
 
 pub play_all-requires : goal.play_all-requires
-play_all-requires c = let (export, s, fresh) = c.requires.fresh in none_met c.args.world fresh.runs
+play_all-requires c = none_met disk_in c.args.world c.requires.go
 
 pub go_on-requires : goal.go_on-requires
 go_on-requires c =

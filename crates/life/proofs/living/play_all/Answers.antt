@@ -41,7 +41,7 @@ loop-deed-preserved c =
     let long : length answers ≡ length (take i deeds) = inv.many ∙ sym (length-take-le i deeds (omega (arith, c.loop-deed-test.true))) in
     let told : zip (take (i + 1) deeds) c.push_reserved.new.self.items ≡ zip (take i deeds) answers ++ (deed, answer) ∷ [] =
     ap (λ (l : List Deed). zip l c.push_reserved.new.self.items) here ∙ ap (zip (take i deeds ++ deed ∷ [])) items ∙ zip_more (take i deeds) answers deed answer long in
-    let runs : HasMetStop c.play_deed-answer.new.world → ⊥ = λ met. let yes : c.has_met_stop.result ≡ true = c.has_met_stop.ensures.1 met in let no : false ≡ true = sym c.if-has_met_stop.false ∙ yes in absurd (cc) in
+    let runs : HasMetStop disk_in c.play_deed-answer.new.world → ⊥ = λ met. let yes : c.has_met_stop.result ≡ true = c.has_met_stop.ensures.1 met in let no : false ≡ true = sym c.if-has_met_stop.false ∙ yes in absurd (cc) in
     record {
       plays = subst (λ (l : List Deed). LeadOnDisks l c.push_reserved.new.self.items c.args.world.now c.play_deed-answer.new.world) (sym here)
           (subst (λ (l : List Answer). LeadOnDisks (take i deeds ++ deed ∷ []) l c.args.world.now c.play_deed-answer.new.world) (sym items)
@@ -82,7 +82,7 @@ returns-then-has_met_stop-clause-pass c =
     let answer = c.play_deed-answer.result in
     let long : length answers ≡ length (take i deeds) = inv.many ∙ sym (length-take-le i deeds (omega (arith, c.loop-deed-test.true))) in
     let told : zip deeds answers ≡ zip (take i deeds) answers = ap (λ (l : List Deed). zip l answers) (sym (take-append-drop i deeds)) ∙ zip_less (take i deeds) answers (drop i deeds) long in
-    let met : HasMetStop c.play_deed-answer.new.world = c.has_met_stop.ensures.0 c.if-has_met_stop.true in (
+    let met : HasMetStop disk_in c.play_deed-answer.new.world = c.has_met_stop.ensures.0 c.if-has_met_stop.true in (
       handed_by deed answer,
       subst (λ (l : Trace). AreOfOneVolume about_of_store keeps_volume leaves_now l (handed_by deed answer) c.args.world.now c.play_deed-answer.new.world) (sym told)
           (turn_to_stop about_of_store keeps_volume leaves_now c.lives_are_of_one_volume.ensures.happenings c.args.world.now c.loop-deed.world c.play_deed-answer.new.world c.sound.ensures.joined c.sound-in-loop-deed.ensures.joined

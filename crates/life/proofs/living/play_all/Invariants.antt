@@ -3,14 +3,14 @@ use Rattle.std.specs.Prelude.{zip}
 use Rattle.clients.specs.Clients.{no_one}
 use Rattle.life.specs.Lived.{AreOfOneVolume}
 use Rattle.life.specs.Plays.{HasMetStop}
-use Rattle.life.proofs.Starting.{LeadOnDisks, about_of_store, keeps_volume, leaves_now}
+use Rattle.life.proofs.Starting.{LeadOnDisks, about_of_store, disk_in, keeps_volume, leaves_now}
 use Rattle.life.proofs.living.play_all.Given as goal
 
 abbrev pub invariant-loop-deed : goal.invariant-loop-deed
 invariant-loop-deed l = record {
   plays : LeadOnDisks (take l.deed-index l.fn.deeds) l.answers.items l.fn.world l.world;
   pass : AreOfOneVolume about_of_store keeps_volume leaves_now (zip (take l.deed-index l.fn.deeds) l.answers.items) no_one l.fn.world l.world;
-  runs : HasMetStop l.world → ⊥;
+  runs : HasMetStop disk_in l.world → ⊥;
   many : length l.answers.items ≡ l.deed-index;
   count : vec_len l.answers ≡ l.deed-index;
   room : length l.fn.deeds ≤ vec_capacity l.answers;

@@ -1,7 +1,8 @@
-use Rattle.std.proofs.Common.{◌≡◌, [], ◌∷◌, ap, refl, subst, sym, ◌∙◌, arith}
+use Rattle.std.proofs.Common.{◌≡◌, true, false, All, [], ◌∷◌, ap, inr, refl, subst, sym, ◌∙◌, arith}
 use Rattle.std.proofs.lemmas.List.Elements.{All-cons, All-nil}
 use Rattle.disk_model.specs.Disk.{NothingNew, Only}
-use Rattle.disk_model.specs.Memory.{given_of, may_be_left}
+use Rattle.disk_model.specs.Calm.{calm_runs}
+use Rattle.disk_model.specs.Memory.{failures_of, given_of, has_stopped, may_be_left}
 use Rattle.disk_model.specs.declared.memory.MemDisk.{MemDisk}
 use Rattle.local_store.specs.Meaning.{Meaning}
 use Rattle.local_store.specs.Store.{meaning_in}
@@ -62,3 +63,23 @@ returns-in-Err-clause-again c = let back = c.in-Err.ensures.back tt in only_agai
 
 pub returns-then-incarnation-eq0-clause-again : goal.returns-then-incarnation-eq0-clause-again
 returns-then-incarnation-eq0-clause-again c = let read = c.in-Ok.ensures.reads tt in rw c.into_disk.ensures (only_again c.args.disk c.in-Ok.store.disk read.same read.leaves)
+
+pub returns-in-Ok-alone-clause-go : goal.returns-in-Ok-alone-clause-go
+returns-in-Ok-alone-clause-go c =
+    let runs : IsStore → Type 0 = λ s. has_stopped s.disk ≡ false in
+    subst (All runs) (sym c.in-Ok-alone.ensures.store) (All-cons runs c.in-Ok.store [] (rw (← c.disk.ensures) (sym c.is_stopped.ensures ∙ c.if-is_stopped.false)) (All-nil runs))
+
+pub returns-then-is_stopped-clause-back : goal.returns-then-is_stopped-clause-back
+returns-then-is_stopped-clause-back c = let read = c.in-Ok.ensures.reads tt in rw c.into_disk.ensures (read.same, read.leaves)
+
+pub returns-then-is_stopped-clause-again : goal.returns-then-is_stopped-clause-again
+returns-then-is_stopped-clause-again c = let read = c.in-Ok.ensures.reads tt in rw c.into_disk.ensures (only_again c.args.disk c.in-Ok.store.disk read.same read.leaves)
+
+pub returns-then-is_stopped-clause-calm : goal.returns-then-is_stopped-clause-calm
+returns-then-is_stopped-clause-calm c = λ member calm.
+    let runs : has_stopped c.in-Ok.store.disk ≡ false = calm_runs c.in-Ok.store.disk (failures_of c.args.disk) c.in-Ok.ensures.done (rw calm c.in-Ok.ensures.most) in
+    let no : false ≡ true = sym runs ∙ rw (← c.disk.ensures) (sym c.is_stopped.ensures ∙ c.if-is_stopped.true) in
+    absurd (cc)
+
+pub returns-then-is_stopped-clause-cause : goal.returns-then-is_stopped-clause-cause
+returns-then-is_stopped-clause-cause c = inr (refl, rw c.into_disk.ensures (rw (← c.disk.ensures) (sym c.is_stopped.ensures ∙ c.if-is_stopped.true)))
