@@ -107,7 +107,7 @@ fn add_blocks(blocks: &mut BTreeSet<u32>, write: &Write) -> Result<(), AllocErro
     requires { Fits (4096 * 65536) write.now }
     ensures { OnOk result ((b : ℕ) → contains nat_cmp blocks.new b ≡ (contains nat_cmp blocks.old b || touches b write.now)) }
 {
-    let len = write.payload().len() as u64;
+    let len = write.len();
     if len == 0 {
         return Ok(());
     }

@@ -54,7 +54,7 @@ fn is_inside(node: &Node<PlainStore>, message: &Message) -> bool
 {
     match message {
         Message::Put { write, .. } | Message::Submit { write, .. } => {
-            let len = write.payload().len() as u64;
+            let len = write.len();
             len > 0 && node.store().geometry().contains(write.offset(), len)
         }
         Message::Ack { .. } | Message::Turn { .. } => true,

@@ -188,6 +188,14 @@ fn note(
     demands.destroy_empty();
 }
 
+/// The first byte of a write that has one.
+fn first_of(alloc: Global, write: &Write) -> Option<u8> {
+    match write.payload(alloc) {
+        Ok(payload) => payload.first().copied(),
+        Err(_) => None,
+    }
+}
+
 /// What a demand asks, and a reply to it: bytes of 7 to a READ, done to a WRITE, and 5 to what has to wait for a disk.
 fn answer(alloc: Global, demand: Demand) -> (Seen, Reply) {
     match demand {
@@ -207,8 +215,8 @@ fn answer(alloc: Global, demand: Demand) -> (Seen, Reply) {
             let seen = Seen::Write {
                 cookie: token.cookie(),
                 offset: write.offset(),
-                length: write.payload().len(),
-                first: write.payload().first().copied(),
+                length: write.len() as usize,
+                first: first_of(alloc, &write),
             };
             (seen, token.settle(alloc))
         }
@@ -216,8 +224,8 @@ fn answer(alloc: Global, demand: Demand) -> (Seen, Reply) {
             let seen = Seen::Fua {
                 cookie: token.cookie(),
                 offset: write.offset(),
-                length: write.payload().len(),
-                first: write.payload().first().copied(),
+                length: write.len() as usize,
+                first: first_of(alloc, &write),
             };
             (seen, token.refuse(alloc, ErrorCode::Io))
         }

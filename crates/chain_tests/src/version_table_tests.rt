@@ -21,7 +21,7 @@ fn write_of(rt: &impl Abort, alloc: Global, offset: u64, byte: u8, len: usize) -
 
 fn apply_next(rt: &impl Abort, table: &mut Table, write: &Write) -> Result<(), Refusal> {
     let applied = table.applied();
-    let len = write.payload().len() as u64;
+    let len = write.len();
     assert!(rt; applied < 1 << 62);
     assert!(rt; len <= VOLUME && write.offset() <= VOLUME - len);
     table.apply(applied + 1, write, ORIGIN)

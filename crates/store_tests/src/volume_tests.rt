@@ -125,7 +125,7 @@ fn refusals_in_words(rt: HostRuntime) {
 fn patches(rt: HostRuntime) {
     let payload = Bytes::copy_from_slice(rt.alloc(), &[1, 2, 3, 4, 5]).expect(&rt, "memory");
     let write = Write::new(8_189, payload);
-    same(&rt, (write.offset(), write.payload().len()), (8_189, 5));
+    same(&rt, (write.offset(), write.len()), (8_189, 5));
     for (block, front, back) in &[
         (0, [9, 9, 9], [9, 9, 9]),
         (1, [9, 9, 9], [1, 2, 3]),

@@ -10,6 +10,7 @@ use Rattle.std.proofs.lemmas.List.Elements.{All-push, All-tail}
 use Rattle.std.proofs.lemmas.List.Sums.{sum_by-append}
 use Rattle.volume.specs.Writes.{Placed, Fits, IsTouched}
 use Rattle.version_table.specs.Held.{data_of}
+use Rattle.volume.specs.Body.{kept_of}
 use Rattle.version_table.specs.Marks.{ReachesBlock, IsMarked, is_marked, is_among, AreSet}
 use Rattle.version_table.specs.Table.{IsIndexed, AreStored}
 use Rattle.version_table.specs.declared.kept.Kept.{Kept}
@@ -33,11 +34,11 @@ behind_first : (e d : Kept) (rest : List Kept) (i j : ℕ) → j ≡ i + 1 → g
 behind_first e d rest i j is = rw (is ∙ add-one i) refl
 
 -- one more write has its own bytes
-data_of-push : (kept : List Kept) (e : Kept) → data_of (kept ++ e ∷ []) ≡ data_of kept + length e.write.bytes
-data_of-push kept e = sum_by-append (λ (k : Kept). length k.write.bytes) kept (e ∷ []) ∙ omega arith
+data_of-push : (kept : List Kept) (e : Kept) → data_of (kept ++ e ∷ []) ≡ data_of kept + kept_of e.write
+data_of-push kept e = sum_by-append (λ (k : Kept). kept_of k.write) kept (e ∷ []) ∙ omega arith
 
-data_of-cons : (e : Kept) (rest : List Kept) → data_of (e ∷ rest) ≡ length e.write.bytes + data_of rest
-data_of-cons e rest = sum_by-append (λ (k : Kept). length k.write.bytes) (e ∷ []) rest ∙ omega arith
+data_of-cons : (e : Kept) (rest : List Kept) → data_of (e ∷ rest) ≡ kept_of e.write + data_of rest
+data_of-cons e rest = sum_by-append (λ (k : Kept). kept_of k.write) (e ∷ []) rest ∙ omega arith
 
 -- each block of a write, from the first on and before the last one's end
 abbrev AreBlocksOf : Placed → ℕ → ℕ → Type 0
@@ -108,7 +109,7 @@ IsIndexed-rest front e rest old new first past index blocks set =
     }
 
 pub AreStored-push : (front : ℕ) (kept : List Kept) (stored : ℕ) (old new : BTreeSet (ℕ × ℕ)) (first past len : ℕ) (e : Kept) → AreStored front kept stored old
-    → e.number ≡ front + length kept + 1 → e.number < 2 ^ 64 → Fits (4096 * 65536) e.write → len ≡ length e.write.bytes → length kept < 1024 → stored + len ≤ 16777216
+    → e.number ≡ front + length kept + 1 → e.number < 2 ^ 64 → Fits (4096 * 65536) e.write → len ≡ kept_of e.write → length kept < 1024 → stored + len ≤ 16777216
     → AreBlocksOf e.write first past → AreSet old new first past e.number true → AreStored front (kept ++ e ∷ []) (stored + len) new
 AreStored-push front kept stored old new first past len e before number small fits is_len room room_for blocks set = record {
   numbers = omega (arith, length-append kept (e ∷ []));
@@ -123,7 +124,7 @@ AreStored-push front kept stored old new first past len e before number small fi
   indexed = IsIndexed-push front kept old new first past e before.indexed blocks (rw number at set);
 }
 
-pub AreStored-rest : (front : ℕ) (e : Kept) (rest : List Kept) (stored : ℕ) (old new : BTreeSet (ℕ × ℕ)) (first past len : ℕ) → AreStored front (e ∷ rest) stored old → len ≡ length e.write.bytes
+pub AreStored-rest : (front : ℕ) (e : Kept) (rest : List Kept) (stored : ℕ) (old new : BTreeSet (ℕ × ℕ)) (first past len : ℕ) → AreStored front (e ∷ rest) stored old → len ≡ kept_of e.write
     → AreBlocksOf e.write first past → AreSet old new first past e.number false → AreStored (front + 1) rest (stored - len) new
 AreStored-rest front e rest stored old new first past len before is_len blocks set =
     let number : e.number ≡ front + 1 = before.numbered 0 e (omega arith) ∙ omega arith in

@@ -1,5 +1,6 @@
 -- What a table holds, and the blocks of the volume after its writes.
 use Rattle.std.specs.Prelude.{◌≡◌, ℕ, ◌+◌, ◌-◌, ◌<◌, ◌≤◌, ◌⊎◌, List, [], ◌∷◌, ◌++◌, length, map, take, drop, sum_by, slice_index_or, All}
+use Rattle.volume.specs.Body.{kept_of}
 use Rattle.volume.specs.Writes.{Placed, IsTouched}
 use Rattle.version_table.specs.Marks.{ReachesBlock}
 use Rattle.version_table.specs.declared.kept.Kept.{Kept}
@@ -14,9 +15,9 @@ pub record Held : Type 0 where
 abbrev pub applied_of : Held → ℕ
 applied_of t = t.forgotten + length t.kept
 
--- the bytes of the kept writes
+-- the bytes of the kept writes, those of zeros alone not counted
 abbrev pub data_of : List Kept → ℕ
-data_of kept = sum_by (λ k. length k.write.bytes) kept
+data_of kept = sum_by (λ k. kept_of k.write) kept
 
 -- one more write, with its number
 abbrev pub with_write : Held → ℕ → Placed → Origin → Held
@@ -36,7 +37,7 @@ writes_upto t j = map (λ k. k.write) (take (j - t.forgotten) t.kept)
 
 -- one more write is above a limit
 abbrev pub IsFullFor : Held → Placed → Type 0
-IsFullFor t w = (1024 ≤ length t.kept) ⊎ (16777216 < data_of t.kept + length w.bytes)
+IsFullFor t w = (1024 ≤ length t.kept) ⊎ (16777216 < data_of t.kept + kept_of w)
 
 -- no write above the number touches a block of the range
 abbrev pub IsClean : Held → ℕ → ℕ → ℕ → Type 0

@@ -19,7 +19,7 @@ use volume::{BLOCK_SIZE, Write, patch};
 /// The most writes that a table keeps.
 pub const MAX_KEPT: usize = 1_024;
 
-/// The most bytes that the kept writes have together.
+/// The most bytes that the kept writes have together, those of zeros alone not counted.
 pub const MAX_DATA: u64 = 16_777_216;
 
 /// The writes of a volume after a front, by number. Those up to the front are forgotten.
@@ -71,19 +71,18 @@ impl Table {
     }
 
     /// Whether `apply` of this write is refused with 141: 1,024 writes are kept already, or the kept writes and this one have
-    /// more than 16,777,216 bytes.
+    /// more than 16,777,216 bytes, those of zeros alone not counted.
     pub fn is_full_for(&self, write: &Write) -> bool
         ensures { IsTrue result ↔ IsFullFor self.now write.now }
     {
-        let len = write.payload().len() as u64;
-        self.kept.len() >= MAX_KEPT || self.data + len > MAX_DATA
+        self.kept.len() >= MAX_KEPT || self.data + write.kept() > MAX_DATA
     }
 
     /// Applies the write of the number `n`, the one after `applied()`. The write lies within the largest volume. Its bytes
     /// are shared and not copied.
     ///
     /// 141 `TableFull` exactly where 1,024 writes are kept already, or the kept writes and this one have more than
-    /// 16,777,216 bytes. 100 `Memory`. Both leave the table as it was.
+    /// 16,777,216 bytes, those of zeros alone not counted. 100 `Memory`. Both leave the table as it was.
     pub fn apply(&mut self, n: u64, write: &Write, origin: Origin) -> Result<(), Refusal>
         requires next { n ≡ applied_of self.old + 1 }
         requires inside { Fits (4096 * 65536) write.now }
@@ -91,12 +90,12 @@ impl Table {
         ensures full { IsErrOf result Refusal.TableFull ↔ IsFullFor self.old write.now }
         ensures err { OnErr result (self.new ≡ self.old) }
     {
-        let len = write.payload().len() as u64;
-        if self.kept.len() >= MAX_KEPT || self.data + len > MAX_DATA {
+        let data = self.data + write.kept();
+        if self.kept.len() >= MAX_KEPT || data > MAX_DATA {
             return Err(Refusal::TableFull);
         }
         let write = write.clone()?;
-        let blocks = blocks_of(write.offset(), len);
+        let blocks = blocks_of(write.offset(), write.len());
         self.kept.push_back(Kept {
             number: n,
             write,
@@ -106,7 +105,7 @@ impl Table {
             self.kept.pop_back();
             return Err(refused.into());
         }
-        self.data += len;
+        self.data = data;
         Ok(())
     }
 
@@ -210,10 +209,9 @@ impl Table {
         let Some(kept) = self.kept.pop_front() else {
             return;
         };
-        let len = kept.write.payload().len() as u64;
-        let blocks = blocks_of(kept.write.offset(), len);
+        let blocks = blocks_of(kept.write.offset(), kept.write.len());
         unmark(&mut self.marks, blocks, kept.number);
-        self.data -= len;
+        self.data -= kept.write.kept();
         self.front += 1;
     }
 
@@ -235,5 +233,5 @@ fn has_whole(write: &Write, block: u32) -> bool
     ensures { result ≡ has_whole block write.now }
 {
     let first = u64::from(block) * BLOCK_SIZE;
-    write.offset() <= first && first + BLOCK_SIZE <= write.offset() + write.payload().len() as u64
+    write.offset() <= first && first + BLOCK_SIZE <= write.offset() + write.len()
 }

@@ -1,3 +1,4 @@
+pub mod Body
 pub mod Cursor
 pub mod Laws
 pub mod Limits

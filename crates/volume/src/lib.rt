@@ -20,4 +20,4 @@ pub use laws::{
 };
 pub use piece::{Piece, PieceIter, pieces};
 pub use refusal::Refusal;
-pub use write::{Write, patch};
+pub use write::{Body, Write, patch};

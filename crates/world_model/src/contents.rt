@@ -11,11 +11,11 @@ use volume::Write;
 fn patched(alloc: Global, volume: &[u8], write: &Write) -> Result<Vec<u8>, AllocError>
     ensures { IfOk result (λ new. new.items ≡ patched_by volume.now write.now) }
 {
-    let payload = write.payload();
+    let payload = write.payload(alloc)?;
     let start = volume.len().min(write.offset() as usize);
     let end = volume.len().min(start + payload.len());
     let mut new = volume[..start].to_vec(alloc)?;
-    new.extend_from_slice(payload)?;
+    new.extend_from_slice(&payload)?;
     new.extend_from_slice(&volume[end..])?;
     Ok(new)
 }
