@@ -8,7 +8,7 @@ use Rattle.nbd_codec.specs.declared.findings.Reading.{Reading}
 use Rattle.nbd_codec.specs.declared.findings.Reading.TheVariants as readings
 use Rattle.nbd_codec.specs.declared.requests.Request.{Request}
 use Rattle.nbd_codec.specs.Findings.{IfValue, Takes}
-use Rattle.nbd_codec.specs.Request.{PlainRequest, Read, Write, Disc, Flush, Other, IsRequest, head_of, head_encoding, body_encoding, payload_of, request_view, encoding}
+use Rattle.nbd_codec.specs.Request.{PlainRequest, Read, Write, Disc, Flush, Zero, Other, IsRequest, head_of, head_encoding, body_encoding, payload_of, request_view, encoding}
 use Rattle.nbd_codec.proofs.RequestLaws.{head_len}
 
 -- the length, without what stands behind it
@@ -17,6 +17,7 @@ length_text (Read flags cookie offset len) = big_bytes 4 len
 length_text (Write flags cookie offset payload) = big_bytes 4 (length payload)
 length_text (Disc flags cookie offset len) = big_bytes 4 len
 length_text (Flush flags cookie offset len) = big_bytes 4 len
+length_text (Zero flags cookie offset len) = big_bytes 4 len
 length_text (Other kind flags cookie offset len) = big_bytes 4 len
 
 length_text_len : (request : PlainRequest) → length (length_text request) ≡ 4
@@ -25,6 +26,7 @@ length_text_len (Read flags cookie offset len) = refl
 length_text_len (Write flags cookie offset payload) = refl
 length_text_len (Disc flags cookie offset len) = refl
 length_text_len (Flush flags cookie offset len) = refl
+length_text_len (Zero flags cookie offset len) = refl
 length_text_len (Other kind flags cookie offset len) = refl
 
 body_text : (request : PlainRequest) → body_encoding request ≡ length_text request ++ payload_of request
@@ -33,6 +35,7 @@ body_text (Read flags cookie offset len) = sym (append-nil (big_bytes 4 len))
 body_text (Write flags cookie offset payload) = refl
 body_text (Disc flags cookie offset len) = sym (append-nil (big_bytes 4 len))
 body_text (Flush flags cookie offset len) = sym (append-nil (big_bytes 4 len))
+body_text (Zero flags cookie offset len) = sym (append-nil (big_bytes 4 len))
 body_text (Other kind flags cookie offset len) = sym (append-nil (big_bytes 4 len))
 
 -- a header, and the payload behind it

@@ -3,13 +3,13 @@ use Rattle.std.proofs.Common.{◌+◌, cond, ◌≡◌, ℕ, ◌^◌, ◌<◌, �
 use Rattle.std.proofs.lemmas.Bool.{eqb-true, eqb-false, ne_eqb, cases_Bool, cond-true, cond-false, cond_both}
 use Rattle.std.proofs.lemmas.List.{append-nil}
 use Rattle.byteorder.specs.Endian.{big_bytes}
-use Rattle.nbd_codec.specs.declared.constants.TheConstants.{REQUEST_HEADER, REQUEST_MAGIC, REQUEST_READ, REQUEST_WRITE, REQUEST_DISC, REQUEST_FLUSH}
+use Rattle.nbd_codec.specs.declared.constants.TheConstants.{REQUEST_HEADER, REQUEST_MAGIC, REQUEST_READ, REQUEST_WRITE, REQUEST_DISC, REQUEST_FLUSH, REQUEST_WRITE_ZEROES}
 use Rattle.nbd_codec.specs.declared.findings.Fault.TheVariants.{RequestMagic, PayloadTooLong}
 use Rattle.nbd_codec.specs.declared.fields.Ending.{Ending}
 use Rattle.nbd_codec.specs.declared.requests.Head.{Head}
 use Rattle.nbd_codec.specs.Fields.{◌>>=◌, magic_at, number_at, limited_at, bytes_at}
 use Rattle.nbd_codec.specs.Findings.{AreBytes}
-use Rattle.nbd_codec.specs.Request.{PlainRequest, Read, Write, Disc, Flush, Other, head_of, head_at, body_at, request_at, plain, head_encoding, body_encoding, encoding, IsKnown, HeadFits, BodyFits, IsRequest}
+use Rattle.nbd_codec.specs.Request.{PlainRequest, Read, Write, Disc, Flush, Zero, Other, head_of, head_at, body_at, request_at, plain, head_encoding, body_encoding, encoding, IsKnown, HeadFits, BodyFits, IsRequest}
 use Rattle.nbd_codec.proofs.Parts.{IsField, IsField-both}
 use Rattle.nbd_codec.proofs.BigNumbers.{width2, width4, width8}
 use Rattle.nbd_codec.proofs.Basics.{IsField-limited, IsField-number, IsField-made}
@@ -131,6 +131,7 @@ write_back limit h (Read flags cookie offset len) e fits = let k : REQUEST_READ 
 write_back limit h (Write flags cookie offset payload) e fits = (payload, fits.0, ap (λ (x : Head). write_of x payload) (sym fits.1))
 write_back limit h (Disc flags cookie offset len) e fits = let k : REQUEST_DISC ≡ h.kind = ap (λ (x : Head). x.kind) fits.1 in absurd (omega arith)
 write_back limit h (Flush flags cookie offset len) e fits = let k : REQUEST_FLUSH ≡ h.kind = ap (λ (x : Head). x.kind) fits.1 in absurd (omega arith)
+write_back limit h (Zero flags cookie offset len) e fits = let k : REQUEST_WRITE_ZEROES ≡ h.kind = ap (λ (x : Head). x.kind) fits.1 in absurd (omega arith)
 write_back limit h (Other kind flags cookie offset len) e fits = let k : kind ≡ h.kind = ap (λ (x : Head). x.kind) fits.1 in absurd (fits.0.1 (inr (inl (k ∙ e))))
 
 write_field : (limit : ℕ) (h : Head) → limit < 2 ^ 32 → h.kind ≡ REQUEST_WRITE → IsField (λ bytes. string_of (limited_at limit PayloadTooLong) bytes >>= λ a. Ok (write_of h a.0, a.1)) body_encoding (Has limit h)
@@ -139,11 +140,12 @@ write_field limit h small e =
 
 -- ---- a request with no payload
 
-unknown : (k : ℕ) → (k ≡ REQUEST_READ → ⊥) → (k ≡ REQUEST_WRITE → ⊥) → (k ≡ REQUEST_DISC → ⊥) → (k ≡ REQUEST_FLUSH → ⊥) → IsKnown k → ⊥
-unknown k n0 n1 n2 n3 (inl e) = n0 e
-unknown k n0 n1 n2 n3 (inr (inl e)) = n1 e
-unknown k n0 n1 n2 n3 (inr (inr (inl e))) = n2 e
-unknown k n0 n1 n2 n3 (inr (inr (inr e))) = n3 e
+unknown : (k : ℕ) → (k ≡ REQUEST_READ → ⊥) → (k ≡ REQUEST_WRITE → ⊥) → (k ≡ REQUEST_DISC → ⊥) → (k ≡ REQUEST_FLUSH → ⊥) → (k ≡ REQUEST_WRITE_ZEROES → ⊥) → IsKnown k → ⊥
+unknown k n0 n1 n2 n3 n6 (inl e) = n0 e
+unknown k n0 n1 n2 n3 n6 (inr (inl e)) = n1 e
+unknown k n0 n1 n2 n3 n6 (inr (inr (inl e))) = n2 e
+unknown k n0 n1 n2 n3 n6 (inr (inr (inr (inl e)))) = n3 e
+unknown k n0 n1 n2 n3 n6 (inr (inr (inr (inr e)))) = n6 e
 
 -- the request with no payload, and what encodes its body
 abbrev Into : ℕ → Head → ℕ → PlainRequest → Type 0
@@ -159,13 +161,15 @@ plain_into limit h len n1 fits =
     step limit h len REQUEST_READ _ _ (λ e. ((fits, e), refl)) (λ n0.
     step limit h len REQUEST_DISC _ _ (λ e. ((fits, e), refl)) (λ n2.
     step limit h len REQUEST_FLUSH _ _ (λ e. ((fits, e), refl)) (λ n3.
-    (((fits, unknown h.kind n0 n1 n2 n3), refl), refl))))
+    step limit h len REQUEST_WRITE_ZEROES _ _ (λ e. ((fits, e), refl)) (λ n6.
+    (((fits, unknown h.kind n0 n1 n2 n3 n6), refl), refl)))))
 
 len_of : PlainRequest → ℕ
 len_of (Read flags cookie offset len) = len
 len_of (Write flags cookie offset payload) = 0
 len_of (Disc flags cookie offset len) = len
 len_of (Flush flags cookie offset len) = len
+len_of (Zero flags cookie offset len) = len
 len_of (Other kind flags cookie offset len) = len
 
 plain_back_own : (limit : ℕ) (request : PlainRequest) → ((head_of request).kind ≡ REQUEST_WRITE → ⊥) → BodyFits limit request → (len_of request < 2 ^ 32) × (plain (head_of request) (len_of request) ≡ request)
@@ -174,11 +178,13 @@ plain_back_own limit (Read flags cookie offset len) other fits = (fits, refl)
 plain_back_own limit (Write flags cookie offset payload) other fits = absurd (other refl)
 plain_back_own limit (Disc flags cookie offset len) other fits = (fits, refl)
 plain_back_own limit (Flush flags cookie offset len) other fits = (fits, refl)
+plain_back_own limit (Zero flags cookie offset len) other fits = (fits, refl)
 plain_back_own limit (Other kind flags cookie offset len) other fits =
     let e0 = ne_eqb kind REQUEST_READ (λ k. fits.1 (inl k)) in
     let e2 = ne_eqb kind REQUEST_DISC (λ k. fits.1 (inr (inr (inl k)))) in
-    let e3 = ne_eqb kind REQUEST_FLUSH (λ k. fits.1 (inr (inr (inr k)))) in
-    (fits.0, rw (e0, e2, e3) refl)
+    let e3 = ne_eqb kind REQUEST_FLUSH (λ k. fits.1 (inr (inr (inr (inl k))))) in
+    let e6 = ne_eqb kind REQUEST_WRITE_ZEROES (λ k. fits.1 (inr (inr (inr (inr k))))) in
+    (fits.0, rw (e0, e2, e3, e6) refl)
 
 plain_back : (limit : ℕ) (h : Head) (request : PlainRequest) → (h.kind ≡ REQUEST_WRITE → ⊥) → Has limit h request → (len : ℕ) × (len < 2 ^ 32) × (plain h len ≡ request)
 plain_back limit h request other fits =
@@ -254,6 +260,7 @@ body_len (Read flags cookie offset len) = omega arith
 body_len (Write flags cookie offset payload) = omega arith
 body_len (Disc flags cookie offset len) = omega arith
 body_len (Flush flags cookie offset len) = omega arith
+body_len (Zero flags cookie offset len) = omega arith
 body_len (Other kind flags cookie offset len) = omega arith
 
 pub encoding_len : (request : PlainRequest) → REQUEST_HEADER ≤ length (encoding request)
@@ -266,6 +273,7 @@ body_short max_payload (Read flags cookie offset len) fits = omega arith
 body_short max_payload (Write flags cookie offset payload) fits = omega (arith, fits.0)
 body_short max_payload (Disc flags cookie offset len) fits = omega arith
 body_short max_payload (Flush flags cookie offset len) fits = omega arith
+body_short max_payload (Zero flags cookie offset len) fits = omega arith
 body_short max_payload (Other kind flags cookie offset len) fits = omega arith
 
 -- and at most its header and the longest payload

@@ -1,7 +1,7 @@
 -- The encoding of requests, and how they are read from left to right.
 use Rattle.std.specs.Prelude.{◌≡◌, ℕ, ◌<◌, ◌≤◌, ◌^◌, ◌⊎◌, List, [], ◌++◌, length, Result, Ok, ◌==◌, if◌then◌else◌}
 use Rattle.byteorder.specs.Endian.{big_bytes, big_number}
-use Rattle.nbd_codec.specs.declared.constants.TheConstants.{REQUEST_MAGIC, REQUEST_READ, REQUEST_WRITE, REQUEST_DISC, REQUEST_FLUSH}
+use Rattle.nbd_codec.specs.declared.constants.TheConstants.{REQUEST_MAGIC, REQUEST_READ, REQUEST_WRITE, REQUEST_DISC, REQUEST_FLUSH, REQUEST_WRITE_ZEROES}
 use Rattle.nbd_codec.specs.declared.findings.Reading.{Reading}
 use Rattle.nbd_codec.specs.declared.findings.Fault.TheVariants.{RequestMagic, PayloadTooLong}
 use Rattle.nbd_codec.specs.declared.fields.Ending.{Ending}
@@ -17,6 +17,7 @@ pub data PlainRequest : Type 0 where
   Write : (flags cookie offset : ℕ) → (payload : List ℕ) → PlainRequest
   Disc : (flags cookie offset len : ℕ) → PlainRequest
   Flush : (flags cookie offset len : ℕ) → PlainRequest
+  Zero : (flags cookie offset len : ℕ) → PlainRequest
   Other : (kind flags cookie offset len : ℕ) → PlainRequest
 
 -- a request as contracts see it
@@ -25,6 +26,7 @@ request_view (requests.Read flags cookie offset len) = Read flags cookie offset 
 request_view (requests.Write flags cookie offset payload) = Write flags cookie offset payload.now
 request_view (requests.Disc flags cookie offset len) = Disc flags cookie offset len
 request_view (requests.Flush flags cookie offset len) = Flush flags cookie offset len
+request_view (requests.Zero flags cookie offset len) = Zero flags cookie offset len
 request_view (requests.Other kind flags cookie offset len) = Other kind flags cookie offset len
 
 -- the payload, which only a WRITE has
@@ -33,6 +35,7 @@ payload_of (Read flags cookie offset len) = []
 payload_of (Write flags cookie offset payload) = payload
 payload_of (Disc flags cookie offset len) = []
 payload_of (Flush flags cookie offset len) = []
+payload_of (Zero flags cookie offset len) = []
 payload_of (Other kind flags cookie offset len) = []
 
 -- the numbers of a request before its length
@@ -41,6 +44,7 @@ head_of (Read flags cookie offset len) = record { flags = flags; kind = REQUEST_
 head_of (Write flags cookie offset payload) = record { flags = flags; kind = REQUEST_WRITE; cookie = cookie; offset = offset }
 head_of (Disc flags cookie offset len) = record { flags = flags; kind = REQUEST_DISC; cookie = cookie; offset = offset }
 head_of (Flush flags cookie offset len) = record { flags = flags; kind = REQUEST_FLUSH; cookie = cookie; offset = offset }
+head_of (Zero flags cookie offset len) = record { flags = flags; kind = REQUEST_WRITE_ZEROES; cookie = cookie; offset = offset }
 head_of (Other kind flags cookie offset len) = record { flags = flags; kind = kind; cookie = cookie; offset = offset }
 
 -- the magic, and the numbers of a request before its length
@@ -53,6 +57,7 @@ body_encoding (Read flags cookie offset len) = big_bytes 4 len
 body_encoding (Write flags cookie offset payload) = big_bytes 4 (length payload) ++ payload
 body_encoding (Disc flags cookie offset len) = big_bytes 4 len
 body_encoding (Flush flags cookie offset len) = big_bytes 4 len
+body_encoding (Zero flags cookie offset len) = big_bytes 4 len
 body_encoding (Other kind flags cookie offset len) = big_bytes 4 len
 
 -- the one encoding of a request
@@ -61,7 +66,7 @@ encoding request = head_encoding (head_of request) ++ body_encoding request
 
 -- a number of a type that has a variant of its own
 abbrev pub IsKnown : ℕ → Type 0
-IsKnown kind = (kind ≡ REQUEST_READ) ⊎ ((kind ≡ REQUEST_WRITE) ⊎ ((kind ≡ REQUEST_DISC) ⊎ (kind ≡ REQUEST_FLUSH)))
+IsKnown kind = (kind ≡ REQUEST_READ) ⊎ ((kind ≡ REQUEST_WRITE) ⊎ ((kind ≡ REQUEST_DISC) ⊎ ((kind ≡ REQUEST_FLUSH) ⊎ (kind ≡ REQUEST_WRITE_ZEROES))))
 
 -- the numbers fit their bytes
 pub record HeadFits (head : Head) : Type 0 where
@@ -76,6 +81,7 @@ BodyFits max_payload (Read flags cookie offset len) = len < 2 ^ 32
 BodyFits max_payload (Write flags cookie offset payload) = (length payload ≤ max_payload) × AreBytes payload
 BodyFits max_payload (Disc flags cookie offset len) = len < 2 ^ 32
 BodyFits max_payload (Flush flags cookie offset len) = len < 2 ^ 32
+BodyFits max_payload (Zero flags cookie offset len) = len < 2 ^ 32
 BodyFits max_payload (Other kind flags cookie offset len) = (len < 2 ^ 32) × ¬ IsKnown kind
 
 -- what has an encoding that is taken
@@ -99,7 +105,8 @@ plain head len =
     if head.kind == REQUEST_READ then Read head.flags head.cookie head.offset len
     else (if head.kind == REQUEST_DISC then Disc head.flags head.cookie head.offset len
     else (if head.kind == REQUEST_FLUSH then Flush head.flags head.cookie head.offset len
-    else Other head.kind head.flags head.cookie head.offset len))
+    else (if head.kind == REQUEST_WRITE_ZEROES then Zero head.flags head.cookie head.offset len
+    else Other head.kind head.flags head.cookie head.offset len)))
 
 -- the payload of a WRITE behind its length, or the length alone
 unfoldable pub body_at : ℕ → Head → List ℕ → Result (PlainRequest × List ℕ) Ending

@@ -1,12 +1,24 @@
 //! The tests of a request that need the export's size.
 
-ghost use Rattle.std.specs.Prelude.{◌≡◌, ◌<◌, ◌+◌, ◌↔◌, IsTrue, Some};
+ghost use Rattle.std.specs.Prelude.{◌≡◌, ◌<◌, ◌+◌, ◌^◌, ◌↔◌, IsTrue, Some};
 ghost use Rattle.nbd_codec.specs.Request.{request_view};
-ghost use Rattle.nbd_codec.specs.Checked.{IfVolume, IsForVolume, IsVolume, asked_by, has_fua, read_checked, write_checked, flush_checked, checked};
+ghost use Rattle.nbd_codec.specs.Checked.{IfVolume, IsForVolume, IsVolume, asked_by, has_fua, read_checked, write_checked, flush_checked, zero_batch, zero_checked, checked};
 
 use crate::constants::*;
 use crate::replies::NbdError;
 use crate::requests::Request;
+
+/// The bytes of a block.
+const BLOCK: u64 = 4_096;
+
+/// The bytes of a batch in a journal beside its blocks, with the closed gate behind it.
+const BATCH_FRAME: u64 = 14;
+
+/// The bytes in a batch of a block that a request has in part: its number and all its bytes.
+const IMAGE_RECORD: u64 = 4_100;
+
+/// The bytes in a batch of a block of zeros: a mark with its number.
+const MARK_RECORD: u64 = 4;
 
 /// What a request asks of the volume. Offsets and lengths are in bytes.
 #[derive(Clone, Copy, Debug, PartialEq, Eq)]
@@ -25,6 +37,12 @@ pub enum Ask {
     },
     /// A reply once all that was answered before is on permanent storage.
     Flush,
+    /// To write zeros to a range that isn't empty; with `fua` the reply waits until they are on permanent storage.
+    Zero {
+        offset: u64,
+        length: u32,
+        fua: bool,
+    },
 }
 
 /// What is to become of a request.
@@ -111,15 +129,59 @@ fn check_flush(flags: u16, offset: u64, length: u32) -> Checked
     Checked::Volume(Ask::Flush)
 }
 
+/// How many bytes of a journal area a range of zeros takes, with the closed gate behind it: 4 for each block that it has whole,
+/// and 4,100 for each that it has in part.
+fn zero_batch(offset: u64, length: u32) -> u64
+    requires { offset + length < 2 ^ 64 }
+    ensures { result ≡ zero_batch offset length }
+{
+    if length == 0 {
+        return BATCH_FRAME;
+    }
+    let end = offset + u64::from(length);
+    let first = offset / BLOCK;
+    let touched = (end - 1) / BLOCK + 1 - first;
+    let whole = (end / BLOCK).saturating_sub(if offset % BLOCK == 0 {
+        first
+    } else {
+        first + 1
+    });
+    BATCH_FRAME + IMAGE_RECORD * (touched - whole) + MARK_RECORD * whole
+}
+
+fn check_zero(flags: u16, offset: u64, length: u32, size: u64, area: u32) -> Checked
+    ensures { result ≡ zero_checked flags offset length size area }
+{
+    if flags > FLAG_FUA + FLAG_NO_HOLE {
+        return Checked::Refused(NbdError::Invalid);
+    }
+    if is_past_end(offset, u64::from(length), size) {
+        return Checked::Refused(NbdError::NoSpace);
+    }
+    if zero_batch(offset, length) > u64::from(area) {
+        return Checked::Refused(NbdError::Invalid);
+    }
+    if length == 0 {
+        return Checked::Done;
+    }
+    let fua = is_fua(flags);
+    Checked::Volume(Ask::Zero {
+        offset,
+        length,
+        fua,
+    })
+}
+
 /// What is to become of a request to an export of `size` bytes, of which at most `max_payload` are
-/// read at once. A payload that is too long has ended the session before.
-pub fn check(request: &Request, size: u64, max_payload: u32) -> Checked
+/// read at once, and whose zeros are journaled in an area of `area` bytes. A payload that is too long has ended the session
+/// before.
+pub fn check(request: &Request, size: u64, max_payload: u32, area: u32) -> Checked
     // The volume is asked exactly for what can be done.
-    ensures volume { IsVolume result ↔ IsForVolume size max_payload (request_view request.now) }
+    ensures volume { IsVolume result ↔ IsForVolume size max_payload area (request_view request.now) }
     // What it is asked is what the request asks.
     ensures own { IfVolume result (λ ask. asked_by (request_view request.now) ≡ Some ask) }
     // The tests in their order, and what the first one that fails gives.
-    ensures exact { result ≡ checked size max_payload (request_view request.now) }
+    ensures exact { result ≡ checked size max_payload area (request_view request.now) }
 {
     match *request {
         Request::Read {
@@ -141,6 +203,12 @@ pub fn check(request: &Request, size: u64, max_payload: u32) -> Checked
             length,
             ..
         } => check_flush(flags, offset, length),
+        Request::Zero {
+            flags,
+            offset,
+            length,
+            ..
+        } => check_zero(flags, offset, length, size, area),
         Request::Other { .. } => Checked::Refused(NbdError::Invalid),
     }
 }

@@ -85,8 +85,12 @@ pub const REQUEST_WRITE: u16 = 1;
 pub const REQUEST_DISC: u16 = 2;
 /// The request FLUSH.
 pub const REQUEST_FLUSH: u16 = 3;
+/// The request WRITE_ZEROES.
+pub const REQUEST_WRITE_ZEROES: u16 = 6;
 /// The request flag FUA (bit 0).
 pub const FLAG_FUA: u16 = 0x0001;
+/// The request flag NO_HOLE (bit 1), of a WRITE_ZEROES alone.
+pub const FLAG_NO_HOLE: u16 = 0x0002;
 /// How many bytes a request has before a payload.
 pub const REQUEST_HEADER: usize = 28;
 /// How many bytes a simple reply has before a payload.

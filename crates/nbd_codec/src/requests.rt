@@ -41,6 +41,13 @@ pub enum Request<'a> {
         offset: u64,
         length: u32,
     },
+    /// WRITE_ZEROES. It has no payload.
+    Zero {
+        flags: u16,
+        cookie: u64,
+        offset: u64,
+        length: u32,
+    },
     /// A request of another type. No payload is read.
     Other {
         kind: u16,
@@ -61,6 +68,7 @@ impl Request<'_> {
             | Request::Write { cookie, .. }
             | Request::Disc { cookie, .. }
             | Request::Flush { cookie, .. }
+            | Request::Zero { cookie, .. }
             | Request::Other { cookie, .. } => cookie,
         }
     }
@@ -118,6 +126,12 @@ fn without_payload(head: Head, length: u32) -> Request<'static>
             length,
         },
         REQUEST_FLUSH => Request::Flush {
+            flags,
+            cookie,
+            offset,
+            length,
+        },
+        REQUEST_WRITE_ZEROES => Request::Zero {
             flags,
             cookie,
             offset,

@@ -81,7 +81,7 @@ request_stays export input progress kept encoded bytes is open_still = go (reque
     go : (reading : Reading PlainRequest) → request_in export.max_payload input ≡ reading → request_progress export (length input) reading ≡ Some progress → Stays export Transmitting input progress
     go (Value request len) found is = record {
       same = λ text. ap (request_progress export (length (input ++ text))) (kept input text bytes (λ none. let wrong = sym found ∙ none in absurd cc) ∙ found) ∙ is;
-      within = subst (λ n. n ≤ length input) (sym (checked_used request len (checked export.size export.max_payload request)) ∙ ap (λ t. t.used) (some_is is)) (used_within request_encoding (IsRequest export.max_payload) input request len (encoded.value input request len bytes found));
+      within = subst (λ n. n ≤ length input) (sym (checked_used request len (checked export.size export.max_payload export.area request)) ∙ ap (λ t. t.used) (some_is is)) (used_within request_encoding (IsRequest export.max_payload) input request len (encoded.value input request len bytes found));
     }
     go More found is = absurd cc
     go (Fault fault) found is = let over : true ≡ is_over progress.phase = ap (λ t. is_over t.phase) (some_is is) in absurd cc

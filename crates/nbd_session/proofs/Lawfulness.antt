@@ -13,17 +13,17 @@ use Rattle.nbd_codec.specs.declared.findings.Reading.{Reading}
 use Rattle.nbd_codec.specs.declared.findings.Reading.TheVariants.{Value, More, Fault}
 use Rattle.nbd_codec.specs.declared.handshake.ClientFlags.{ClientFlags as Flags}
 use Rattle.nbd_codec.specs.declared.option_replies.OptionReply.TheVariants.{ErrTooBig}
-use Rattle.nbd_codec.specs.declared.constants.TheConstants.{FLAG_FUA}
+use Rattle.nbd_codec.specs.declared.constants.TheConstants.{FLAG_FUA, FLAG_NO_HOLE}
 use Rattle.nbd_codec.specs.declared.replies.NbdError.{NbdError}
 use Rattle.nbd_codec.specs.declared.replies.NbdError.TheVariants.{Invalid, NoSpace}
-use Rattle.nbd_codec.specs.Checked.{checked, flush_checked, has_fua, read_checked, write_checked}
+use Rattle.nbd_codec.specs.Checked.{checked, flush_checked, zero_batch, zero_checked, has_fua, read_checked, write_checked}
 use Rattle.nbd_codec.specs.ClientOption.{Asks, Malformed, PlainOption, ExportName, Abort, Lists, Info, Go, Other as OtherOption, Oversized, IsOption, option_in, encoding as option_encoding, told_of}
 use Rattle.nbd_codec.specs.Findings.{AreBytes, IsImpossible, Takes}
 use Rattle.nbd_codec.specs.Handshake.{AreFlags, flags_in, flags_encoding, greeting_encoding}
 use Rattle.nbd_codec.specs.Laws.{IsEncoded}
 use Rattle.nbd_codec.specs.OptionReply.{option_reply_encoding}
 use Rattle.nbd_codec.specs.Reply.{PlainReply, Done, Refused, encoding as reply_encoding}
-use Rattle.nbd_codec.specs.Request.{IsRequest, PlainRequest, Read, Write, Disc, Flush, Other, head_of, payload_of, request_in, encoding as request_encoding}
+use Rattle.nbd_codec.specs.Request.{IsRequest, PlainRequest, Read, Write, Disc, Flush, Zero, Other, head_of, payload_of, request_in, encoding as request_encoding}
 use Rattle.nbd_session.specs.declared.answer.Export.{Export}
 use Rattle.nbd_session.specs.declared.phase.Phase.{Phase}
 use Rattle.nbd_session.specs.declared.phase.Phase.TheVariants.{Greeted, Negotiating, Skipping, Transmitting, Leaving, Over}
@@ -192,19 +192,27 @@ flush_stays : (flags offset len : ℕ) → flush_checked flags offset len ≡ ch
 flush_stays flags offset len =
     not_left (nat_lt FLAG_FUA flags) _ _ (refused_stays Invalid) (not_left _ _ _ (refused_stays Invalid) (volume_stays asks.Flush))
 
-is_disc : (size max_payload : ℕ) (request : PlainRequest) → checked size max_payload request ≡ checks.Disconnect → IsDisc request
-is_disc size max_payload (Read flags cookie offset len) is = absurd (read_stays flags offset len size max_payload is)
-is_disc size max_payload (Write flags cookie offset payload) is = absurd (write_stays flags offset (length payload) size is)
-is_disc size max_payload (Disc flags cookie offset len) is = tt
-is_disc size max_payload (Flush flags cookie offset len) is = absurd (flush_stays flags offset len is)
-is_disc size max_payload (Other kind flags cookie offset len) is = absurd (refused_stays Invalid is)
+zero_stays : (flags offset len size area : ℕ) → zero_checked flags offset len size area ≡ checks.Disconnect → ⊥
+zero_stays flags offset len size area =
+    not_left (nat_lt (FLAG_FUA + FLAG_NO_HOLE) flags) _ _ (refused_stays Invalid)
+    (not_left (nat_lt size (offset + len)) _ _ (refused_stays NoSpace)
+    (not_left (nat_lt area (zero_batch offset len)) _ _ (refused_stays Invalid) (not_left (nat_eq len 0) _ _ done_stays (volume_stays (asks.Zero offset len (has_fua flags))))))
 
-no_disc : (size max_payload : ℕ) (request : PlainRequest) → (checked size max_payload request ≡ checks.Disconnect → ⊥) → IsDisc request → ⊥
-no_disc size max_payload (Read flags cookie offset len) not_disc disc = disc
-no_disc size max_payload (Write flags cookie offset payload) not_disc disc = disc
-no_disc size max_payload (Disc flags cookie offset len) not_disc disc = not_disc refl
-no_disc size max_payload (Flush flags cookie offset len) not_disc disc = disc
-no_disc size max_payload (Other kind flags cookie offset len) not_disc disc = disc
+is_disc : (size max_payload area : ℕ) (request : PlainRequest) → checked size max_payload area request ≡ checks.Disconnect → IsDisc request
+is_disc size max_payload area (Read flags cookie offset len) is = absurd (read_stays flags offset len size max_payload is)
+is_disc size max_payload area (Write flags cookie offset payload) is = absurd (write_stays flags offset (length payload) size is)
+is_disc size max_payload area (Disc flags cookie offset len) is = tt
+is_disc size max_payload area (Flush flags cookie offset len) is = absurd (flush_stays flags offset len is)
+is_disc size max_payload area (Zero flags cookie offset len) is = absurd (zero_stays flags offset len size area is)
+is_disc size max_payload area (Other kind flags cookie offset len) is = absurd (refused_stays Invalid is)
+
+no_disc : (size max_payload area : ℕ) (request : PlainRequest) → (checked size max_payload area request ≡ checks.Disconnect → ⊥) → IsDisc request → ⊥
+no_disc size max_payload area (Read flags cookie offset len) not_disc disc = disc
+no_disc size max_payload area (Write flags cookie offset payload) not_disc disc = disc
+no_disc size max_payload area (Disc flags cookie offset len) not_disc disc = not_disc refl
+no_disc size max_payload area (Flush flags cookie offset len) not_disc disc = disc
+no_disc size max_payload area (Zero flags cookie offset len) not_disc disc = disc
+no_disc size max_payload area (Other kind flags cookie offset len) not_disc disc = disc
 
 -- ---- one step more
 
@@ -402,7 +410,7 @@ module _ (c : Course) (h : History) where
   -- a request
   module _ (stands : HasHistoryIn Transmitting now hist) where
     request_more : (request : PlainRequest) (len : ℕ) (out : List ℕ) (asks : List Asked) → Takes request_encoding (IsRequest now.export.max_payload) now.kept request len
-        → (checked now.export.size now.export.max_payload request ≡ checks.Disconnect → ⊥) → shown now.export (Reached request) ≡ out → asked_in now.export (Reached request) ≡ asks
+        → (checked now.export.size now.export.max_payload now.export.area request ≡ checks.Disconnect → ⊥) → shown now.export (Reached request) ≡ out → asked_in now.export (Reached request) ≡ asks
         → Transmission now.export h.fed (h.handed ++ (now.output ++ out)) (h.asked ++ (c.asked ++ asks)) h.replies (drop len now.kept)
     request_more request len out asks takes not_disc out_is asks_is = record {
       text = stands.text;
@@ -414,14 +422,14 @@ module _ (c : Course) (h : History) where
           (subst (λ (l : List ℕ). Talks now.export stands.text (stands.sent ++ l) ((h.asked ++ c.asked) ++ asks) h.replies (drop len now.kept)) out_is
           (subst (λ (l : List Asked). Talks now.export stands.text (stands.sent ++ shown now.export (Reached request)) ((h.asked ++ c.asked) ++ l) h.replies (drop len now.kept)) asks_is
           (talks_reached now.export stands.text stands.sent (h.asked ++ c.asked) h.replies request (drop len now.kept)
-          (subst (λ (l : List ℕ). Talks now.export stands.text stands.sent (h.asked ++ c.asked) h.replies l) takes.whole stands.talks) takes.fits (no_disc now.export.size now.export.max_payload request not_disc))));
+          (subst (λ (l : List ℕ). Talks now.export stands.text stands.sent (h.asked ++ c.asked) h.replies l) takes.whole stands.talks) takes.fits (no_disc now.export.size now.export.max_payload now.export.area request not_disc))));
     }
 
     -- nothing more, whatever the session's output ends with
     request_none : Transmission now.export h.fed (h.handed ++ (now.output ++ [])) (h.asked ++ c.asked) h.replies now.kept
     request_none = subst (λ (l : List ℕ). Transmission now.export h.fed l (h.asked ++ c.asked) h.replies now.kept) silent stands
 
-    checked_one : (request : PlainRequest) (len : ℕ) → Takes request_encoding (IsRequest now.export.max_payload) now.kept request len → (how : Checked) → checked now.export.size now.export.max_payload request ≡ how
+    checked_one : (request : PlainRequest) (len : ℕ) → Takes request_encoding (IsRequest now.export.max_payload) now.kept request len → (how : Checked) → checked now.export.size now.export.max_payload now.export.area request ≡ how
         → Stood (after_progress c (checked_progress request len how)) h
     checked_one request len takes (checks.Volume ask) is =
         request_more request len [] (asked_under (head_of request).cookie ask (payload_of request) ∷ []) takes (λ e. volume_stays ask (sym is ∙ e)) (ap (own_reply (head_of request).cookie) is) (ap (asked_if request) is)
@@ -430,7 +438,7 @@ module _ (c : Course) (h : History) where
     checked_one request len takes (checks.Refused error) is =
         request_more request len (reply_encoding (Refused (head_of request).cookie error)) [] takes (λ e. refused_stays error (sym is ∙ e)) (ap (own_reply (head_of request).cookie) is) (ap (asked_if request) is)
     checked_one request len takes checks.Disconnect is =
-        let left : EndsSo now.export.max_payload now.kept Left = (request, drop len now.kept, takes.fits, is_disc now.export.size now.export.max_payload request is, takes.whole) in
+        let left : EndsSo now.export.max_payload now.kept Left = (request, drop len now.kept, takes.fits, is_disc now.export.size now.export.max_payload now.export.area request is, takes.whole) in
         let gone : Phase → State = λ phase. record now { phase = phase; kept = []; output = now.output ++ [] } in
         let ended : (phase : Phase) → Ended (gone phase) hist Left = λ phase. (now.kept, request_none, left) in
         elim (cases_Bool (nat_eq now.in_flight 0)) [
@@ -441,7 +449,7 @@ module _ (c : Course) (h : History) where
     at_request : IsEncoded request_encoding (IsRequest now.export.max_payload) (request_in now.export.max_payload) → AreBytes now.kept → HasHistory now hist → (reading : Reading PlainRequest) → request_in now.export.max_payload now.kept ≡ reading
         → Stood (after_any c (request_progress now.export (length now.kept) reading)) h
     at_request encoded bytes was (Value request len) found =
-        checked_one request len (encoded.value now.kept request len bytes found) (checked now.export.size now.export.max_payload request) refl
+        checked_one request len (encoded.value now.kept request len bytes found) (checked now.export.size now.export.max_payload now.export.area request) refl
     at_request encoded bytes was More found = was
     at_request encoded bytes was (Fault fault) found =
         inr (inr (now.kept, request_none, encoded.fault now.kept fault bytes found))

@@ -1,5 +1,5 @@
 -- What a demand asks of the volume, and whose reply it owes.
-use Rattle.std.specs.Prelude.{◌≡◌, ℕ, ◌+◌, ◌<◌, ◌≤◌, None, List, length, ⊤, if◌then◌else◌}
+use Rattle.std.specs.Prelude.{◌≡◌, ℕ, ◌+◌, ◌<◌, ◌≤◌, Bool, None, List, length, replicate, ⊤, if◌then◌else◌}
 use Rattle.board.specs.Seats.{BoardId}
 use Rattle.flush_barrier.specs.declared.session_id.SessionId.{SessionId}
 use Rattle.flush_barrier.specs.Owed.{Owed}
@@ -16,12 +16,16 @@ pub data Asked : Type 0 where
   Fua : (cookie : ℕ) → (write : Placed) → Asked
   Flush : (cookie : ℕ) → Asked
 
+-- a write, with FUA or without
+abbrev pub written_under : ℕ → Placed → Bool → Asked
+written_under cookie write fua = if fua then Fua cookie write else Write cookie write
+
 -- what is asked under a cookie, where these bytes stand behind the request's header
 abbrev pub asked_under : ℕ → Ask → List ℕ → Asked
 asked_under cookie (asks.Read offset len) payload = Read cookie offset len
-asked_under cookie (asks.Write offset len fua) payload =
-    if fua then Fua cookie (record { offset = offset; bytes = payload }) else Write cookie (record { offset = offset; bytes = payload })
+asked_under cookie (asks.Write offset len fua) payload = written_under cookie (record { offset = offset; bytes = payload }) fua
 asked_under cookie asks.Flush payload = Flush cookie
+asked_under cookie (asks.Zero offset len fua) payload = written_under cookie (record { offset = offset; bytes = replicate len 0 }) fua
 
 -- the demand of a session that asks this, with a token of the board
 abbrev pub demand_of : BoardId → SessionId → Asked → Demand

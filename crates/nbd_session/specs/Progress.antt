@@ -112,7 +112,7 @@ checked_progress request len checks.Disconnect = record { phase = Leaving; used 
 
 -- at a request, of so many bytes that came
 abbrev pub request_progress : Export → ℕ → Reading PlainRequest → Option Progress
-request_progress export came (Value request len) = Some (checked_progress request len (checked export.size export.max_payload request))
+request_progress export came (Value request len) = Some (checked_progress request len (checked export.size export.max_payload export.area request))
 request_progress export came More = None
 request_progress export came (Fault fault) = Some (ended came)
 

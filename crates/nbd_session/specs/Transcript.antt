@@ -6,7 +6,7 @@ use Rattle.nbd_codec.specs.declared.checks.Checked.TheVariants as checks
 use Rattle.nbd_codec.specs.Checked.{checked}
 use Rattle.nbd_codec.specs.Findings.{IsImpossible, IsProperPrefix}
 use Rattle.nbd_codec.specs.Reply.{PlainReply, Done, Refused, encoding as reply_encoding}
-use Rattle.nbd_codec.specs.Request.{IsRequest, PlainRequest, Read, Write, Disc, Flush, Other, head_of, payload_of, encoding}
+use Rattle.nbd_codec.specs.Request.{IsRequest, PlainRequest, Read, Write, Disc, Flush, Zero, Other, head_of, payload_of, encoding}
 use Rattle.nbd_session.specs.declared.answer.Export.{Export}
 use Rattle.nbd_session.specs.Demand.{Asked, asked_under}
 
@@ -16,6 +16,7 @@ IsDisc (Read flags cookie offset len) = ⊥
 IsDisc (Write flags cookie offset payload) = ⊥
 IsDisc (Disc flags cookie offset len) = ⊤
 IsDisc (Flush flags cookie offset len) = ⊥
+IsDisc (Zero flags cookie offset len) = ⊥
 IsDisc (Other kind flags cookie offset len) = ⊥
 
 -- a text begins with these requests, none of which is a DISC; then comes this rest
@@ -65,7 +66,7 @@ own_reply cookie checks.Disconnect = []
 
 -- what goes out
 abbrev pub shown : Export → TransmissionEvent → List ℕ
-shown export (Reached request) = own_reply (head_of request).cookie (checked export.size export.max_payload request)
+shown export (Reached request) = own_reply (head_of request).cookie (checked export.size export.max_payload export.area request)
 shown export (Came reply) = reply_encoding reply
 
 -- what the tests of requests leave to the volume
@@ -77,7 +78,7 @@ asked_if request checks.Disconnect = []
 
 -- what is asked of the volume: one demand for each volume request that is reached
 abbrev pub asked_in : Export → TransmissionEvent → List Asked
-asked_in export (Reached request) = asked_if request (checked export.size export.max_payload request)
+asked_in export (Reached request) = asked_if request (checked export.size export.max_payload export.area request)
 asked_in export (Came reply) = []
 
 -- a text whose requests up to this rest were reached: each that isn't for the volume got its one reply, each other made

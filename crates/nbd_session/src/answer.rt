@@ -15,6 +15,8 @@ pub(crate) struct Export {
     pub size: u64,
     /// The longest payload, in bytes.
     pub max_payload: u32,
+    /// The bytes of the journal area in which zeros are marked, and 0 where none are: then no WRITE_ZEROES of a byte is done.
+    pub area: u32,
 }
 
 /// What goes out at once for what came in.
@@ -75,7 +77,9 @@ fn put_information(
     ensures ok { OnOk result (out.new.items ≡ out.old.items ++ information export option block_size) }
     ensures front { take (length out.old.items) out.new.items ≡ out.old.items }
 {
-    let Export { size, max_payload } = export;
+    let Export {
+        size, max_payload, ..
+    } = export;
     write_option_reply(out, option, OptionReply::Export { size })?;
     if block_size {
         write_option_reply(out, option, OptionReply::BlockSize { max_payload })?;

@@ -192,12 +192,12 @@ pub(crate) fn request_intake(export: Export, input: &[u8]) -> Option<Intake>
 fn checked_intake(export: Export, request: &Request, used: usize) -> Intake
     requires { REQUEST_HEADER ≤ used }
     ensures exact { (input : List ℕ) → slice_range input REQUEST_HEADER used ≡ payload_of (request_view request.now) →
-        progress_of export input result ≡ checked_progress (request_view request.now) used (checked export.size export.max_payload (request_view request.now)) }
+        progress_of export input result ≡ checked_progress (request_view request.now) used (checked export.size export.max_payload export.area (request_view request.now)) }
     ensures intake { (input : List ℕ) → slice_range input REQUEST_HEADER used ≡ payload_of (request_view request.now) → used ≤ length input →
         IsIntake export.size input result }
 {
     let cookie = request.cookie();
-    let (phase, answer, wanted) = match check(request, export.size, export.max_payload) {
+    let (phase, answer, wanted) = match check(request, export.size, export.max_payload, export.area) {
         Checked::Volume(ask) => {
             let wanted = Wanted {
                 cookie,

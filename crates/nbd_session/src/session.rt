@@ -58,15 +58,16 @@ impl Session {
     ghost use Rattle.nbd_session.specs.Session.{Grows, Overruns, course_of, left_to_use, limit_in_flight, step, used_from};
 
     /// A session at a member of the board's chain, with an export of `size` bytes that takes payloads of up to
-    /// `max_payload` bytes. The greeting waits to go out.
+    /// `max_payload` bytes, and zeros that fit into a journal area of `area` bytes. The greeting waits to go out.
     pub fn new(
         alloc: Global,
         board: &Board,
         id: SessionId,
         size: u64,
         max_payload: u32,
+        area: u32,
     ) -> Result<Session, AllocError>
-        ensures session { IfOk result (λ s. s ≡ record { board = board.now; id = id; export = record { size = size; max_payload = max_payload }; phase = Greeted; in_flight = 0; kept = []; output = greeting_encoding }) }
+        ensures session { IfOk result (λ s. s ≡ record { board = board.now; id = id; export = record { size = size; max_payload = max_payload; area = area }; phase = Greeted; in_flight = 0; kept = []; output = greeting_encoding }) }
         ensures lawful { IfOk result (λ s. HasHistory s nothing) }
     {
         let mut output = BytesMut::new(alloc);
@@ -75,7 +76,11 @@ impl Session {
             alloc,
             board: BoardName::of(board),
             id,
-            export: Export { size, max_payload },
+            export: Export {
+                size,
+                max_payload,
+                area,
+            },
             phase: Phase::Greeted,
             in_flight: 0,
             kept: Inbox::new(alloc),

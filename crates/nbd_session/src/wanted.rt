@@ -1,5 +1,5 @@
 ghost use Rattle.std.specs.Prelude.{◌≡◌, ◌+◌, ◌<◌, ◌≤◌, ◌^◌};
-ghost use Rattle.nbd_session.specs.Demand.{demand_of};
+ghost use Rattle.nbd_session.specs.Demand.{demand_of, written_under};
 ghost use Rattle.nbd_session.specs.Intake.{behind, loaded_view};
 
 use crate::demand::Demand;
@@ -64,17 +64,34 @@ impl Loaded {
                 length,
             },
             Ask::Write { offset, fua, .. } => {
-                let write = Write::new(offset, payload);
-                if fua {
-                    let token = OwedFua::new(board, session, cookie);
-                    return Demand::Fua { token, write };
-                }
-                let token = OwedWrite::new(board, session, cookie);
-                Demand::Write { token, write }
+                write_demand(board, session, cookie, Write::new(offset, payload), fua)
             }
+            Ask::Zero {
+                offset,
+                length,
+                fua,
+            } => write_demand(board, session, cookie, Write::zeros(offset, length), fua),
             Ask::Flush => Demand::Flush {
                 token: OwedFlush::new(board, session, cookie),
             },
         }
     }
+}
+
+/// The demand of a write, with FUA or without.
+fn write_demand(
+    board: &BoardName,
+    session: SessionId,
+    cookie: u64,
+    write: Write,
+    fua: bool,
+) -> Demand
+    ensures { result ≡ demand_of board.now session (written_under cookie write fua) }
+{
+    if fua {
+        let token = OwedFua::new(board, session, cookie);
+        return Demand::Fua { token, write };
+    }
+    let token = OwedWrite::new(board, session, cookie);
+    Demand::Write { token, write }
 }
