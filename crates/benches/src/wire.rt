@@ -115,7 +115,7 @@ fn report<R: Clock + Print>(
     load: Load,
     timed: bool,
 ) -> anyhow::Result<()> {
-    let mut session = Session::new(alloc, board, SESSION, SIZE, MIB as u32)?;
+    let mut session = Session::new(alloc, board, SESSION, SIZE, MIB as u32, 0)?;
     let answer = Bytes::from_vec(vec![in alloc; 7; load.length]?)?;
     let greeted = round(&mut session, alloc, HELLO, HELLO.len(), &answer)?;
     let text = text_of(alloc, load)?;

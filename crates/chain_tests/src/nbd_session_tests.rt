@@ -17,6 +17,8 @@ const SIZE: u64 = 32_768;
 
 const MAX_PAYLOAD: u32 = 4_096;
 
+const AREA: u32 = 8_214;
+
 /// Client flags without zeros, and EXPORT_NAME.
 const HELLO: &[u8] = b"\0\0\0\x03IHAVEOPT\0\0\0\x01\0\0\0\0";
 
@@ -45,6 +47,16 @@ const LONG_WRITE: &[u8] =
 
 const LONG_OPTION: &[u8] = b"\0\0\0\x03IHAVEOPT\0\0\0\x09\xff\xff\xff\xff";
 
+/// WRITE_ZEROES of all bytes but the first and the last: two images and six marks have 8,238 bytes.
+const LONG_ZEROS: &[u8] =
+    b"\x25\x60\x95\x13\0\0\0\x06\0\0\0\0\0\0\0\x08\0\0\0\0\0\0\0\x01\0\0\x7f\xfe";
+
+const ZEROS_PAST_THE_END: &[u8] =
+    b"\x25\x60\x95\x13\0\0\0\x06\0\0\0\0\0\0\0\x09\0\0\0\0\0\0\x7f\xff\0\0\0\x02";
+
+/// WRITE_ZEROES of all bytes, with NO_HOLE.
+const ZEROS: &[u8] = b"\x25\x60\x95\x13\0\x02\0\x06\0\0\0\0\0\0\0\x0a\0\0\0\0\0\0\0\0\0\0\x80\0";
+
 /// The replies to those requests.
 const WRITTEN: &[u8] = b"\x67\x44\x66\x98\0\0\0\0\0\0\0\0\0\0\0\x01";
 
@@ -55,6 +67,12 @@ const BYTES_READ: &[u8] = b"\x67\x44\x66\x98\0\0\0\0\0\0\0\0\0\0\0\x03\x07\x07";
 const FLUSH_REFUSED: &[u8] = b"\x67\x44\x66\x98\0\0\0\x05\0\0\0\0\0\0\0\x04";
 
 const LONG_READ_INVALID: &[u8] = b"\x67\x44\x66\x98\0\0\0\x16\0\0\0\0\0\0\0\x06";
+
+const LONG_ZEROS_INVALID: &[u8] = b"\x67\x44\x66\x98\0\0\0\x16\0\0\0\0\0\0\0\x08";
+
+const NO_SPACE_FOR_ZEROS: &[u8] = b"\x67\x44\x66\x98\0\0\0\x1c\0\0\0\0\0\0\0\x09";
+
+const ZEROED: &[u8] = b"\x67\x44\x66\x98\0\0\0\0\0\0\0\0\0\0\0\x0a";
 
 /// What a demand asks.
 #[derive(Clone, Copy, Debug, PartialEq, Eq)]
@@ -101,6 +119,13 @@ const READ_SEEN: Seen = Seen::Read {
     length: 2,
 };
 
+const ZEROS_SEEN: Seen = Seen::Write {
+    cookie: 10,
+    offset: 0,
+    length: 32_768,
+    first: Some(0),
+};
+
 const FLUSH_SEEN: Seen = Seen::Flush { cookie: 4 };
 
 /// A client's session, what its demands asked, their replies, and what came out.
@@ -118,7 +143,9 @@ struct Client {
 impl Client {
     fn new(rt: &impl Abort, alloc: Global) -> Client {
         let (board, _seats) = Board::new(alloc, 0, 1, [0; 8], 1).expect(rt, "memory");
-        let session = Session::new(alloc, &board, SESSION, SIZE, MAX_PAYLOAD).expect(rt, "memory");
+        let session = Session::new(alloc, &board, SESSION, SIZE, MAX_PAYLOAD, AREA).expect(
+            rt, "memory",
+        );
         Client {
             alloc,
             session,
@@ -247,7 +274,7 @@ struct Row {
     is_over: bool,
 }
 
-const ROWS: [Row; 6] = [
+const ROWS: [Row; 7] = [
     Row {
         text: &[HELLO, WRITE, FUA, READ, FLUSH],
         seen: &[WRITE_SEEN, FUA_SEEN, READ_SEEN, FLUSH_SEEN],
@@ -264,6 +291,12 @@ const ROWS: [Row; 6] = [
         text: &[HELLO, LONG_READ, READ],
         seen: &[READ_SEEN],
         out: &[WELCOME, LONG_READ_INVALID, BYTES_READ],
+        is_over: false,
+    },
+    Row {
+        text: &[HELLO, LONG_ZEROS, ZEROS_PAST_THE_END, ZEROS],
+        seen: &[ZEROS_SEEN],
+        out: &[WELCOME, LONG_ZEROS_INVALID, NO_SPACE_FOR_ZEROS, ZEROED],
         is_over: false,
     },
     Row {

@@ -47,14 +47,15 @@ impl Client {
         at: usize,
         size: u64,
         max_payload: u32,
+        area: u32,
     ) -> Result<Client, AllocError>
         ensures { IfOk result (λ c. c ≡ record {
-          session = greeted board.now id (record { size = size; max_payload = max_payload });
+          session = greeted board.now id (record { size = size; max_payload = max_payload; area = area });
           at = at;
           told = false;
         }) }
     {
-        let session = Session::new(alloc, board, id, size, max_payload)?;
+        let session = Session::new(alloc, board, id, size, max_payload, area)?;
         Ok(Client {
             id,
             session,

@@ -20,6 +20,7 @@ pub struct Clients {
     board: BoardName,
     size: u64,
     max_payload: u32,
+    area: u32,
     clients: Vec<Client>,
 }
 
@@ -30,13 +31,13 @@ impl Model for Clients {
 
     ghost view = { λ c. record {
       board = c.board;
-      export = record { size = c.size; max_payload = c.max_payload };
+      export = record { size = c.size; max_payload = c.max_payload; area = c.area };
       clients = c.clients.items;
     } };
 
     ghost invariant = { λ c. AreSessions (record {
       board = c.board;
-      export = record { size = c.size; max_payload = c.max_payload };
+      export = record { size = c.size; max_payload = c.max_payload; area = c.area };
       clients = c.clients.items;
     }) };
 }
@@ -45,11 +46,12 @@ impl Clients {
     ghost use Rattle.clients.specs.Calls.{AreAtPlaces, Begins, Changes, Delivers, Ends, IsDemandOf, PutsOut, StayOver, TakesPiece, bytes_out};
     ghost use Rattle.clients.specs.Clients.{AreSessions, GoOn, HasClient, no_one, of_session, place_of};
 
-    /// No sessions of a board's chain. They will be at an export of `size` bytes that takes payloads of up to `max_payload` bytes.
-    pub fn new(alloc: Global, board: &Board, size: u64, max_payload: u32) -> Clients
+    /// No sessions of a board's chain. They will be at an export of `size` bytes that takes payloads of up to `max_payload` bytes, and
+    /// zeros that fit into a journal area of `area` bytes.
+    pub fn new(alloc: Global, board: &Board, size: u64, max_payload: u32, area: u32) -> Clients
         ensures { result ≡ record {
           board = board.now;
-          export = record { size = size; max_payload = max_payload };
+          export = record { size = size; max_payload = max_payload; area = area };
           clients = [];
         } }
     {
@@ -58,6 +60,7 @@ impl Clients {
             board: BoardName::of(board),
             size,
             max_payload,
+            area,
             clients: Vec::new(alloc),
         }
     }
@@ -75,7 +78,8 @@ impl Clients {
         if self.position(id).is_some() {
             return Ok(false);
         }
-        let client = Client::new(self.alloc, board, id, at, self.size, self.max_payload)?;
+        let (size, max_payload, area) = (self.size, self.max_payload, self.area);
+        let client = Client::new(self.alloc, board, id, at, size, max_payload, area)?;
         self.clients.push(client)?;
         Ok(true)
     }

@@ -16,7 +16,7 @@ use Rattle.world.specs.World.{Seen, Shows}
 
 -- what a volume of these sizes is to its clients
 abbrev pub export_of : Geometry → Export
-export_of geometry = record { size = 4096 * geometry.blocks; max_payload = geometry.max_payload }
+export_of geometry = record { size = 4096 * geometry.blocks; max_payload = geometry.max_payload; area = 0 }
 
 -- what the store of a member tells whose disk was formatted
 abbrev pub first_about : Geometry → ℕ → About

@@ -78,7 +78,9 @@ fn put_information(
     ensures front { take (length out.old.items) out.new.items ≡ out.old.items }
 {
     let Export {
-        size, max_payload, ..
+        size,
+        max_payload,
+        ..
     } = export;
     write_option_reply(out, option, OptionReply::Export { size })?;
     if block_size {

@@ -197,7 +197,12 @@ fn checked_intake(export: Export, request: &Request, used: usize) -> Intake
         IsIntake export.size input result }
 {
     let cookie = request.cookie();
-    let (phase, answer, wanted) = match check(request, export.size, export.max_payload, export.area) {
+    let (phase, answer, wanted) = match check(
+        request,
+        export.size,
+        export.max_payload,
+        export.area,
+    ) {
         Checked::Volume(ask) => {
             let wanted = Wanted {
                 cookie,

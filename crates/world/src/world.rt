@@ -45,7 +45,7 @@ impl<S: StoreLike + Drop> World<S> {
         ensures chain { IfOk result (λ world. world.chain ≡ chain) }
         ensures sessions { IfOk result (λ world. world.sessions ≡ record {
           board = chain.id;
-          export = record { size = 4096 * chain.geometry.blocks; max_payload = chain.geometry.max_payload };
+          export = record { size = 4096 * chain.geometry.blocks; max_payload = chain.geometry.max_payload; area = 0 };
           clients = [];
         }) }
         ensures queues { IfOk result (λ world. world.queues ≡ replicate (length chain.members) []) }
@@ -56,7 +56,10 @@ impl<S: StoreLike + Drop> World<S> {
             return Err(chain);
         };
         let geometry = chain.geometry();
-        let clients = Clients::new(alloc, chain.board(), geometry.size(), geometry.max_payload);
+        // No journal marks zeros yet.
+        let area = 0;
+        let (size, max_payload) = (geometry.size(), geometry.max_payload);
+        let clients = Clients::new(alloc, chain.board(), size, max_payload, area);
         Ok(World {
             alloc,
             chain,
