@@ -7,7 +7,7 @@ ghost use Rattle.disk_model.specs.Error.{HasCause};
 use crate::DiskError;
 
 /// A disk of fixed length. All that is said of contents is said under the premise `keeps_model`; its length and
-/// its count of failures are the program's own numbers, and stand outside it.
+/// its counts of failures and calls are the program's own numbers, and stand outside it.
 ///
 /// `at` counts bytes from the disk's beginning. The caller's condition is that a range lies within `len`.
 pub trait Disk {
