@@ -102,6 +102,7 @@ impl Cache {
         ensures reads { D.keeps_model → OnlyReads D.gives D.may_leave_now D.moment D.may_have_left_since disk.old disk.new }
         ensures size { D.size disk.new ≡ D.size disk.old }
         ensures cause { HasCause DiskError.ReadFault (D.failures disk.old) (D.failures disk.new) result }
+        ensures calls { D.calls_made disk.new ≤ D.calls_made disk.old + 1 }
     {
         if let Some(image) = self.blocks.get(&block).copied() {
             bytes.copy_from_slice(&image);

@@ -61,6 +61,7 @@ impl ConfigStore {
         ensures told { IfErr result IsOfCreating }
         ensures unchanged { IfErr result (λ r. ¬ IsOfDevice r → disk.new ≡ disk.old) }
         ensures cause { HasCause (D.failures disk.old) (D.failures disk.new) result }
+        ensures calls { D.calls_made disk.new ≤ D.calls_made disk.old + 12 }
     {
         let payload = first.encoded(alloc)?;
         let (pair, _receipt) = GatedPair::create(disk, part, &payload, receipt_slot(), 0)?;
@@ -176,6 +177,7 @@ impl ConfigStore {
         ensures unchanged { IfErr result (λ r. ¬ IsOfDevice r → (self.new ≡ self.old) × (disk.new ≡ disk.old)) }
         ensures device { IfErr result (λ r. IsOfDevice r → self.new ≡ failed self.old) }
         ensures cause { HasCause (D.failures disk.old) (D.failures disk.new) result }
+        ensures calls { D.calls_made disk.new ≤ D.calls_made disk.old + 2 }
     {
         stores_leave_old_or_new();
         self.may_record(next)?;
@@ -216,6 +218,7 @@ impl ConfigStore {
         ensures unchanged { IfErr result (λ r. ¬ IsOfDevice r → (self.new ≡ self.old) × (disk.new ≡ disk.old)) }
         ensures device { IfErr result (λ r. IsOfDevice r → self.new ≡ failed self.old) }
         ensures cause { HasCause (D.failures disk.old) (D.failures disk.new) result }
+        ensures calls { D.calls_made disk.new ≤ D.calls_made disk.old + 4 }
     {
         stores_leave_old_or_new();
         self.may_record(next.epoch())?;
@@ -257,6 +260,7 @@ impl ConfigStore {
         ensures unchanged { IfErr result (λ r. ¬ IsOfDevice r → (self.new ≡ self.old) × (disk.new ≡ disk.old)) }
         ensures device { IfErr result (λ r. IsOfDevice r → self.new ≡ record self.old { pair = record self.old.pair { is_closed = self.new.pair.is_closed; broken = true } }) }
         ensures cause { HasCause (D.failures disk.old) (D.failures disk.new) result }
+        ensures calls { D.calls_made disk.new ≤ D.calls_made disk.old + 6 }
     {
         stores_leave_old_or_new();
         self.may_record(next.epoch())?;

@@ -1,5 +1,5 @@
 -- What a file's disk shows of itself.
-use Rattle.std.specs.Prelude.{◌≡◌, ℕ, ℤ, Bool, false, Option, None}
+use Rattle.std.specs.Prelude.{◌≡◌, ℕ, ℤ, Bool, false, Option, None, is_some}
 use Rattle.disk_model.specs.Counts.{most_counted}
 use Rattle.disk_model.specs.declared.file.FileDisk.{FileDisk}
 
@@ -23,8 +23,27 @@ file_is_broken disk = disk.broken
 abbrev pub file_last_error : FileDisk → Option ℤ
 file_last_error disk = disk.last_error
 
--- no call has failed yet
+-- where in the file its first byte stands
+abbrev pub file_start : FileDisk → ℕ
+file_start disk = disk.start
+
+-- whether it can lend its log
+abbrev pub file_lends : FileDisk → Bool
+file_lends disk = is_some disk.second
+
+-- whether it brings the lock of another handle with it, as a log that was lent does
+abbrev pub file_brings_lock : FileDisk → Bool
+file_brings_lock disk = is_some disk.lock
+
+-- it is of the whole file, and no call has failed yet
 pub record IsNewlyOpened (disk : FileDisk) : Type 0 where
+  pub start : file_start disk ≡ 0
   pub failures : file_failures disk ≡ 0
   pub whole : file_is_broken disk ≡ false
   pub last_error : file_last_error disk ≡ None
+
+-- it stands at the same place of the file, with the same handles beside it
+pub record StaysThere (old new : FileDisk) : Type 0 where
+  pub start : file_start new ≡ file_start old
+  pub lends : file_lends new ≡ file_lends old
+  pub brings_lock : file_brings_lock new ≡ file_brings_lock old

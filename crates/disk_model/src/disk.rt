@@ -7,7 +7,7 @@ ghost use Rattle.disk_model.specs.Error.{HasCause};
 use crate::DiskError;
 
 /// A disk of fixed length. All that is said of contents is said under the premise `keeps_model`; its length and
-/// its count of failures are the program's own numbers, and stand outside it.
+/// its counts of failures and calls are the program's own numbers, and stand outside it.
 ///
 /// `at` counts bytes from the disk's beginning. The caller's condition is that a range lies within `len`.
 pub trait Disk {
@@ -35,6 +35,9 @@ pub trait Disk {
     /// How many failures there can be at most, now and from now on: no call here raises it.
     ghost most_failures: { Self → ℕ };
 
+    /// How many calls it has served, at most.
+    ghost calls_made: { Self → ℕ };
+
     /// How many bytes the disk has.
     fn len(&self) -> u64
         ensures { result ≡ size self.now };
@@ -49,7 +52,8 @@ pub trait Disk {
         ensures time { keeps_model → Elapses (moment self.old) (moment self.new)
             (may_have_left_since self.old) (may_have_left_since self.new) (may_leave_now self.new) }
         ensures cause { HasCause DiskError.ReadFault (failures self.old) (failures self.new) result }
-        ensures most { most_failures self.new ≤ most_failures self.old };
+        ensures most { most_failures self.new ≤ most_failures self.old }
+        ensures calls { calls_made self.new ≤ calls_made self.old + 1 };
 
     /// Writes over what is there. Until a sync, a stop may leave any bytes in the range.
     /// 102 `WriteFault`: some of it may be written, so a read may give any bytes in the range, and a stop may leave any.
@@ -65,7 +69,8 @@ pub trait Disk {
         ensures time { keeps_model → Elapses (moment self.old) (moment self.new)
             (may_have_left_since self.old) (may_have_left_since self.new) (may_leave_now self.new) }
         ensures cause { HasCause DiskError.WriteFault (failures self.old) (failures self.new) result }
-        ensures most { most_failures self.new ≤ most_failures self.old };
+        ensures most { most_failures self.new ≤ most_failures self.old }
+        ensures calls { calls_made self.new ≤ calls_made self.old + 1 };
 
     /// After it, a stop leaves what a read gives. 103 `SyncFault`: nothing is made durable.
     fn sync(&mut self) -> Result<(), DiskError>
@@ -76,7 +81,8 @@ pub trait Disk {
         ensures time { keeps_model → Elapses (moment self.old) (moment self.new)
             (may_have_left_since self.old) (may_have_left_since self.new) (may_leave_now self.new) }
         ensures cause { HasCause DiskError.SyncFault (failures self.old) (failures self.new) result }
-        ensures most { most_failures self.new ≤ most_failures self.old };
+        ensures most { most_failures self.new ≤ most_failures self.old }
+        ensures calls { calls_made self.new ≤ calls_made self.old + 1 };
 
     /// The count of failures keeps to the most that there can be.
     ghost within_most: { (disk : Self) → failures disk ≤ most_failures disk };

@@ -1,5 +1,5 @@
 // A file of fixed length. No contract can say what a file holds, so its premise is one that nobody proves.
-ghost use Rattle.std.specs.Prelude.{◌≡◌, ◌+◌, ◌-◌, ◌<◌, ◌≤◌, ◌^◌, false, None, length, IfOk, OnOk, OnErr, if◌then◌else◌, is_ok};
+ghost use Rattle.std.specs.Prelude.{◌≡◌, ◌+◌, ◌-◌, ◌<◌, ◌≤◌, ◌^◌, true, false, None, length, IfOk, OnOk, OnErr, if◌then◌else◌, is_ok};
 
 use crate::{Disk, DiskError, HalvedDisk};
 use std::fs::{File, Files, OpenOptions};
@@ -69,7 +69,7 @@ pub struct FilePast {
 impl FileDisk {
     ghost use Rattle.std.specs.Prelude.{IfErr, not};
     ghost use Rattle.std.specs.IoError.{raw_os_error};
-    ghost use Rattle.disk_model.specs.File.{file_len, file_failures, file_is_broken, file_last_error, IsNewlyOpened};
+    ghost use Rattle.disk_model.specs.File.{file_len, file_failures, file_is_broken, file_last_error, file_lends, IsNewlyOpened, StaysThere};
 
     /// Opens a regular file that is there, as long as it is now. Each error is the system's, but for `InvalidInput`
     /// at what is no regular file, or where the path leads to another file meanwhile; `WouldBlock` comes where another
@@ -78,7 +78,8 @@ impl FileDisk {
     /// What an earlier process left in the system's cache is made durable before the first read, and dropped from
     /// there where the system does so: after a sync that failed, the cache may hold bytes that the disk hasn't.
     pub fn open<R: Files<File = File>>(rt: &R, path: &str) -> io::Result<Self>
-        ensures { IfOk result IsNewlyOpened }
+        ensures new { IfOk result IsNewlyOpened }
+        ensures lends { IfOk result (λ disk. file_lends disk ≡ true) }
     {
         let file = OpenOptions::new().read(true).write(true).open(rt, path)?;
         if !file.metadata()?.is_file() {
@@ -99,6 +100,7 @@ impl FileDisk {
     pub fn create<R: Files<File = File>>(rt: &R, path: &str, len: u64) -> io::Result<Self>
         ensures len { IfOk result (λ disk. file_len disk ≡ len) }
         ensures new { IfOk result IsNewlyOpened }
+        ensures lends { IfOk result (λ disk. file_lends disk ≡ true) }
     {
         let file = File::create_new(rt, path)?;
         file.try_lock()?;
@@ -123,6 +125,7 @@ impl FileDisk {
     pub fn new(file: File, len: u64) -> Self
         ensures len { file_len result ≡ len }
         ensures new { IsNewlyOpened result }
+        ensures lends { file_lends result ≡ false }
     {
         FileDisk {
             file,
@@ -140,6 +143,7 @@ impl FileDisk {
     fn with_second(file: File, second: Second, len: u64) -> Self
         ensures len { file_len result ≡ len }
         ensures new { IsNewlyOpened result }
+        ensures lends { file_lends result ≡ true }
     {
         let mut disk = FileDisk::new(file, len);
         disk.second = Some(second);
@@ -153,6 +157,7 @@ impl FileDisk {
         ensures len { file_len self.new ≡ file_len self.old }
         ensures failures { file_failures self.new ≡ (if is_ok done then file_failures self.old else file_failures self.old + 1) }
         ensures broken { file_is_broken self.new ≡ file_is_broken self.old }
+        ensures there { StaysThere self.old self.new }
         ensures kept { OnOk done (file_last_error self.new ≡ file_last_error self.old) }
         ensures noted { IfErr done (λ e. file_last_error self.new ≡ raw_os_error e) }
     {
@@ -172,6 +177,7 @@ impl FileDisk {
         ensures len { file_len self.new ≡ file_len self.old }
         ensures failures { file_failures self.new ≡ (if is_ok done then file_failures self.old else file_failures self.old + 1) }
         ensures broken { file_is_broken self.new ≡ not (is_ok done) }
+        ensures there { StaysThere self.old self.new }
         ensures kept { OnOk done (file_last_error self.new ≡ file_last_error self.old) }
         ensures noted { IfErr done (λ e. file_last_error self.new ≡ raw_os_error e) }
     {
@@ -213,7 +219,7 @@ fn folder_of(path: &str) -> &str {
 impl Disk for FileDisk {
     ghost use Rattle.std.specs.Prelude.{◌≡◌, ◌⊎◌, ◌↔◌, ◌+◌, ◌-◌, ◌^◌, ◌≤◌, [], length, IsTrue, IsErr, OnOk, IsErrOf};
     ghost use Rattle.disk_model.specs.Error.{HasCause};
-    ghost use Rattle.disk_model.specs.File.{file_len, file_failures, file_most_failures, file_is_broken, file_last_error};
+    ghost use Rattle.disk_model.specs.File.{file_len, file_failures, file_most_failures, file_is_broken, file_last_error, StaysThere};
     ghost use Rattle.disk_model.specs.Counts.{within_counted};
 
     ghost keeps_model = { ⊥ };
@@ -231,6 +237,9 @@ impl Disk for FileDisk {
     ghost failures = { file_failures };
 
     ghost most_failures = { file_most_failures };
+
+    // A file's disk counts none.
+    ghost calls_made = { λ _. 0 };
 
     ghost within_most = { λ d. within_counted d.failures };
 
@@ -255,6 +264,7 @@ impl Disk for FileDisk {
         ensures memory { IsErrOf result DiskError.Memory ↔ (file_failures self.old ≡ 2 ^ 64 - 1) }
         ensures cause { HasCause DiskError.ReadFault (file_failures self.old) (file_failures self.new) result }
         ensures most { file_most_failures self.new ≤ file_most_failures self.old }
+        ensures there { StaysThere self.old self.new }
         ensures latch { file_is_broken self.new ≡ file_is_broken self.old }
         ensures kept { OnOk result (file_last_error self.new ≡ file_last_error self.old) }
     {
@@ -272,6 +282,7 @@ impl Disk for FileDisk {
         ensures memory { IsErrOf result DiskError.Memory ↔ (file_failures self.old ≡ 2 ^ 64 - 1) }
         ensures cause { HasCause DiskError.WriteFault (file_failures self.old) (file_failures self.new) result }
         ensures most { file_most_failures self.new ≤ file_most_failures self.old }
+        ensures there { StaysThere self.old self.new }
         ensures latched { IsTrue (file_is_broken self.old) → IsErr result }
         ensures latch { IsTrue (file_is_broken self.new) ↔ (IsTrue (file_is_broken self.old) ⊎ IsErrOf result DiskError.WriteFault) }
         ensures kept { OnOk result (file_last_error self.new ≡ file_last_error self.old) }
@@ -293,6 +304,7 @@ impl Disk for FileDisk {
         ensures memory { IsErrOf result DiskError.Memory ↔ (file_failures self.old ≡ 2 ^ 64 - 1) }
         ensures cause { HasCause DiskError.SyncFault (file_failures self.old) (file_failures self.new) result }
         ensures most { file_most_failures self.new ≤ file_most_failures self.old }
+        ensures there { StaysThere self.old self.new }
         ensures latched { IsTrue (file_is_broken self.old) → IsErr result }
         ensures latch { IsTrue (file_is_broken self.new) ↔ (IsTrue (file_is_broken self.old) ⊎ IsErrOf result DiskError.SyncFault) }
         ensures kept { OnOk result (file_last_error self.new ≡ file_last_error self.old) }
@@ -310,11 +322,11 @@ impl Disk for FileDisk {
 }
 
 /// The log goes by a handle of its own, and each half is stopped at once by its own failed write or sync. Where there is no
-/// second handle, as at a half, nothing is lent: 100 `Memory`. What is returned has to be the log that was lent: no clause
-/// knows one file from another.
+/// second handle, as at a half, and only there, nothing is lent: 100 `Memory`. What is returned has to be the log that was
+/// lent: no clause knows one file from another.
 impl HalvedDisk for FileDisk {
-    ghost use Rattle.std.specs.Prelude.{◌≡◌, ◌⊎◌, ◌↔◌, ◌+◌, ◌≤◌, ◌<◌, max, IsTrue, IfErr};
-    ghost use Rattle.disk_model.specs.File.{file_len, file_failures, file_most_failures, file_is_broken, file_last_error};
+    ghost use Rattle.std.specs.Prelude.{◌≡◌, ◌⊎◌, ◌↔◌, ◌+◌, ◌≤◌, ◌<◌, max, IsTrue, IsErr, IfErr};
+    ghost use Rattle.disk_model.specs.File.{file_len, file_failures, file_most_failures, file_is_broken, file_last_error, file_start, file_lends, file_brings_lock};
 
     type Log = FileDisk;
 
@@ -340,6 +352,11 @@ impl HalvedDisk for FileDisk {
         // A half of what is broken is broken.
         ensures latch { IfOk result (λ r. (file_is_broken self.new ≡ file_is_broken self.old) × (file_is_broken r.0 ≡ file_is_broken self.old)) }
         ensures last_error { IfOk result (λ r. (file_last_error self.new ≡ file_last_error self.old) × (file_last_error r.0 ≡ file_last_error self.old)) }
+        // The log begins at the border. Neither half lends.
+        ensures starts { IfOk result (λ r. (file_start self.new ≡ file_start self.old) × (file_start r.0 ≡ file_start self.old + border) × (r.1.start ≡ file_start self.old)) }
+        ensures lends { IfOk result (λ r. (file_lends self.new ≡ false) × (file_lends r.0 ≡ false)) }
+        ensures lock { IfOk result (λ r. file_brings_lock r.0 ≡ true) }
+        ensures refused { IsErr result ↔ (file_lends self.old ≡ false) }
         ensures unlent { OnErr result (self.new ≡ self.old) }
         ensures err { OnErr result ((file_len self.new ≡ file_len self.old) × (file_failures self.new ≡ file_failures self.old) × (file_most_failures self.new ≤ file_most_failures self.old)) }
         ensures told { IfErr result (λ e. e ≡ DiskError.Memory) }
@@ -372,6 +389,9 @@ impl HalvedDisk for FileDisk {
         ensures size { file_len self.new ≡ past.len }
         ensures failures { file_failures self.new ≡ max (file_failures self.old) (file_failures log) }
         ensures most { file_most_failures self.new ≤ max (file_most_failures self.old) (file_most_failures log) }
+        ensures start { file_start self.new ≡ past.start }
+        // It can lend again, where the log has its lock with it.
+        ensures lends { file_lends self.new ≡ file_brings_lock log }
         // A failed write or sync of either half stops both.
         ensures latch { IsTrue (file_is_broken self.new) ↔ (IsTrue (file_is_broken self.old) ⊎ IsTrue (file_is_broken log)) }
         // The error is the home's, unless the log has failed more often.

@@ -43,6 +43,9 @@ pub trait HalvedDisk: Disk {
         // Each half goes on from the whole's count of failures.
         ensures failures { IfOk result (λ r. (Self.failures self.new ≡ Self.failures self.old) × (Self.Log.failures r.0 ≡ Self.failures self.old)) }
         ensures most { IfOk result (λ r. (Self.most_failures self.new ≤ Self.most_failures self.old) × (Self.Log.most_failures r.0 ≤ Self.most_failures self.old)) }
+        // The calls that were served before are counted at one half.
+        ensures calls { IfOk result (λ r. Self.calls_made self.new + Self.Log.calls_made r.0 ≤ Self.calls_made self.old) }
+        ensures no_calls { OnErr result (Self.calls_made self.new ≤ Self.calls_made self.old) }
         ensures err { OnErr result ((Self.size self.new ≡ Self.size self.old) × (Self.failures self.new ≡ Self.failures self.old) × (Self.most_failures self.new ≤ Self.most_failures self.old)) }
         ensures unlent { Self.keeps_model → OnErr result (IsUntouched (Self.gives self.old) (Self.gives self.new) (Self.may_leave_now self.old) (Self.may_leave_now self.new)
             (Self.moment self.old) (Self.moment self.new) (Self.may_have_left_since self.old) (Self.may_have_left_since self.new)) }
@@ -59,7 +62,8 @@ pub trait HalvedDisk: Disk {
             (Self.cut_at past) (Self.may_have_left_since self.old 0) (Self.Log.may_have_left_since log 0) }
         // The greater count of the two: it grew where a call on either failed meanwhile.
         ensures failures { Self.failures self.new ≡ max (Self.failures self.old) (Self.Log.failures log) }
-        ensures most { Self.most_failures self.new ≤ max (Self.most_failures self.old) (Self.Log.most_failures log) };
+        ensures most { Self.most_failures self.new ≤ max (Self.most_failures self.old) (Self.Log.most_failures log) }
+        ensures calls { Self.calls_made self.new ≤ Self.calls_made self.old + Self.Log.calls_made log };
 
     /// Where the disk keeps the disk model, so does its log.
     ghost log_keeps: { Self.keeps_model → Self.Log.keeps_model };
@@ -80,6 +84,7 @@ pub fn write_beside_log<D: HalvedDisk>(
     ensures any_moment { D.keeps_model → LeavesOnly D.moment D.may_have_left_since disk.old disk.new
         (Beside border (MayBeTorn at (length bytes.now) (LeftBelow border (D.may_leave_now disk.old))) (LeftBehind border (D.may_leave_now disk.old))) }
     ensures cause { HasCause DiskError.WriteFault (D.failures disk.old) (D.failures disk.new) result }
+    ensures calls { D.calls_made disk.new ≤ D.calls_made disk.old + 1 }
 {
     let (log, past) = disk.lend_log(border)?;
     let written = disk.write_at(at, bytes);

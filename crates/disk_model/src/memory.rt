@@ -215,7 +215,7 @@ impl Disk for MemDisk {
     ghost use Rattle.std.specs.List.{slice_range};
     ghost use Rattle.disk_model.specs.Disk.{Elapses, Follows, Holds, NothingNew, Only, Torn};
     ghost use Rattle.disk_model.specs.Error.{HasCause};
-    ghost use Rattle.disk_model.specs.Memory.{bytes_of, given_of, size_of, may_be_left, moment_of, left_since, failures_of, most_failures_of, unsynced_of, script_of, has_stopped, IsServed, IsAsBefore, IsWritten};
+    ghost use Rattle.disk_model.specs.Memory.{bytes_of, given_of, size_of, may_be_left, moment_of, left_since, failures_of, most_failures_of, unsynced_of, calls_of, script_of, has_stopped, IsServed, IsAsBefore, IsWritten};
     ghost use Rattle.disk_model.specs.Counts.{within_by};
     ghost use Rattle.disk_model.specs.EraLaws.{counts_later, only_later};
     ghost use Rattle.disk_model.specs.Images.{is_image};
@@ -236,6 +236,8 @@ impl Disk for MemDisk {
     ghost failures = { failures_of };
 
     ghost most_failures = { most_failures_of };
+
+    ghost calls_made = { calls_of };
 
     ghost within_most = { λ d. within_by (script_of d) (has_stopped d) (failures_of d) };
 
@@ -263,6 +265,7 @@ impl Disk for MemDisk {
             (left_since self.old) (left_since self.new) (may_be_left self.new) }
         ensures cause { HasCause DiskError.ReadFault (failures_of self.old) (failures_of self.new) result }
         ensures most { most_failures_of self.new ≤ most_failures_of self.old }
+        ensures calls { calls_of self.new ≤ calls_of self.old + 1 }
         ensures served { result ≢ Err DiskError.Memory → IsServed DiskError.ReadFault self.old self.new result }
         ensures memory { IsErrOf result DiskError.Memory → IsAsBefore self.old self.new }
         ensures unsynced { unsynced_of self.new ≡ unsynced_of self.old }
@@ -295,6 +298,7 @@ impl Disk for MemDisk {
             (left_since self.old) (left_since self.new) (may_be_left self.new) }
         ensures cause { HasCause DiskError.WriteFault (failures_of self.old) (failures_of self.new) result }
         ensures most { most_failures_of self.new ≤ most_failures_of self.old }
+        ensures calls { calls_of self.new ≤ calls_of self.old + 1 }
         ensures served { result ≢ Err DiskError.Memory → IsServed DiskError.WriteFault self.old self.new result }
         ensures memory { IsErrOf result DiskError.Memory → IsAsBefore self.old self.new }
         ensures written { result ≢ Err DiskError.Memory → IsWritten self.old self.new at bytes.now }
@@ -315,6 +319,7 @@ impl Disk for MemDisk {
             (left_since self.old) (left_since self.new) (may_be_left self.new) }
         ensures cause { HasCause DiskError.SyncFault (failures_of self.old) (failures_of self.new) result }
         ensures most { most_failures_of self.new ≤ most_failures_of self.old }
+        ensures calls { calls_of self.new ≤ calls_of self.old + 1 }
         ensures served { result ≢ Err DiskError.Memory → IsServed DiskError.SyncFault self.old self.new result }
         ensures memory { IsErrOf result DiskError.Memory → IsAsBefore self.old self.new }
         ensures synced { unsynced_of self.new ≡ (if is_ok result then [] else unsynced_of self.old) }

@@ -63,6 +63,7 @@ impl Part {
             (D.may_have_left_since disk.old) (D.may_have_left_since disk.new) (D.may_leave_now disk.new) }
         ensures cause { HasCause DiskError.ReadFault (D.failures disk.old) (D.failures disk.new) result }
         ensures most { D.most_failures disk.new ≤ D.most_failures disk.old }
+        ensures calls { D.calls_made disk.new ≤ D.calls_made disk.old + 1 }
     {
         disk.read(self.start + at, bytes)
     }
@@ -86,6 +87,7 @@ impl Part {
             (D.may_have_left_since disk.old) (D.may_have_left_since disk.new) (D.may_leave_now disk.new) }
         ensures cause { HasCause DiskError.WriteFault (D.failures disk.old) (D.failures disk.new) result }
         ensures most { D.most_failures disk.new ≤ D.most_failures disk.old }
+        ensures calls { D.calls_made disk.new ≤ D.calls_made disk.old + 1 }
     {
         disk.write_at(self.start + at, bytes)
     }
@@ -102,6 +104,7 @@ impl Part {
             (D.may_have_left_since disk.old) (D.may_have_left_since disk.new) (D.may_leave_now disk.new) }
         ensures cause { HasCause DiskError.SyncFault (D.failures disk.old) (D.failures disk.new) result }
         ensures most { D.most_failures disk.new ≤ D.most_failures disk.old }
+        ensures calls { D.calls_made disk.new ≤ D.calls_made disk.old + 1 }
     {
         disk.sync()
     }

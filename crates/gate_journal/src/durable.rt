@@ -27,6 +27,7 @@ pub(crate) fn write_durably<D: Disk>(
     ensures told { IfErr result (λ e. e ≢ DiskError.ReadFault) }
     ensures cause { IfErr result (λ e. e ≢ DiskError.Memory → D.failures disk.old < D.failures disk.new) }
     ensures most { D.most_failures disk.new ≤ D.most_failures disk.old }
+    ensures calls { D.calls_made disk.new ≤ D.calls_made disk.old + 2 }
 {
     part.write_at(disk, at, bytes)?;
     part.sync(disk)

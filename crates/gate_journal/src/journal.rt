@@ -74,6 +74,7 @@ impl Journal {
         ensures told { IfErr result IsOfWriting }
         ensures cause { HasCause (D.failures disk.old) (D.failures disk.new) result }
         ensures most { D.most_failures disk.new ≤ D.most_failures disk.old }
+        ensures calls { D.calls_made disk.new ≤ D.calls_made disk.old + 2 }
     {
         write_durably(part, disk, 0, &[CLOSED])?;
         Ok(Journal {
@@ -221,6 +222,7 @@ impl Journal {
         ensures unchanged { IfErr result (λ r. ¬ IsOfDevice r → (self.new ≡ self.old) × (disk.new ≡ disk.old)) }
         ensures device { IfErr result (λ r. IsOfDevice r → self.new ≡ record self.old { broken = true }) }
         ensures cause { HasCause (D.failures disk.old) (D.failures disk.new) result }
+        ensures calls { D.calls_made disk.new ≤ D.calls_made disk.old + 4 }
     {
         if self.broken {
             return Err(Refusal::Broken);
@@ -297,6 +299,7 @@ impl Journal {
         ensures later { D.failures disk.old ≤ D.failures disk.new }
         ensures done { OnOk result (D.failures disk.new ≡ D.failures disk.old) }
         ensures cause { IfErr result (λ e. e ≢ DiskError.Memory → D.failures disk.old < D.failures disk.new) }
+        ensures calls { D.calls_made disk.new ≤ D.calls_made disk.old + 4 }
     {
         write_durably(self.part, disk, self.end + 1, body)?;
         write_durably(self.part, disk, self.end, &[OPEN])

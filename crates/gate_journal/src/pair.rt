@@ -123,6 +123,7 @@ fn write_both<D: Disk>(part: Part, disk: &mut D, at: u64, bytes: &[u8]) -> Resul
     ensures done { OnOk result (D.failures disk.new ≡ D.failures disk.old) }
     ensures cause { IfErr result (λ e. e ≢ DiskError.Memory → D.failures disk.old < D.failures disk.new) }
     ensures most { D.most_failures disk.new ≤ D.most_failures disk.old }
+    ensures calls { D.calls_made disk.new ≤ D.calls_made disk.old + 3 }
 {
     slot_part(part, 0).write_at(disk, at, bytes)?;
     slot_part(part, 1).write_at(disk, at, bytes)?;
@@ -146,6 +147,7 @@ fn clear<D: Disk>(part: Part, disk: &mut D) -> Result<(), DiskError>
     ensures done { OnOk result (D.failures disk.new ≡ D.failures disk.old) }
     ensures cause { IfErr result (λ e. e ≢ DiskError.Memory → D.failures disk.old < D.failures disk.new) }
     ensures most { D.most_failures disk.new ≤ D.most_failures disk.old }
+    ensures calls { D.calls_made disk.new ≤ D.calls_made disk.old + 6 }
 {
     write_both(part, disk, 1, &[0; HEAD_NUMBERS])?;
     write_both(part, disk, 0, &[CLOSED])
@@ -181,6 +183,7 @@ impl GatedPair {
         ensures told { IfErr result IsOfWriting }
         ensures cause { HasCause (D.failures disk.old) (D.failures disk.new) result }
         ensures most { D.most_failures disk.new ≤ D.most_failures disk.old }
+        ensures calls { D.calls_made disk.new ≤ D.calls_made disk.old + 12 }
     {
         clear(part, disk)?;
         let mut pair = GatedPair {
@@ -318,6 +321,7 @@ impl GatedPair {
         ensures device { IfErr result (λ r. IsOfDevice r → self.new ≡ record self.old { broken = true }) }
         ensures cause { HasCause (D.failures disk.old) (D.failures disk.new) result }
         ensures most { D.most_failures disk.new ≤ D.most_failures disk.old }
+        ensures calls { D.calls_made disk.new ≤ D.calls_made disk.old + 2 }
     {
         self.may_store()?;
         if let Err(error) = self.close_next(disk) {
@@ -346,6 +350,7 @@ impl GatedPair {
         ensures done { OnOk result (D.failures disk.new ≡ D.failures disk.old) }
         ensures cause { IfErr result (λ e. e ≢ DiskError.Memory → D.failures disk.old < D.failures disk.new) }
         ensures most { D.most_failures disk.new ≤ D.most_failures disk.old }
+        ensures calls { D.calls_made disk.new ≤ D.calls_made disk.old + 2 }
     {
         close_gate(slot_part(self.part, self.into), disk, self.is_closed)
     }
@@ -392,6 +397,7 @@ impl GatedPair {
         ensures device { IfErr result (λ r. IsOfDevice r → self.new ≡ record self.old { broken = true }) }
         ensures cause { HasCause (D.failures disk.old) (D.failures disk.new) result }
         ensures most { D.most_failures disk.new ≤ D.most_failures disk.old }
+        ensures calls { D.calls_made disk.new ≤ D.calls_made disk.old + 4 }
     {
         self.may_store()?;
         if let Err(error) = self.write_next(disk, payload) {
@@ -427,6 +433,7 @@ impl GatedPair {
         ensures done { OnOk result (D.failures disk.new ≡ D.failures disk.old) }
         ensures cause { IfErr result (λ e. e ≢ DiskError.Memory → D.failures disk.old < D.failures disk.new) }
         ensures most { D.most_failures disk.new ≤ D.most_failures disk.old }
+        ensures calls { D.calls_made disk.new ≤ D.calls_made disk.old + 4 }
     {
         let part = slot_part(self.part, self.into);
         write_entry(part, disk, self.number + 1, payload)
@@ -474,6 +481,7 @@ impl GatedPair {
         ensures device { IfErr result (λ r. IsOfDevice r → self.new ≡ record self.old { is_closed = self.new.is_closed; broken = true }) }
         ensures cause { HasCause (D.failures disk.old) (D.failures disk.new) result }
         ensures most { D.most_failures disk.new ≤ D.most_failures disk.old }
+        ensures calls { D.calls_made disk.new ≤ D.calls_made disk.old + 6 }
     {
         self.begin_store(disk)?;
         self.end_store(disk, payload, slot, front)

@@ -81,6 +81,7 @@ pub(crate) fn close_gate<D: Disk>(
     ensures done { OnOk result (D.failures disk.new ≡ D.failures disk.old) }
     ensures cause { IfErr result (λ e. e ≢ DiskError.Memory → D.failures disk.old < D.failures disk.new) }
     ensures most { D.most_failures disk.new ≤ D.most_failures disk.old }
+    ensures calls { D.calls_made disk.new ≤ D.calls_made disk.old + 2 }
 {
     if is_closed {
         write_durably(part, disk, 0, &[])
@@ -126,6 +127,7 @@ pub(crate) fn write_entry<D: Disk>(
     ensures done { OnOk result (D.failures disk.new ≡ D.failures disk.old) }
     ensures cause { IfErr result (λ e. e ≢ DiskError.Memory → D.failures disk.old < D.failures disk.new) }
     ensures most { D.most_failures disk.new ≤ D.most_failures disk.old }
+    ensures calls { D.calls_made disk.new ≤ D.calls_made disk.old + 4 }
 {
     let body = encoded_body(number, payload);
     write_durably(part, disk, 1, &body[..12 + payload.len()])?;

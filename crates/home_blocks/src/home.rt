@@ -60,6 +60,7 @@ impl Home {
         ensures told { IfErr result IsOfWriting }
         ensures cause { HasCause (D.failures disk.old) (D.failures disk.new) result }
         ensures most { D.most_failures disk.new ≤ D.most_failures disk.old }
+        ensures calls { D.calls_made disk.new ≤ D.calls_made disk.old + 12 }
     {
         let payload = superblock.encoded();
         let (slot, front) = (superblock.slot(), superblock.front());
@@ -140,6 +141,7 @@ impl Home {
         ensures reads { D.keeps_model → OnlyReads D.gives D.may_leave_now D.moment D.may_have_left_since disk.old disk.new }
         ensures size { D.size disk.new ≡ D.size disk.old }
         ensures cause { disk_error.HasCause DiskError.ReadFault (D.failures disk.old) (D.failures disk.new) result }
+        ensures calls { D.calls_made disk.new ≤ D.calls_made disk.old + 1 }
     {
         let part = home_part(self.superblock.geometry());
         part.read(disk, BLOCK_SIZE * u64::from(block), bytes)
@@ -159,6 +161,7 @@ impl Home {
         ensures reads { D.keeps_model → OnlyReads D.gives D.may_leave_now D.moment D.may_have_left_since disk.old disk.new }
         ensures size { D.size disk.new ≡ D.size disk.old }
         ensures cause { disk_error.HasCause DiskError.ReadFault (D.failures disk.old) (D.failures disk.new) result }
+        ensures calls { D.calls_made disk.new ≤ D.calls_made disk.old + 1 }
     {
         let part = home_part(self.superblock.geometry());
         part.read(disk, BLOCK_SIZE * u64::from(first), bytes)
@@ -192,6 +195,7 @@ impl Home {
             (D.may_have_left_since disk.old) (D.may_have_left_since disk.new) (D.may_leave_now disk.new) }
         ensures size { D.size disk.new ≡ D.size disk.old }
         ensures cause { disk_error.HasCause DiskError.WriteFault (D.failures disk.old) (D.failures disk.new) result }
+        ensures calls { D.calls_made disk.new ≤ D.calls_made disk.old + 1 }
     {
         self.write_run(disk, block, bytes)
     }
@@ -224,6 +228,7 @@ impl Home {
             (D.may_have_left_since disk.old) (D.may_have_left_since disk.new) (D.may_leave_now disk.new) }
         ensures size { D.size disk.new ≡ D.size disk.old }
         ensures cause { disk_error.HasCause DiskError.WriteFault (D.failures disk.old) (D.failures disk.new) result }
+        ensures calls { D.calls_made disk.new ≤ D.calls_made disk.old + 1 }
     {
         let part = home_part(self.superblock.geometry());
         part.write_at(disk, BLOCK_SIZE * u64::from(first), bytes)
@@ -239,6 +244,7 @@ impl Home {
             (D.may_have_left_since disk.old) (D.may_have_left_since disk.new) (D.may_leave_now disk.new) }
         ensures size { D.size disk.new ≡ D.size disk.old }
         ensures cause { disk_error.HasCause DiskError.SyncFault (D.failures disk.old) (D.failures disk.new) result }
+        ensures calls { D.calls_made disk.new ≤ D.calls_made disk.old + 1 }
     {
         home_part(self.superblock.geometry()).sync(disk)
     }
@@ -271,6 +277,7 @@ impl Home {
         ensures unchanged { IfErr result (λ r. ¬ IsOfDevice r → (self.new ≡ self.old) × (disk.new ≡ disk.old)) }
         ensures device { IfErr result (λ r. IsOfDevice r → self.new ≡ record self.old { pair = record self.old.pair { is_closed = self.new.pair.is_closed; broken = true } }) }
         ensures cause { HasCause (D.failures disk.old) (D.failures disk.new) result }
+        ensures calls { D.calls_made disk.new ≤ D.calls_made disk.old + 6 }
     {
         let superblock = self.superblock.marked(front, area);
         let payload = superblock.encoded();
