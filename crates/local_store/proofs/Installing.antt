@@ -1,7 +1,7 @@
 -- A disk that is being installed: what a stop may leave of it, and what it comes to.
-use Rattle.std.proofs.Common.{◌≡◌, ◌⊎◌, inl, inr, ⊎_elim, ℕ, zero, suc, ◌+◌, ◌*◌, ◌<◌, ◌≤◌, ◌==◌, false, true, List, [], ◌∷◌, ◌++◌, length, get_or, take, drop, replicate, set, refl, sym, ◌∙◌, ap, subst, arith, append_assoc}
-use Rattle.std.specs.Prelude.{Bool, Option, Some, None, All, IsTrue, unwrap_or}
-use Rattle.std.proofs.lemmas.Bool.{cases_Bool, cases_lt, both_ways, eqb-true, eqb-false}
+use Rattle.std.proofs.Common.{◌≡◌, ◌⊎◌, inl, inr, ⊎_elim, ℕ, zero, suc, ◌*◌, ◌<◌, ◌==◌, false, true, List, [], ◌++◌, length, get_or, take, drop, replicate, set, refl, sym, ◌∙◌, ap, subst, arith}
+use Rattle.std.specs.Prelude.{Bool, Option, Some, None, All, IsTrue}
+use Rattle.std.proofs.lemmas.Bool.{cases_Bool, both_ways, eqb-true, eqb-false}
 use Rattle.std.proofs.lemmas.List.{take_at, get_or-replicate, get_or-set_other}
 use Rattle.disk_model.specs.Disk.{LeavesOnly, Only}
 use Rattle.disk_model.specs.Frames.{both, only_inside, others_keep}
@@ -16,13 +16,12 @@ use Rattle.gate_journal.specs.Runs.{OnlyReads, reads_keep}
 use Rattle.gate_journal.specs.declared.batch.Image.{Image}
 use Rattle.home_blocks.specs.Home as home
 use Rattle.home_blocks.specs.Home.{HoldsPayload, HoldsSuperblock, IsSettledHome, settled_holds, settled_leaves, still_settled_home}
-use Rattle.home_blocks.specs.Places.{IsAreaPart, apart_back, area_behind_home, area_behind_superblock, area_bytes, home_apart, home_block, home_part, inside-area, superblock_part}
+use Rattle.home_blocks.specs.Places.{IsAreaPart, apart_back, area_behind_home, area_behind_superblock, area_bytes, home_apart, home_part, inside-area, superblock_part}
 use Rattle.home_blocks.specs.Progress.{progress_number}
 use Rattle.home_blocks.specs.Superblock.{IsSuperblock, Superblock, marked, superblock_encoding}
 use Rattle.home_blocks.specs.declared.area.Area.TheVariants.{First}
-use Rattle.home_blocks.specs.declared.progress.Progress.{Progress}
 use Rattle.home_blocks.specs.declared.progress.Progress.TheVariants.{Installing, Whole}
-use Rattle.local_store.specs.Installer.{HasGiven, HasNone, IsGiven, IsInstalling, IsNotMeant, MeansNothing, ShowsNone, finished_meaning, with_block}
+use Rattle.local_store.specs.Installer.{HasGiven, HasNone, IsInstalling, IsNotMeant, MeansNothing, ShowsNone, finished_meaning, with_block}
 use Rattle.local_store.specs.Meaning.{Meaning, Means}
 use Rattle.local_store.specs.Overlay.{FitsIn}
 use Rattle.local_store.proofs.Overlays.{long_still, own_block}

@@ -1,5 +1,5 @@
 -- How many blocks are still to be given.
-use Rattle.std.proofs.Common.{◌≡◌, inl, inr, ℕ, ◌*◌, ◌<◌, ◌≤◌, true, false, List, length, get_or, sym, subst, arith, cond}
+use Rattle.std.proofs.Common.{◌≡◌, inl, inr, ℕ, ◌*◌, ◌≤◌, List, length, get_or, sym, subst, arith, cond}
 use Rattle.std.specs.Prelude.{Bool, not, All, IsTrue}
 use Rattle.std.proofs.lemmas.Bool.{cases_Bool}
 use Rattle.std.proofs.lemmas.List.Sums.{get_or-le-sum_by, sum_by-le}

@@ -140,6 +140,19 @@ impl<D: Disk + Drop> Installer<D> {
         self.given.is_all()
     }
 
+    /// The disk, as the installer leaves it.
+    pub fn into_disk(self) -> D
+        ensures { result ≡ self.disk }
+    {
+        let Installer {
+            disk,
+            home: _,
+            given: _,
+            broken: _,
+        } = self;
+        disk
+    }
+
     /// Finishes the installation at a front of at most 2^63 - 1, once each block was given: a sync; the first area's gate,
     /// closed, and a sync; the six calls of the whole disk's superblock. It gives the receipt of the slot and this front.
     ///

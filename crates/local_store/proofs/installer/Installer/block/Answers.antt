@@ -1,7 +1,5 @@
 use Rattle.std.proofs.Common.{List, arith, subst, sym}
 use Rattle.std.specs.Prelude.{Bool}
-use Rattle.home_blocks.specs.Places.{home_part}
-use Rattle.disk_model.specs.Part.{inside}
 use Rattle.local_store.specs.Installer.{HasGiven, with_block}
 use Rattle.local_store.proofs.Homes.{length-home}
 use Rattle.local_store.proofs.Installing.{elsewhere_keeps, elsewhere_leaves, home_from_superblock, one_given, rest_leaves}
