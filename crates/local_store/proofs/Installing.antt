@@ -1,5 +1,5 @@
 -- A disk that is being installed: what a stop may leave of it, and what it comes to.
-use Rattle.std.proofs.Common.{◌≡◌, ◌⊎◌, inl, inr, ⊎_elim, ℕ, zero, suc, ◌*◌, ◌<◌, ◌==◌, false, true, List, [], ◌++◌, length, get_or, take, drop, replicate, set, refl, sym, ◌∙◌, ap, subst, arith}
+use Rattle.std.proofs.Common.{◌≡◌, ◌⊎◌, inl, inr, ⊎_elim, ℕ, zero, suc, ◌*◌, ◌<◌, ◌≤◌, ◌==◌, false, true, List, [], ◌++◌, length, get_or, take, drop, replicate, set, refl, sym, ◌∙◌, ap, subst, arith}
 use Rattle.std.specs.Prelude.{Bool, Option, Some, None, All, IsTrue}
 use Rattle.std.proofs.lemmas.Bool.{cases_Bool, both_ways, eqb-true, eqb-false}
 use Rattle.std.proofs.lemmas.List.{take_at, get_or-replicate, get_or-set_other}
@@ -16,7 +16,7 @@ use Rattle.gate_journal.specs.Runs.{OnlyReads, reads_keep}
 use Rattle.gate_journal.specs.declared.batch.Image.{Image}
 use Rattle.home_blocks.specs.Home as home
 use Rattle.home_blocks.specs.Home.{HoldsPayload, HoldsSuperblock, IsSettledHome, settled_holds, settled_leaves, still_settled_home}
-use Rattle.home_blocks.specs.Places.{IsAreaPart, apart_back, area_behind_home, area_behind_superblock, area_bytes, home_apart, home_part, inside-area, superblock_part}
+use Rattle.home_blocks.specs.Places.{IsAreaPart, apart_back, area_behind_home, area_behind_superblock, area_bytes, disk_size_of, home_apart, home_part, inside-area, superblock_part}
 use Rattle.home_blocks.specs.Progress.{progress_number}
 use Rattle.home_blocks.specs.Superblock.{IsSuperblock, Superblock, marked, superblock_encoding}
 use Rattle.home_blocks.specs.declared.area.Area.TheVariants.{First}
@@ -24,6 +24,7 @@ use Rattle.home_blocks.specs.declared.progress.Progress.TheVariants.{Installing,
 use Rattle.local_store.specs.Installer.{HasGiven, HasNone, IsInstalling, IsNotMeant, MeansNothing, ShowsNone, finished_meaning, with_block}
 use Rattle.local_store.specs.Meaning.{Meaning, Means}
 use Rattle.local_store.specs.Overlay.{FitsIn}
+use Rattle.local_store.proofs.Homes.{length-home}
 use Rattle.local_store.proofs.Overlays.{long_still, own_block}
 use Rattle.volume.specs.Volumes.{block_of-patched_same, same_from_blocks}
 use Rattle.volume.specs.Writes.{block_of}
@@ -186,7 +187,7 @@ module _ {D : Type 0} {gives : D → List ℕ} {may_leave : D → List ℕ → T
   pub closing_leaves : LeavesOnly moment left_since old closed MeansNothing
   closing_leaves = then_run moment left_since old synced closed MeansNothing (reading_leaves once was sync) (elsewhere_leaves once (reading_keeps once was sync) area_superblock close)
 
-  pub closing_keeps : IsInstalling h (gives closed) (may_leave closed)
+  closing_keeps : IsInstalling h (gives closed) (may_leave closed)
   closing_keeps = elsewhere_keeps once (reading_keeps once was sync) area_superblock close
 
   region_stays : inside (home_part h.superblock.geometry) (gives closed) ≡ inside (home_part h.superblock.geometry) (gives old)
@@ -201,7 +202,7 @@ module _ {D : Type 0} {gives : D → List ℕ} {may_leave : D → List ℕ → T
         (subst (λ (k : Geometry). HoldsBatches k.blocks front [] (inside part (gives closed))) is_g
         (subst (λ (j : journal.State). HoldsBatches j.blocks j.before [] (inside j.part (gives closed))) made ready.holds))
 
-    pub marking_leaves : LeavesOnly moment left_since closed new (λ c. HoldsSuperblock h.superblock c ⊎ HoldsSuperblock (marked h.superblock front First) c)
+    pub marking_leaves : (IsSettledHome h (gives closed) (may_leave closed) → LeavesOnly moment left_since closed new (λ c. HoldsSuperblock h.superblock c ⊎ HoldsSuperblock (marked h.superblock front First) c))
         → LeavesOnly moment left_since old new (λ c. MeansNothing c ⊎ Means (finished_meaning h.superblock front (inside (home_part h.superblock.geometry) (gives old))) c)
     marking_leaves superblocks =
         let k = h.superblock.geometry in
@@ -215,15 +216,15 @@ module _ {D : Type 0} {gives : D → List ℕ} {may_leave : D → List ℕ → T
         (λ c (first, region). ⊎_elim (λ holds. inl (unfinished_means_nothing once h.superblock c was.is_unfinished holds.payload))
         (λ holds. inr (finished_means h.superblock front (inside (home_part k) (gives old)) c holds (empty_area c first.1) (region ∙ region_stays))) first.0)
         (both
-        (both superblocks (others_keep part (λ x. x ≡ inside part (gives closed)) (area_behind_superblock k First part area) run (only_inside part (gives closed) (may_leave closed) whole)))
+        (both (superblocks closing_keeps.superblock) (others_keep part (λ x. x ≡ inside part (gives closed)) (area_behind_superblock k First part area) run (only_inside part (gives closed) (may_leave closed) whole)))
         (others_keep (home_part k) (λ x. x ≡ inside (home_part k) (gives closed)) (home_apart k) run (only_inside (home_part k) (gives closed) (may_leave closed) whole))))
 
-    pub marking_means : {now : home.State} → now.superblock ≡ marked h.superblock front First → IsSettledHome now (gives new) (may_leave new)
+    pub marking_means : {now : home.State} → now.superblock ≡ marked h.superblock front First → (IsSettledHome h (gives closed) (may_leave closed) → IsSettledHome now (gives new) (may_leave new))
         → Means (finished_meaning h.superblock front (inside (home_part h.superblock.geometry) (gives old))) (gives new)
     marking_means {now} is settled =
         let k = h.superblock.geometry in
         finished_means h.superblock front (inside (home_part k) (gives old)) (gives new)
-        (subst (λ (sb : Superblock). HoldsSuperblock sb (gives new)) is (settled_holds settled))
+        (subst (λ (sb : Superblock). HoldsSuperblock sb (gives new)) is (settled_holds (settled closing_keeps.superblock)))
         (empty_area (gives new) (run.others part (area_behind_superblock k First part area)).gives)
         ((run.others (home_part k) (home_apart k)).gives ∙ region_stays)
 
@@ -234,10 +235,10 @@ none_given g volume bytes size = record {
   is_home = λ b below given. absurd (both_ways (get_or (replicate g.blocks false) b false) (get_or-replicate {A = Bool} g.blocks b false false below) given);
 }
 
--- a block more
-pub one_given : (g : Geometry) (given : List Bool) (volume old new : List ℕ) (block : ℕ) (bytes : List ℕ) → length (inside (home_part g) old) ≡ 4096 * g.blocks → block < g.blocks → length bytes ≡ 4096
+-- a block more, on a disk that is long enough
+pub one_given : (g : Geometry) (given : List Bool) (volume old new : List ℕ) (block n : ℕ) (bytes : List ℕ) → disk_size_of g ≤ n → length old ≡ n → block < g.blocks → length bytes ≡ 4096
     → inside (home_part g) new ≡ with_block (inside (home_part g) old) block bytes → HasGiven g given volume old → HasGiven g (set given block true) (with_block volume block bytes) new
-one_given g given volume old new block bytes long below whole put was = record {
+one_given g given volume old new block n bytes room size below whole put was = record {
   size = long_still g.blocks volume image was.size fit;
   is_home = λ b within now. ap (λ (l : List ℕ). block_of l b) put ∙ elim (cases_Bool (block == b)) [
     | inl is ↦ subst (λ (k : ℕ). block_of (with_block (inside (home_part g) old) block bytes) k ≡ block_of (with_block volume block bytes) k) (eqb-true _ _ is)
@@ -247,6 +248,9 @@ one_given g given volume old new block bytes long below whole put was = record {
   ];
 }
   where
+    long : length (inside (home_part g) old) ≡ 4096 * g.blocks
+    long = length-home g old (omega (arith, room, size))
+
     image : Image
     image = record { block = block; bytes = bytes }
 
@@ -254,6 +258,6 @@ one_given g given volume old new block bytes long below whole put was = record {
     fit = (below, whole)
 
 -- where each block was given, the home region is the volume
-pub all_given : (g : Geometry) (given : List Bool) (volume bytes : List ℕ) → length given ≡ g.blocks → All IsTrue given → length (inside (home_part g) bytes) ≡ 4096 * g.blocks → HasGiven g given volume bytes
-    → inside (home_part g) bytes ≡ volume
-all_given g given volume bytes table complete long was = same_from_blocks g.blocks (inside (home_part g) bytes) volume long was.size (λ b below. was.is_home b below (complete b false (omega (arith, table, below))))
+pub all_given : (g : Geometry) (given : List Bool) (volume bytes : List ℕ) (n : ℕ) → disk_size_of g ≤ n → length bytes ≡ n → length given ≡ g.blocks → All IsTrue given → HasGiven g given volume bytes → inside (home_part g) bytes ≡ volume
+all_given g given volume bytes n room size table complete was =
+    same_from_blocks g.blocks (inside (home_part g) bytes) volume (length-home g bytes (omega (arith, room, size))) was.size (λ b below. was.is_home b below (complete b false (omega (arith, table, below))))

@@ -1,7 +1,6 @@
-use Rattle.std.proofs.Common.{List, arith, subst, sym}
+use Rattle.std.proofs.Common.{List, subst, sym}
 use Rattle.std.specs.Prelude.{Bool}
 use Rattle.local_store.specs.Installer.{HasGiven, with_block}
-use Rattle.local_store.proofs.Homes.{length-home}
 use Rattle.local_store.proofs.Installing.{elsewhere_keeps, elsewhere_leaves, home_from_superblock, one_given, rest_leaves}
 use Rattle.local_store.proofs.installer.Installer.block.Goals as goal
 
@@ -23,8 +22,7 @@ returns-clause-any_moment g c = λ keeps was. elsewhere_leaves c.pair_readings_a
 pub returns-clause-given : goal.returns-clause-given
 returns-clause-given g c = λ keeps volume was.
     let geometry = c.args.self.now.home.superblock.geometry in
-    let old = g.D.Disk.gives c.args.self.now.disk in
     let new = g.D.Disk.gives c.write_home.new.disk in
-    let long = length-home geometry old (omega (arith, c.args.self.now.room, g.met.D.Disk.gives_size keeps c.args.self.now.disk)) in
     subst (λ (given : List Bool). HasGiven geometry given (with_block volume c.args.block c.args.bytes.now) new) (sym c.mark.ensures)
-    (one_given geometry c.args.self.now.given volume old new c.args.block c.args.bytes.now long c.requires.block c.requires.whole (c.in_default.ensures.gives keeps) was)
+    (one_given geometry c.args.self.now.given volume (g.D.Disk.gives c.args.self.now.disk) new c.args.block (g.D.Disk.size c.args.self.now.disk) c.args.bytes.now
+    c.args.self.now.room (g.met.D.Disk.gives_size keeps c.args.self.now.disk) c.requires.block c.requires.whole (c.in_default.ensures.gives keeps) was)
