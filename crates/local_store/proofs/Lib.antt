@@ -2,7 +2,9 @@ mod ArmedSteps
 mod Boxes
 mod Changing
 mod Homes
+mod Installing
 mod Joined
+mod Marks
 mod Opening
 mod Overlays
 mod Refusals

@@ -1,5 +1,6 @@
 pub mod About
 pub mod Arming
+pub mod Installer
 pub mod Kept
 pub mod Meaning
 pub mod Overlay

@@ -92,6 +92,12 @@ IsOfCheckpoint Broken = Unit {0}
 IsOfCheckpoint (Device error) = error ≢ faults.ReadFault
 IsOfCheckpoint _ = ⊥
 
+-- what the end of an installation may be refused with
+abbrev pub IsOfFinishing : Refusal → Type 0
+IsOfFinishing Broken = Unit {0}
+IsOfFinishing (Device error) = error ≢ faults.ReadFault
+IsOfFinishing _ = ⊥
+
 -- what a read may be refused with
 abbrev pub IsOfReading : Refusal → Type 0
 IsOfReading Broken = Unit {0}

@@ -8,6 +8,8 @@
 
 mod arming;
 mod contents;
+mod given;
+mod installer;
 mod laws;
 mod pending;
 mod plain;
@@ -16,6 +18,7 @@ mod store;
 mod store_like;
 
 pub use contents::Contents;
+pub use installer::Installer;
 pub use laws::{batches_go_over, disks_mean_one, meanings_are_opened};
 pub use plain::PlainStore;
 pub use refusal::Refusal;
