@@ -1,6 +1,7 @@
 mod ArmedSteps
 mod Boxes
 mod Changing
+mod HomeHalf
 mod Homes
 mod Joined
 mod Opening

@@ -1,6 +1,7 @@
 pub mod About
 pub mod Arming
 pub mod Kept
+pub mod Lending
 pub mod Meaning
 pub mod Overlay
 pub mod Pending

@@ -12,6 +12,7 @@ mod laws;
 mod pending;
 mod plain;
 mod refusal;
+mod region;
 mod store;
 mod store_like;
 

@@ -45,7 +45,7 @@ pub struct PlainStore {
 }
 
 impl Model for PlainStore {
-    ghost use Rattle.std.specs.Prelude.{◌≤◌};
+    ghost use Rattle.std.specs.Prelude.{◌≤◌, false};
     ghost use Rattle.disk_model.specs.Memory.{failures_of, size_of};
     ghost use Rattle.local_store.specs.Plain.{IsPlain, Plain};
 
