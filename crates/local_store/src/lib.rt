@@ -9,6 +9,7 @@
 mod arming;
 mod contents;
 mod laws;
+mod lending;
 mod pending;
 mod plain;
 mod refusal;
@@ -18,6 +19,7 @@ mod store_like;
 
 pub use contents::Contents;
 pub use laws::{batches_go_over, disks_mean_one, meanings_are_opened};
+pub use lending::{CommitWork, Journaled};
 pub use plain::PlainStore;
 pub use refusal::Refusal;
 pub use store::Store;
