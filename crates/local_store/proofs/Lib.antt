@@ -1,4 +1,5 @@
 mod ArmedSteps
+mod Away
 mod Boxes
 mod Changing
 mod HomeHalf

@@ -79,7 +79,7 @@ last_front-push : (before : ℕ) (batches : List Batch) (batch : Batch) → last
 last_front-push before [] batch = refl
 last_front-push before (first ∷ batches) batch = last_front-push first.front batches batch
 
-last_fits : (n : ℕ) (batches : List Batch) (batch : Batch) → AllFitIn n (batches ++ batch ∷ []) → All (FitsIn n) batch.images
+pub last_fits : (n : ℕ) (batches : List Batch) (batch : Batch) → AllFitIn n (batches ++ batch ∷ []) → All (FitsIn n) batch.images
 last_fits n [] batch fit = All-head (λ (b : Batch). All (FitsIn n) b.images) batch [] fit
 last_fits n (first ∷ batches) batch fit = last_fits n batches batch (All-tail (λ (b : Batch). All (FitsIn n) b.images) first (batches ++ batch ∷ []) fit)
 

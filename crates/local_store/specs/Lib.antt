@@ -1,5 +1,6 @@
 pub mod About
 pub mod Arming
+pub mod Away
 pub mod Kept
 pub mod Lending
 pub mod Meaning

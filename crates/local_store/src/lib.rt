@@ -10,6 +10,7 @@ mod arming;
 mod contents;
 mod laws;
 mod lending;
+mod lent;
 mod pending;
 mod plain;
 mod refusal;
