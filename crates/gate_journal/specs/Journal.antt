@@ -1,6 +1,6 @@
 -- What contracts see of a journal, and what its disk then holds.
-use Rattle.std.specs.Prelude.{◌≡◌, ℕ, ◌+◌, ◌<◌, ◌≤◌, Bool, false, List, length}
-use Rattle.std.proofs.Common.{subst, sym}
+use Rattle.std.specs.Prelude.{◌≡◌, ℕ, ◌+◌, ◌-◌, ◌^◌, ◌<◌, ◌≤◌, Bool, false, List, length}
+use Rattle.std.proofs.Common.{arith, subst, sym}
 use Rattle.disk_model.specs.Disk.{Only}
 use Rattle.disk_model.specs.Frames.{settled_still}
 use Rattle.disk_model.specs.Part.{inside, KeepsPart, LeftInside}
@@ -29,6 +29,18 @@ IsTooMuch journal count = journal.part.len < journal.end + batch_size count + 1
 -- the journal with one batch more
 abbrev pub appended : State → ℕ → ℕ → State
 appended journal front count = record journal { front = front; end = journal.end + batch_size count }
+
+-- a part that begins at a border or behind it ends where numbers do, seen from the border too
+pub behind_fits : (border : ℕ) (part : Part) → part.start - border + part.len < 2 ^ 64
+behind_fits border part = omega (arith, part.fits)
+
+-- the part as the disk sees it that begins at the border
+abbrev pub part_behind : Part → ℕ → Part
+part_behind part border = record { start = part.start - border; len = part.len; fits = behind_fits border part }
+
+-- and the journal in it
+abbrev pub behind_border : State → ℕ → State
+behind_border journal border = record journal { part = part_behind journal.part border }
 
 -- The part holds these batches, the journal knows where they end, and a stop now leaves the part as it is.
 pub record IsSettled (journal : State) (batches : List Batch) (gives : List ℕ) (may_leave : List ℕ → Type 0) : Type 0 where

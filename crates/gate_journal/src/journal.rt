@@ -45,7 +45,7 @@ impl Model for Journal {
 }
 
 impl Journal {
-    ghost use Rattle.gate_journal.specs.Journal.{Fits, IsSettled, IsEncoded, IsTooMuch, appended};
+    ghost use Rattle.gate_journal.specs.Journal.{Fits, IsSettled, IsEncoded, IsTooMuch, appended, behind_border};
 
     /// An empty journal in a part of a disk, of 1 byte to 2^32 - 1, for the blocks 0 to `blocks - 1`, at most 65,536, of
     /// the member at the slot; the first batch will have a front above `front`. The part lies within the disk. It writes a
@@ -174,6 +174,31 @@ impl Journal {
         ensures { result ≡ self.now.broken }
     {
         self.broken
+    }
+
+    /// The same journal, as the disk sees it that begins at the border. The border lies where the part begins, or before it.
+    pub fn behind(&self, border: u64) -> Journal
+        requires { border ≤ self.now.part.start }
+        ensures { result ≡ behind_border self.now border }
+    {
+        Journal {
+            part: Part::new(self.part.start - border, self.part.len),
+            slot: self.slot,
+            blocks: self.blocks,
+            before: self.before,
+            front: self.front,
+            end: self.end,
+            broken: self.broken,
+        }
+    }
+
+    /// Notes a batch of so many images, with this front, which its twin appended. The batch fits.
+    pub fn note(&mut self, front: u64, count: u32)
+        requires { Fits self.old count }
+        ensures { self.new ≡ appended self.old front count }
+    {
+        self.front = front;
+        self.end += BATCH_HEADER + IMAGE_RECORD * u64::from(count);
     }
 
     /// Appends a batch by four device calls: the batch behind its closed gate, with the closed gate of the next one;

@@ -1,6 +1,8 @@
 mod ArmedSteps
+mod Away
 mod Boxes
 mod Changing
+mod HomeHalf
 mod Homes
 mod Installing
 mod Joined

@@ -30,7 +30,7 @@ use Rattle.local_store.proofs.Joined.{joined_torn, run_home}
 use Rattle.local_store.proofs.Homes.{as_it_is, block_home, block_torn, length-home, more_batches, one_batch}
 
 -- a settled home's superblock is held by bytes with such a first part
-held_by : {h : home.State} {gives : List ℕ} {left : List ℕ → Type 0} (was : IsSettledHome h gives left) (c : List ℕ) → inside superblock_part c ≡ inside superblock_part gives → HoldsSuperblock h.superblock c
+pub held_by : {h : home.State} {gives : List ℕ} {left : List ℕ → Type 0} (was : IsSettledHome h gives left) (c : List ℕ) → inside superblock_part c ≡ inside superblock_part gives → HoldsSuperblock h.superblock c
 held_by {h} {gives} {left} was c same = record {
   is = was.is;
   payload = record {
@@ -41,14 +41,14 @@ held_by {h} {gives} {left} was c same = record {
   };
 }
 
-first_part : {h : home.State} {gives : List ℕ} {left : List ℕ → Type 0} → IsSettledHome h gives left → Only (inside superblock_part gives) (LeftInside superblock_part left)
+pub first_part : {h : home.State} {gives : List ℕ} {left : List ℕ → Type 0} → IsSettledHome h gives left → Only (inside superblock_part gives) (LeftInside superblock_part left)
 first_part {h} {gives} {left} was = subst (λ (part : Part). Only (inside part gives) (LeftInside part left)) was.place was.pair.durable
 
 -- the parts lie apart, either way round
-home_from_superblock : (g : Geometry) → IsApart (home_part g) superblock_part
+pub home_from_superblock : (g : Geometry) → IsApart (home_part g) superblock_part
 home_from_superblock g = apart_back superblock_part (home_part g) (home_apart g)
 
-home_from_area : {store : State} → IsOfSuperblock store → IsApart (home_part (geometry_of store)) store.journal.part
+pub home_from_area : {store : State} → IsOfSuperblock store → IsApart (home_part (geometry_of store)) store.journal.part
 home_from_area {store} of = area_behind_home (geometry_of store) store.home.superblock.current store.journal.part of.part
 
 pub superblock_from_area : {store : State} → IsOfSuperblock store → IsApart superblock_part store.journal.part
@@ -79,7 +79,7 @@ last_front-push : (before : ℕ) (batches : List Batch) (batch : Batch) → last
 last_front-push before [] batch = refl
 last_front-push before (first ∷ batches) batch = last_front-push first.front batches batch
 
-last_fits : (n : ℕ) (batches : List Batch) (batch : Batch) → AllFitIn n (batches ++ batch ∷ []) → All (FitsIn n) batch.images
+pub last_fits : (n : ℕ) (batches : List Batch) (batch : Batch) → AllFitIn n (batches ++ batch ∷ []) → All (FitsIn n) batch.images
 last_fits n [] batch fit = All-head (λ (b : Batch). All (FitsIn n) b.images) batch [] fit
 last_fits n (first ∷ batches) batch fit = last_fits n batches batch (All-tail (λ (b : Batch). All (FitsIn n) b.images) first (batches ++ batch ∷ []) fit)
 

@@ -10,7 +10,7 @@ use Rattle.home_blocks.specs.Places.{home_part, inside-area}
 use Rattle.home_blocks.specs.declared.progress.Progress.TheVariants.{Whole}
 use Rattle.local_store.specs.Meaning.{Means, Meaning, meaning_of}
 use Rattle.local_store.specs.Overlay.{with_batches}
-use Rattle.local_store.specs.Pending.{held}
+use Rattle.local_store.specs.Pending.{AreHomeOrPending, held}
 use Rattle.local_store.specs.Store.{State, IsOfSuperblock, IsStored, geometry_of, meaning_in}
 use Rattle.volume.specs.Volumes.{same_from_blocks}
 use Rattle.volume.specs.Writes.{block_of}
@@ -47,13 +47,15 @@ stored_means {store} {v} {gives} {left} of was c may =
     (parts_mean store v was.batches c of was.is_whole (settled_leaves was.superblock c may) area (was.region.left (inside (home_part (geometry_of store)) c) (left_inside (home_part (geometry_of store)) left c may)))
 
 -- a store keeps one volume at most: each block is pending, or home
-pub one_volume : {store : State} {one other gives : List ℕ} {left : List ℕ → Type 0} → IsStored store one gives left → IsStored store other gives left → one ≡ other
-one_volume {store} {one} {other} was too =
-    same_from_blocks (geometry_of store).blocks one other was.region.waits.size too.region.waits.size (λ b below. block_is b below (held store.pending b) refl)
+pub one_home : {n : ℕ} {E F : ℕ → Type 0} {one other : List ℕ} {pending : List (Option (List ℕ))} {home : List ℕ} → AreHomeOrPending n E one pending home → AreHomeOrPending n F other pending home → one ≡ other
+one_home {n} {E} {F} {one} {other} {pending} {home} was too = same_from_blocks n one other was.size too.size (λ b below. block_is b below (held pending b) refl)
   where
-    block_is : (b : ℕ) → b < (geometry_of store).blocks → (place : Option (List ℕ)) → held store.pending b ≡ place → block_of one b ≡ block_of other b
-    block_is b below None is = sym (was.region.waits.is_home b below is) ∙ too.region.waits.is_home b below is
-    block_is b below (Some bytes) is = sym (was.region.waits.image b bytes is) ∙ too.region.waits.image b bytes is
+    block_is : (b : ℕ) → b < n → (place : Option (List ℕ)) → held pending b ≡ place → block_of one b ≡ block_of other b
+    block_is b below None is = sym (was.is_home b below is) ∙ too.is_home b below is
+    block_is b below (Some bytes) is = sym (was.image b bytes is) ∙ too.image b bytes is
+
+pub one_volume : {store : State} {one other gives : List ℕ} {left : List ℕ → Type 0} → IsStored store one gives left → IsStored store other gives left → one ≡ other
+one_volume was too = one_home was.region.waits too.region.waits
 
 -- a run of a disk is one of the store that owns it
 pub owned : {D S : Type 0} {moment : D → ℕ} {left_since : D → ℕ → List ℕ → Type 0} {P : List ℕ → Type 0} (disk : S → D) (old new : S) → LeavesOnly moment left_since (disk old) (disk new) P

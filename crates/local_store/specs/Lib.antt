@@ -1,7 +1,9 @@
 pub mod About
 pub mod Arming
+pub mod Away
 pub mod Installer
 pub mod Kept
+pub mod Lending
 pub mod Meaning
 pub mod Overlay
 pub mod Pending

@@ -1,5 +1,6 @@
 -- The numbers of the refusals, and where they come from.
 use Rattle.std.specs.Prelude.{◌≡◌, ◌≢◌, ℕ, ◌<◌, ◌≤◌, Option, Some, Result, IfErr, OnOk}
+use Rattle.std.proofs.Common.{Ok, Err}
 use Rattle.disk_model.specs.Error as disk
 use Rattle.disk_model.specs.declared.error.DiskError.TheVariants as faults
 use Rattle.gate_journal.specs.declared.refusal.Refusal.{Refusal as JournalRefusal}
@@ -71,6 +72,24 @@ abbrev pub IsOfStamping : Refusal → Type 0
 IsOfStamping Memory = Unit {0}
 IsOfStamping (Device error) = error ≢ faults.ReadFault
 IsOfStamping _ = ⊥
+
+-- what the journaling of a commit may be refused with
+abbrev pub IsOfJournaling : JournalRefusal → Type 0
+IsOfJournaling journal.Memory = Unit {0}
+IsOfJournaling (journal.Device error) = error ≢ faults.ReadFault
+IsOfJournaling _ = ⊥
+
+-- in one way at most
+told_once : (r : JournalRefusal) → IsProp (IsOfJournaling r)
+told_once journal.Memory = hlevel
+told_once journal.Full = hlevel
+told_once journal.Broken = hlevel
+told_once journal.Damaged = hlevel
+told_once (journal.Device error) = hlevel
+
+pub journaled_once : {T : Type 0} (r : Result T JournalRefusal) → IsProp (IfErr r IsOfJournaling)
+journaled_once (Ok x) = hlevel
+journaled_once (Err e) = told_once e
 
 -- what a tick may be refused with
 abbrev pub IsOfTicking : Refusal → Type 0

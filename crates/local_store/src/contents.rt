@@ -1,7 +1,7 @@
 //! What a member's disk holds, as its store knows it. Each call is lent the disk.
 ghost use Rattle.std.specs.Prelude.{◌≡◌, ◌≢◌, ◌⊎◌, ◌+◌, ◌-◌, ◌*◌, ◌^◌, ◌<◌, ◌≤◌, ◌↔◌, ℕ, List, Some, None, true, false, length, take, drop, Any, replicate, set, IfOk, IfErr, IfNone, IfSome, OnOk, OnErr, IsErrOf, IsSome};
 ghost use Rattle.disk_model.specs.Disk.{LeavesOnly, Only, put};
-ghost use Rattle.gate_journal.specs.Batch.{AreImages};
+ghost use Rattle.gate_journal.specs.Batch.{AreImages, Batch};
 ghost use Rattle.gate_journal.specs.Journal as journals;
 ghost use Rattle.gate_journal.specs.Pair.{stored};
 ghost use Rattle.block_cache.specs.Cache.{Agrees, IsCached};
@@ -15,6 +15,7 @@ ghost use Rattle.disk_model.specs.Part.{inside};
 ghost use Rattle.volume.specs.Writes.{block_of};
 ghost use Rattle.home_blocks.specs.Superblock.{marked};
 ghost use Rattle.local_store.specs.About.{HasNeighbours, HasNoRoom, HasRoom, IsWithoutRun, about_of};
+ghost use Rattle.local_store.specs.Lending.{HoldsHome, IsHomeKept, border_of};
 ghost use Rattle.local_store.specs.Meaning.{HasDamagedArea, IsUnfinished, Means};
 ghost use Rattle.local_store.specs.Overlay.{with_images};
 ghost use Rattle.local_store.specs.Pending.{AreCleared, held};
@@ -23,6 +24,7 @@ ghost use Rattle.local_store.specs.Store.{IsAllHome, IsEmptied, IsFreshJournal, 
 
 use crate::pending::{Pending, stage};
 use crate::refusal::Refusal;
+use crate::region::{read_blocks, write_home, write_run};
 use block_cache::Cache;
 use disk_model::Disk;
 use flusher::{Plan, Run};
@@ -178,6 +180,7 @@ impl Contents {
         ensures cached { IsCached self.old.cache block → disk.new ≡ disk.old }
         ensures reads { D.keeps_model → OnlyReads D.gives D.may_leave_now D.moment D.may_have_left_since disk.old disk.new }
         ensures pending { IsSome (held self.old.pending block) → disk.new ≡ disk.old }
+        ensures same { IsSameButForPending self.old self.new }
         ensures size { D.size disk.new ≡ D.size disk.old }
         ensures broken { IsErrOf result Refusal.Broken ↔ (self.old.broken ≡ true) }
         ensures told { IfErr result IsOfReading }
@@ -209,7 +212,7 @@ impl Contents {
         count: u32,
         bytes: &mut [u8],
     ) -> Result<(), Refusal>
-        requires on_disk { disk_size_of (geometry_of self.old) ≤ D.size disk.old }
+        requires on_disk { border_of (geometry_of self.old) ≤ D.size disk.old }
         requires within { first + count ≤ (geometry_of self.old).blocks }
         requires whole { length bytes.old ≡ 4096 * count }
 
@@ -219,6 +222,15 @@ impl Contents {
             → OnOk result (IsStored self.new volume (D.gives disk.new) (D.may_leave_now disk.new)) }
         ensures ok { OnOk result (self.new ≡ self.old) }
         ensures reads { D.keeps_model → OnlyReads D.gives D.may_leave_now D.moment D.may_have_left_since disk.old disk.new }
+
+        // The same of a disk that has its home half at least.
+        ensures home_read { D.keeps_model → (volume : List ℕ) (batches : List Batch) → IsHomeKept self.old volume batches (D.gives disk.old) (D.may_leave_now disk.old)
+            → OnOk result (bytes.new ≡ take (4096 * count) (drop (4096 * first) volume)) }
+        ensures home_kept { D.keeps_model → (volume : List ℕ) (batches : List Batch) → IsHomeKept self.old volume batches (D.gives disk.old) (D.may_leave_now disk.old)
+            → OnOk result (IsHomeKept self.new volume batches (D.gives disk.new) (D.may_leave_now disk.new)) }
+        ensures home_moment { D.keeps_model → (volume : List ℕ) (batches : List Batch) → IsHomeKept self.old volume batches (D.gives disk.old) (D.may_leave_now disk.old)
+            → LeavesOnly D.moment D.may_have_left_since disk.old disk.new (HoldsHome self.old volume batches) }
+        ensures same { IsSameButForPending self.old self.new }
         ensures size { D.size disk.new ≡ D.size disk.old }
         ensures broken { IsErrOf result Refusal.Broken ↔ (self.old.broken ≡ true) }
         ensures told { IfErr result IsOfReading }
@@ -228,7 +240,7 @@ impl Contents {
         if self.broken {
             return Err(Refusal::Broken);
         }
-        if let Err(error) = self.home.read_blocks(disk, first, bytes) {
+        if let Err(error) = read_blocks(&self.home, disk, first, bytes) {
             self.broken = true;
             return Err(Refusal::Device(error));
         }
@@ -362,7 +374,7 @@ impl Contents {
     /// 122 `Broken` exactly where a device call failed before: this changes nothing, the plan neither. After a refusal of
     /// the device the store is broken, and the disk means what it meant.
     pub fn tick<D: Disk>(&mut self, disk: &mut D, plan: &mut Plan) -> Result<Option<u32>, Refusal>
-        requires on_disk { disk_size_of (geometry_of self.old) ≤ D.size disk.old }
+        requires on_disk { border_of (geometry_of self.old) ≤ D.size disk.old }
 
         ensures home { IfOk result (λ given. IfSome given (λ block. IsNext plan.old (IsPending self.old.pending) block × (self.new ≡ with_home self.old block self.new.cache) × (plan.new ≡ Some block))) }
         ensures none { IfOk result (λ given. IfNone given ((self.new ≡ self.old) × (disk.new ≡ disk.old) × NonePending (IsPending self.old.pending))) }
@@ -372,6 +384,13 @@ impl Contents {
         // A stop at any moment of the call leaves a disk that means what it meant.
         ensures any_moment { D.keeps_model → (volume : List ℕ) → IsStored self.old volume (D.gives disk.old) (D.may_leave_now disk.old)
             → LeavesOnly D.moment D.may_have_left_since disk.old disk.new (Means (meaning_in self.old volume)) }
+
+        // The same of a disk that has its home half at least.
+        ensures home_kept { D.keeps_model → (volume : List ℕ) (batches : List Batch) → IsHomeKept self.old volume batches (D.gives disk.old) (D.may_leave_now disk.old)
+            → OnOk result (IsHomeKept self.new volume batches (D.gives disk.new) (D.may_leave_now disk.new)) }
+        ensures home_moment { D.keeps_model → (volume : List ℕ) (batches : List Batch) → IsHomeKept self.old volume batches (D.gives disk.old) (D.may_leave_now disk.old)
+            → LeavesOnly D.moment D.may_have_left_since disk.old disk.new (HoldsHome self.old volume batches) }
+        ensures same { IsSameButForPending self.old self.new }
         ensures size { D.size disk.new ≡ D.size disk.old }
         ensures broken { IsErrOf result Refusal.Broken ↔ (self.old.broken ≡ true) }
         ensures told { IfErr result IsOfTicking }
@@ -403,7 +422,7 @@ impl Contents {
 
     /// Writes a block home, by one device call, if it is pending.
     fn bring_home<D: Disk>(&mut self, disk: &mut D, block: u32) -> Result<(), Refusal>
-        requires on_disk { disk_size_of (geometry_of self.old) ≤ D.size disk.old }
+        requires on_disk { border_of (geometry_of self.old) ≤ D.size disk.old }
         requires block { block < (geometry_of self.old).blocks }
         requires runs { self.old.broken ≡ false }
         ensures ok { OnOk result (self.new ≡ with_home self.old block self.new.cache) }
@@ -411,6 +430,10 @@ impl Contents {
             → OnOk result (IsStored self.new volume (D.gives disk.new) (D.may_leave_now disk.new)) }
         ensures any_moment { D.keeps_model → (volume : List ℕ) → IsStored self.old volume (D.gives disk.old) (D.may_leave_now disk.old)
             → LeavesOnly D.moment D.may_have_left_since disk.old disk.new (Means (meaning_in self.old volume)) }
+        ensures home_kept { D.keeps_model → (volume : List ℕ) (batches : List Batch) → IsHomeKept self.old volume batches (D.gives disk.old) (D.may_leave_now disk.old)
+            → OnOk result (IsHomeKept self.new volume batches (D.gives disk.new) (D.may_leave_now disk.new)) }
+        ensures home_moment { D.keeps_model → (volume : List ℕ) (batches : List Batch) → IsHomeKept self.old volume batches (D.gives disk.old) (D.may_leave_now disk.old)
+            → LeavesOnly D.moment D.may_have_left_since disk.old disk.new (HoldsHome self.old volume batches) }
         ensures size { D.size disk.new ≡ D.size disk.old }
         ensures told { IfErr result IsOfTicking }
         ensures own { IfErr result IsOfDevice }
@@ -420,7 +443,7 @@ impl Contents {
         let Some(image) = self.pending.get(block) else {
             return Ok(());
         };
-        if let Err(error) = self.home.write_home(disk, block, &image.bytes) {
+        if let Err(error) = write_home(&self.home, disk, block, &image.bytes) {
             self.cache.forget(block);
             self.broken = true;
             return Err(Refusal::Device(error));
@@ -443,7 +466,7 @@ impl Contents {
         plan: &mut Plan,
         most: u32,
     ) -> Result<Option<Run>, Refusal>
-        requires on_disk { disk_size_of (geometry_of self.old) ≤ D.size disk.old }
+        requires on_disk { border_of (geometry_of self.old) ≤ D.size disk.old }
         requires some { 0 < most }
 
         ensures next { IfOk result (λ given. IfSome given (λ run. IsNext plan.old (IsPending self.old.pending) run.first)) }
@@ -457,6 +480,13 @@ impl Contents {
         // A stop at any moment of the call leaves a disk that means what it meant.
         ensures any_moment { D.keeps_model → (volume : List ℕ) → IsStored self.old volume (D.gives disk.old) (D.may_leave_now disk.old)
             → LeavesOnly D.moment D.may_have_left_since disk.old disk.new (Means (meaning_in self.old volume)) }
+
+        // The same of a disk that has its home half at least.
+        ensures home_kept { D.keeps_model → (volume : List ℕ) (batches : List Batch) → IsHomeKept self.old volume batches (D.gives disk.old) (D.may_leave_now disk.old)
+            → OnOk result (IsHomeKept self.new volume batches (D.gives disk.new) (D.may_leave_now disk.new)) }
+        ensures home_moment { D.keeps_model → (volume : List ℕ) (batches : List Batch) → IsHomeKept self.old volume batches (D.gives disk.old) (D.may_leave_now disk.old)
+            → LeavesOnly D.moment D.may_have_left_since disk.old disk.new (HoldsHome self.old volume batches) }
+        ensures same { IsSameButForPending self.old self.new }
         ensures size { D.size disk.new ≡ D.size disk.old }
         ensures broken { IsErrOf result Refusal.Broken ↔ (self.old.broken ≡ true) }
         ensures memory { IsErrOf result Refusal.Memory → (1 < most) × HasNeighbours (IsPending self.old.pending) }
@@ -497,7 +527,7 @@ impl Contents {
         disk: &mut D,
         run: Run,
     ) -> Result<(), Refusal>
-        requires on_disk { disk_size_of (geometry_of self.old) ≤ D.size disk.old }
+        requires on_disk { border_of (geometry_of self.old) ≤ D.size disk.old }
         requires some { 0 < run.count }
         requires within { run.first + run.count ≤ (geometry_of self.old).blocks }
         requires pending { (b : ℕ) → IsWithin run.first run.count b → IsPending self.old.pending b }
@@ -508,6 +538,10 @@ impl Contents {
             → OnOk result (IsStored self.new volume (D.gives disk.new) (D.may_leave_now disk.new)) }
         ensures any_moment { D.keeps_model → (volume : List ℕ) → IsStored self.old volume (D.gives disk.old) (D.may_leave_now disk.old)
             → LeavesOnly D.moment D.may_have_left_since disk.old disk.new (Means (meaning_in self.old volume)) }
+        ensures home_kept { D.keeps_model → (volume : List ℕ) (batches : List Batch) → IsHomeKept self.old volume batches (D.gives disk.old) (D.may_leave_now disk.old)
+            → OnOk result (IsHomeKept self.new volume batches (D.gives disk.new) (D.may_leave_now disk.new)) }
+        ensures home_moment { D.keeps_model → (volume : List ℕ) (batches : List Batch) → IsHomeKept self.old volume batches (D.gives disk.old) (D.may_leave_now disk.old)
+            → LeavesOnly D.moment D.may_have_left_since disk.old disk.new (HoldsHome self.old volume batches) }
         ensures size { D.size disk.new ≡ D.size disk.old }
         ensures memory { IsErrOf result Refusal.Memory → 1 < run.count }
         ensures runs { ¬ IsErrOf result Refusal.Broken }
@@ -529,7 +563,7 @@ impl Contents {
         disk: &mut D,
         run: Run,
     ) -> Result<(), Refusal>
-        requires on_disk { disk_size_of (geometry_of self.old) ≤ D.size disk.old }
+        requires on_disk { border_of (geometry_of self.old) ≤ D.size disk.old }
         requires within { run.first + run.count ≤ (geometry_of self.old).blocks }
         requires pending { (b : ℕ) → IsWithin run.first run.count b → IsPending self.old.pending b }
         requires runs { self.old.broken ≡ false }
@@ -539,6 +573,10 @@ impl Contents {
             → OnOk result (IsStored self.new volume (D.gives disk.new) (D.may_leave_now disk.new)) }
         ensures any_moment { D.keeps_model → (volume : List ℕ) → IsStored self.old volume (D.gives disk.old) (D.may_leave_now disk.old)
             → LeavesOnly D.moment D.may_have_left_since disk.old disk.new (Means (meaning_in self.old volume)) }
+        ensures home_kept { D.keeps_model → (volume : List ℕ) (batches : List Batch) → IsHomeKept self.old volume batches (D.gives disk.old) (D.may_leave_now disk.old)
+            → OnOk result (IsHomeKept self.new volume batches (D.gives disk.new) (D.may_leave_now disk.new)) }
+        ensures home_moment { D.keeps_model → (volume : List ℕ) (batches : List Batch) → IsHomeKept self.old volume batches (D.gives disk.old) (D.may_leave_now disk.old)
+            → LeavesOnly D.moment D.may_have_left_since disk.old disk.new (HoldsHome self.old volume batches) }
         ensures size { D.size disk.new ≡ D.size disk.old }
         ensures runs { ¬ IsErrOf result Refusal.Broken }
         ensures told { IfErr result IsOfTickingRun }
@@ -547,7 +585,7 @@ impl Contents {
         ensures cause { HasCause (D.failures disk.old) (D.failures disk.new) result }
     {
         let bytes = self.pending.joined(alloc, run.first, run.count)?;
-        if let Err(error) = self.home.write_run(disk, run.first, &bytes) {
+        if let Err(error) = write_run(&self.home, disk, run.first, &bytes) {
             // A broken store reads nothing, so the cache is left as it is.
             self.broken = true;
             return Err(Refusal::Device(error));

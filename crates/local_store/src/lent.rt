@@ -1,0 +1,15 @@
+//! What a store keeps while its log is lent out.
+use gate_journal::Image;
+
+/// What is needed to take the log back, and what is committed then.
+#[derive(Drop)]
+pub(crate) struct Lent<P> {
+    /// What the whole disk was until its log was lent.
+    pub(crate) past: P,
+    /// How many bytes the whole disk has.
+    pub(crate) len: u64,
+    /// The front of the batch that is being journaled.
+    pub(crate) front: u64,
+    /// Its images, which will be pending.
+    pub(crate) staged: Vec<Box<Image>>,
+}
