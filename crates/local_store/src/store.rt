@@ -1,37 +1,32 @@
-//! A store that owns its disk, of which it may lend out the log half.
-ghost use Rattle.std.specs.Prelude.{◌≡◌, ◌⊎◌, ◌*◌, ◌≤◌, ℕ, List, false, replicate, IfOk, IfErr, IsNone};
-ghost use Rattle.std.specs.Option.{ForSome};
+//! A store that owns its disk.
+ghost use Rattle.std.specs.Prelude.{◌≡◌, ◌⊎◌, ◌*◌, ◌≤◌, ℕ, List, false, replicate, IfOk, IfErr};
 ghost use Rattle.home_blocks.specs.Home.{IsNoVolume, IsOtherVersion};
 ghost use Rattle.home_blocks.specs.Places.{disk_size_of};
 ghost use Rattle.gate_journal.specs.Runs.{OnlyReads};
 ghost use Rattle.local_store.specs.About.{about_of};
-ghost use Rattle.local_store.specs.Away.{IsLent, batch_in};
 ghost use Rattle.local_store.specs.Meaning.{HasDamagedArea, IsUnfinished, Means};
 ghost use Rattle.local_store.specs.Refusal.{IsCaused, IsNotOfDevice, IsOfFormatting, IsOfOpening};
 ghost use Rattle.local_store.specs.Store.{IsStored, geometry_of, meaning_in};
 
 use crate::contents::Contents;
-use crate::lent::Lent;
 use crate::refusal::Refusal;
 use crate::store_like::StoreLike;
-use disk_model::HalvedDisk;
+use disk_model::Disk;
 use flusher::{Plan, Run};
 use gate_journal::{Image, MAX_NUMBER, Slot, Synced};
 use std::alloc::Global;
 use volume::Geometry;
 
-/// One disk that keeps a volume, for the member at a slot. While its log is lent out, the disk is its home half.
+/// One disk that keeps a volume, for the member at a slot.
 #[derive(Drop)]
-pub struct Store<D: HalvedDisk> {
+pub struct Store<D: Disk> {
     pub(crate) disk: D,
     pub(crate) contents: Contents,
     pub(crate) plan: Plan,
-    pub(crate) lent: Option<Lent<D::Past>>,
-    ghost here: { IsNone lent → disk_size_of (geometry_of contents) ≤ D.size disk },
-    ghost away: { ForSome lent (λ l. IsLent contents (D.size disk) (D.cut_at l.past) (D.whole l.past) l.len (batch_in l)) },
+    ghost room: { disk_size_of (geometry_of contents) ≤ D.size disk },
 }
 
-impl<D: HalvedDisk + Drop> Store<D> {
+impl<D: Disk + Drop> Store<D> {
     /// Formats a disk of at least `disk_size(geometry)` bytes, which may hold anything: after it the disk means a volume of
     /// zeros at front 0. The incarnation is at most 2^63 - 1.
     ///
@@ -47,7 +42,6 @@ impl<D: HalvedDisk + Drop> Store<D> {
         requires on_disk { disk_size_of geometry ≤ D.size disk }
         requires limit { incarnation ≤ MAX_NUMBER }
         ensures about { IfOk result (λ s. about_of s.contents ≡ record { slot = slot; incarnation = incarnation; geometry = geometry; front = 0; used = 0; stores = 1; broken = false; lent = false }) }
-        ensures here { IfOk result (λ s. IsNone s.lent) }
         ensures stored { D.keeps_model → IfOk result (λ s. IsStored s.contents (replicate (4096 * geometry.blocks) 0) (D.gives s.disk) (D.may_leave_now s.disk)) }
         ensures unchanged { IfErr result (λ e. e.0 ≡ Refusal.Memory → e.1 ≡ disk) }
         ensures size { IfErr result (λ e. D.size e.1 ≡ D.size disk) }
@@ -64,7 +58,6 @@ impl<D: HalvedDisk + Drop> Store<D> {
                 disk,
                 contents,
                 plan: Plan::new(),
-                lent: None,
             }),
             Err(refusal) => Err((refusal, disk)),
         }
@@ -79,7 +72,6 @@ impl<D: HalvedDisk + Drop> Store<D> {
     pub fn open(alloc: Global, disk: D) -> Result<Store<D>, (Refusal, D)>
         ensures stored { D.keeps_model → IfOk result (λ s. (volume : List ℕ) × IsStored s.contents volume (D.gives s.disk) (D.may_leave_now s.disk) × Means (meaning_in s.contents volume) (D.gives disk)) }
         ensures runs { IfOk result (λ s. s.contents.broken ≡ false) }
-        ensures here { IfOk result (λ s. IsNone s.lent) }
         ensures not_a_volume { D.keeps_model → IfErr result (λ e. e.0 ≡ Refusal.NotAVolume → IsNoVolume (D.gives disk) ⊎ HasDamagedArea (D.gives disk)) }
         ensures other_version { D.keeps_model → IfErr result (λ e. e.0 ≡ Refusal.OtherVersion → IsOtherVersion (D.gives disk)) }
         ensures unfinished { D.keeps_model → IfErr result (λ e. e.0 ≡ Refusal.Unfinished → IsUnfinished (D.gives disk)) }
@@ -99,20 +91,19 @@ impl<D: HalvedDisk + Drop> Store<D> {
                 disk,
                 contents,
                 plan: Plan::new(),
-                lent: None,
             }),
             Err(refusal) => Err((refusal, disk)),
         }
     }
 
-    /// Its disk; its home half, while the log is lent.
+    /// Its disk.
     pub fn disk(&self) -> &D
         ensures { result.now ≡ self.now.disk }
     {
         &self.disk
     }
 
-    /// The disk, as the store leaves it; its home half, while the log is lent.
+    /// The disk, as the store leaves it.
     pub fn into_disk(self) -> D
         ensures { result ≡ self.disk }
     {
@@ -120,45 +111,41 @@ impl<D: HalvedDisk + Drop> Store<D> {
             disk,
             contents: _,
             plan: _,
-            lent: _,
         } = self;
         disk
     }
 }
 
-impl<D: HalvedDisk + Drop> StoreLike for Store<D> {
-    ghost use Rattle.std.specs.Prelude.{◌≡◌, ◌⊎◌, ◌+◌, ◌*◌, ◌<◌, ◌≤◌, ◌↔◌, ℕ, List, true, false, length, take, drop, is_some, Any, IfOk, IfErr, IfNone, IfSome, OnOk, OnErr, IsErrOf};
+impl<D: Disk + Drop> StoreLike for Store<D> {
+    ghost use Rattle.std.specs.Prelude.{◌≡◌, ◌⊎◌, ◌+◌, ◌*◌, ◌<◌, ◌≤◌, ◌↔◌, ℕ, List, true, false, length, take, drop, Any, IfOk, IfErr, IfNone, IfSome, OnOk, OnErr, IsErrOf};
     ghost use Rattle.flusher.specs.Plan.{IsPending};
-    ghost use Rattle.local_store.specs.Away.{Keeps, LeftWith, left_more, means_either, one_either, size_either};
+    ghost use Rattle.local_store.specs.Kept.{one_volume, stored_means};
 
     ghost keeps_model = { D.keeps_model };
 
-    ghost about = { λ s. record (about_of s.contents) { lent = is_some s.lent } };
+    ghost about = { λ s. about_of s.contents };
 
-    ghost keeps = { λ s volume. Keeps s.lent (λ l. D.left_before l.past (D.until l.past)) s.contents volume (D.gives s.disk) (D.may_leave_now s.disk) };
+    ghost keeps = { λ s volume. IsStored s.contents volume (D.gives s.disk) (D.may_leave_now s.disk) };
 
     ghost is_pending = { λ s. IsPending s.contents.pending };
 
-    ghost may_leave_now = { λ s. LeftWith s.lent (λ l. D.cut_at l.past) (λ l. D.left_before l.past (D.until l.past)) (D.may_leave_now s.disk) };
+    ghost may_leave_now = { λ s. D.may_leave_now s.disk };
 
     ghost moment = { λ s. D.moment s.disk };
 
-    ghost may_have_left_since = { λ s t. LeftWith s.lent (λ l. D.cut_at l.past) (λ l. D.left_before l.past (D.until l.past)) (D.may_have_left_since s.disk t) };
+    ghost may_have_left_since = { λ s. D.may_have_left_since s.disk };
 
     ghost failures = { λ s. D.failures s.disk };
 
-    ghost means_now = { λ keeps s volume c kept left. means_either s.lent (λ l. D.cut_at l.past) (λ l. D.left_before l.past (D.until l.past)) s.contents volume (D.gives s.disk) (D.may_leave_now s.disk)
-        (λ l is. (s.away l is).cut) kept c left };
+    ghost means_now = { λ keeps s volume c kept left. stored_means kept.stands kept c left };
 
-    ghost keeps_one = { λ keeps s one other kept too. one_either s.lent (λ l. D.left_before l.past (D.until l.past)) s.contents one other (D.gives s.disk) (D.may_leave_now s.disk) kept too };
+    ghost keeps_one = { λ keeps s one other kept too. one_volume kept too };
 
-    ghost counts_now = { λ keeps s t c le left. left_more s.lent (λ l. D.cut_at l.past) (λ l. D.left_before l.past (D.until l.past)) (D.may_leave_now s.disk) (D.may_have_left_since s.disk t)
-        (λ a may. D.counts_now keeps s.disk t a le may) c left };
+    ghost counts_now = { λ keeps s t c le left. D.counts_now keeps s.disk t c le left };
 
-    ghost only_now = { λ keeps s c left. left_more s.lent (λ l. D.cut_at l.past) (λ l. D.left_before l.past (D.until l.past)) (D.may_have_left_since s.disk (D.moment s.disk)) (D.may_leave_now s.disk)
-        (λ a may. D.only_now keeps s.disk a may) c left };
+    ghost only_now = { λ keeps s c left. D.only_now keeps s.disk c left };
 
-    ghost keeps_size = { λ keeps s volume kept. size_either s.lent (λ l. D.left_before l.past (D.until l.past)) s.contents volume (D.gives s.disk) (D.may_leave_now s.disk) kept };
+    ghost keeps_size = { λ keeps s volume kept. kept.region.waits.size };
 
     fn slot(&self) -> Slot {
         self.contents.slot()
@@ -185,10 +172,6 @@ impl<D: HalvedDisk + Drop> StoreLike for Store<D> {
     }
 
     fn read_block(&mut self, block: u32, bytes: &mut [u8]) -> Result<(), Refusal> {
-        if self.lent.is_some() {
-            // The cache asks for a whole disk.
-            return self.contents.read_blocks(&mut self.disk, block, 1, bytes);
-        }
         self.contents.read_block(&mut self.disk, block, bytes)
     }
 

@@ -1,0 +1,163 @@
+//! A store that may lend out the log half of its disk.
+ghost use Rattle.std.specs.Prelude.{◌≡◌, ◌⊎◌, ◌*◌, ◌≤◌, ℕ, List, false, replicate, IfOk, IfErr, IsNone};
+ghost use Rattle.std.specs.Option.{ForSome};
+ghost use Rattle.home_blocks.specs.Home.{IsNoVolume, IsOtherVersion};
+ghost use Rattle.home_blocks.specs.Places.{disk_size_of};
+ghost use Rattle.gate_journal.specs.Runs.{OnlyReads};
+ghost use Rattle.local_store.specs.About.{about_of};
+ghost use Rattle.local_store.specs.Away.{IsLent, batch_in};
+ghost use Rattle.local_store.specs.Meaning.{HasDamagedArea, IsUnfinished, Means};
+ghost use Rattle.local_store.specs.Refusal.{IsCaused, IsNotOfDevice, IsOfFormatting, IsOfOpening};
+ghost use Rattle.local_store.specs.Store.{IsStored, geometry_of, meaning_in};
+
+use crate::contents::Contents;
+use crate::lent::Lent;
+use crate::refusal::Refusal;
+use crate::store_like::StoreLike;
+use disk_model::HalvedDisk;
+use flusher::{Plan, Run};
+use gate_journal::{Image, MAX_NUMBER, Slot, Synced};
+use std::alloc::Global;
+use volume::Geometry;
+
+/// A store whose log may be journaled elsewhere while it goes on. While its log is lent out, the disk is its home half.
+#[derive(Drop)]
+pub struct LendingStore<D: HalvedDisk> {
+    pub(crate) disk: D,
+    pub(crate) contents: Contents,
+    pub(crate) plan: Plan,
+    pub(crate) lent: Option<Lent<D::Past>>,
+    ghost here: { IsNone lent → disk_size_of (geometry_of contents) ≤ D.size disk },
+    ghost away: { ForSome lent (λ l. IsLent contents (D.size disk) (D.cut_at l.past) (D.whole l.past) l.len (batch_in l)) },
+}
+
+impl<D: HalvedDisk + Drop> LendingStore<D> {
+    /// The store, which can lend out its log from then on.
+    pub fn of(store: Store<D>) -> LendingStore<D>
+        ensures disk { result.disk ≡ store.disk }
+        ensures contents { result.contents ≡ store.contents }
+        ensures plan { result.plan ≡ store.plan }
+        ensures here { IsNone result.lent }
+    {
+        let Store {
+            disk,
+            contents,
+            plan,
+        } = store;
+        LendingStore {
+            disk,
+            contents,
+            plan,
+            lent: None,
+        }
+    }
+
+    /// Its disk; its home half, while the log is lent.
+    pub fn disk(&self) -> &D
+        ensures { result.now ≡ self.now.disk }
+    {
+        &self.disk
+    }
+
+    /// The disk, as the store leaves it; its home half, while the log is lent.
+    pub fn into_disk(self) -> D
+        ensures { result ≡ self.disk }
+    {
+        let LendingStore {
+            disk,
+            contents: _,
+            plan: _,
+            lent: _,
+        } = self;
+        disk
+    }
+}
+
+impl<D: HalvedDisk + Drop> StoreLike for LendingStore<D> {
+    ghost use Rattle.std.specs.Prelude.{◌≡◌, ◌⊎◌, ◌+◌, ◌*◌, ◌<◌, ◌≤◌, ◌↔◌, ℕ, List, true, false, length, take, drop, is_some, Any, IfOk, IfErr, IfNone, IfSome, OnOk, OnErr, IsErrOf};
+    ghost use Rattle.flusher.specs.Plan.{IsPending};
+    ghost use Rattle.local_store.specs.Away.{Keeps, LeftWith, left_more, means_either, one_either, size_either};
+
+    ghost keeps_model = { D.keeps_model };
+
+    ghost about = { λ s. record (about_of s.contents) { lent = is_some s.lent } };
+
+    ghost keeps = { λ s volume. Keeps s.lent (λ l. D.left_before l.past (D.until l.past)) s.contents volume (D.gives s.disk) (D.may_leave_now s.disk) };
+
+    ghost is_pending = { λ s. IsPending s.contents.pending };
+
+    ghost may_leave_now = { λ s. LeftWith s.lent (λ l. D.cut_at l.past) (λ l. D.left_before l.past (D.until l.past)) (D.may_leave_now s.disk) };
+
+    ghost moment = { λ s. D.moment s.disk };
+
+    ghost may_have_left_since = { λ s t. LeftWith s.lent (λ l. D.cut_at l.past) (λ l. D.left_before l.past (D.until l.past)) (D.may_have_left_since s.disk t) };
+
+    ghost failures = { λ s. D.failures s.disk };
+
+    ghost means_now = { λ keeps s volume c kept left. means_either s.lent (λ l. D.cut_at l.past) (λ l. D.left_before l.past (D.until l.past)) s.contents volume (D.gives s.disk) (D.may_leave_now s.disk)
+        (λ l is. (s.away l is).cut) kept c left };
+
+    ghost keeps_one = { λ keeps s one other kept too. one_either s.lent (λ l. D.left_before l.past (D.until l.past)) s.contents one other (D.gives s.disk) (D.may_leave_now s.disk) kept too };
+
+    ghost counts_now = { λ keeps s t c le left. left_more s.lent (λ l. D.cut_at l.past) (λ l. D.left_before l.past (D.until l.past)) (D.may_leave_now s.disk) (D.may_have_left_since s.disk t)
+        (λ a may. D.counts_now keeps s.disk t a le may) c left };
+
+    ghost only_now = { λ keeps s c left. left_more s.lent (λ l. D.cut_at l.past) (λ l. D.left_before l.past (D.until l.past)) (D.may_have_left_since s.disk (D.moment s.disk)) (D.may_leave_now s.disk)
+        (λ a may. D.only_now keeps s.disk a may) c left };
+
+    ghost keeps_size = { λ keeps s volume kept. size_either s.lent (λ l. D.left_before l.past (D.until l.past)) s.contents volume (D.gives s.disk) (D.may_leave_now s.disk) kept };
+
+    fn slot(&self) -> Slot {
+        self.contents.slot()
+    }
+
+    fn incarnation(&self) -> u64 {
+        self.contents.incarnation()
+    }
+
+    fn geometry(&self) -> Geometry {
+        self.contents.geometry()
+    }
+
+    fn front(&self) -> u64 {
+        self.contents.front()
+    }
+
+    fn room(&self) -> u64 {
+        self.contents.room()
+    }
+
+    fn is_broken(&self) -> bool {
+        self.contents.is_broken()
+    }
+
+    fn read_block(&mut self, block: u32, bytes: &mut [u8]) -> Result<(), Refusal> {
+        if self.lent.is_some() {
+            // The cache asks for a whole disk.
+            return self.contents.read_blocks(&mut self.disk, block, 1, bytes);
+        }
+        self.contents.read_block(&mut self.disk, block, bytes)
+    }
+
+    fn read_blocks(&mut self, first: u32, count: u32, bytes: &mut [u8]) -> Result<(), Refusal> {
+        self.contents
+            .read_blocks(&mut self.disk, first, count, bytes)
+    }
+
+    fn commit(&mut self, alloc: Global, front: u64, images: &[Image]) -> Result<Synced, Refusal> {
+        self.contents.commit(alloc, &mut self.disk, front, images)
+    }
+
+    fn tick(&mut self) -> Result<Option<u32>, Refusal> {
+        self.contents.tick(&mut self.disk, &mut self.plan)
+    }
+
+    fn tick_run(&mut self, alloc: Global, most: u32) -> Result<Option<Run>, Refusal> {
+        self.contents
+            .tick_run(alloc, &mut self.disk, &mut self.plan, most)
+    }
+
+    fn checkpoint(&mut self) -> Result<(), Refusal> {
+        self.contents.checkpoint(&mut self.disk)
+    }
+}
