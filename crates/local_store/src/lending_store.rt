@@ -1,22 +1,19 @@
 //! A store that may lend out the log half of its disk.
-ghost use Rattle.std.specs.Prelude.{◌≡◌, ◌⊎◌, ◌*◌, ◌≤◌, ℕ, List, false, replicate, IfOk, IfErr, IsNone};
+ghost use Rattle.std.specs.Prelude.{◌≡◌, ◌≤◌, IsNone};
 ghost use Rattle.std.specs.Option.{ForSome};
-ghost use Rattle.home_blocks.specs.Home.{IsNoVolume, IsOtherVersion};
 ghost use Rattle.home_blocks.specs.Places.{disk_size_of};
-ghost use Rattle.gate_journal.specs.Runs.{OnlyReads};
 ghost use Rattle.local_store.specs.About.{about_of};
 ghost use Rattle.local_store.specs.Away.{IsLent, batch_in};
-ghost use Rattle.local_store.specs.Meaning.{HasDamagedArea, IsUnfinished, Means};
-ghost use Rattle.local_store.specs.Refusal.{IsCaused, IsNotOfDevice, IsOfFormatting, IsOfOpening};
-ghost use Rattle.local_store.specs.Store.{IsStored, geometry_of, meaning_in};
+ghost use Rattle.local_store.specs.Store.{geometry_of};
 
 use crate::contents::Contents;
 use crate::lent::Lent;
 use crate::refusal::Refusal;
+use crate::store::Store;
 use crate::store_like::StoreLike;
 use disk_model::HalvedDisk;
 use flusher::{Plan, Run};
-use gate_journal::{Image, MAX_NUMBER, Slot, Synced};
+use gate_journal::{Image, Slot, Synced};
 use std::alloc::Global;
 use volume::Geometry;
 
