@@ -31,8 +31,9 @@ pub struct Installer<D: Disk> {
 }
 
 impl<D: Disk + Drop> Installer<D> {
-    /// Begins on a disk of at least `disk_size(geometry)` bytes, which may hold anything: its superblock says from then on
-    /// that the installation isn't finished. The incarnation is at most 2^63 - 1. No block is given yet.
+    /// Begins on a disk of at least `disk_size(geometry)` bytes, which may hold anything: after the twelve device calls of
+    /// the superblock's pair the disk says that its installation isn't finished. The incarnation is at most 2^63 - 1. No
+    /// block is given yet.
     ///
     /// 100 `Memory`, with nothing written; and what the device refuses. Both hand the disk back.
     pub fn start(
@@ -204,7 +205,7 @@ impl<D: Disk + Drop> Installer<D> {
     }
 }
 
-/// The device calls of `finish`, of which the disk means its home region at the front.
+/// The nine device calls of `finish`: after them the disk means its home region, at the front.
 fn finish_home<D: Disk>(home: &mut Home, disk: &mut D, front: u64) -> Result<Synced, Refusal>
     requires on_disk { disk_size_of home.old.superblock.geometry ≤ D.size disk.old }
     requires limit { front ≤ MAX_NUMBER }
