@@ -14,6 +14,7 @@ pub mod Kept
 pub mod Memory
 pub mod Moments
 pub mod Part
+pub mod RawFile
 pub mod Script
 pub mod There
 pub mod Waiting

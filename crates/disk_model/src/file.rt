@@ -1,15 +1,16 @@
 // A file of fixed length. No contract can say what a file holds, so its premise is one that nobody proves.
 ghost use Rattle.std.specs.Prelude.{◌≡◌, ◌+◌, ◌-◌, ◌<◌, ◌≤◌, ◌^◌, true, false, None, length, IfOk, OnOk, OnErr, if◌then◌else◌, is_ok};
 
-use crate::{Disk, DiskError, HalvedDisk};
+use crate::raw_file::{claim, fill};
+use crate::{Disk, DiskError, HalvedDisk, RawFile};
 use std::fs::{File, Files, OpenOptions};
 use std::io::{self, ErrorKind};
 use std::os::fd::AsRawFd;
-use std::os::unix::fs::{FileExt, MetadataExt};
+use std::os::unix::fs::MetadataExt;
 use std::path::Path;
 
-/// The bytes that `create` writes at once.
-const CHUNK: usize = 4_096;
+/// A file of the system, as a disk.
+pub type FileDisk = FileDiskOn<File>;
 
 /// A regular file of fixed length, as a disk. A call allocates nothing. 100 `Memory` comes only where 2^64 - 1
 /// failures have been counted, and nothing is done then.
@@ -20,13 +21,16 @@ const CHUNK: usize = 4_096;
 ///
 /// A value holds the file's exclusive lock for as long as it lives, and so does each of its halves while its log is
 /// lent. The lock is advisory: it keeps out who asks for it, as `open` and `create` do, in this process or another.
+///
+/// It is a disk on any `RawFile`, so that its calls say what they ask of the file: each that is made asks one thing, at
+/// its own place in the file, and one that isn't made asks nothing.
 #[derive(Drop)]
-pub struct FileDisk {
-    file: File,
+pub struct FileDiskOn<F> {
+    file: F,
     // where the lock is another handle's, as at a log, it is kept here
-    lock: Option<File>,
+    lock: Option<F>,
     // what a log is called by, while it isn't lent
-    second: Option<Second>,
+    second: Option<Second<F>>,
     // its first byte in the file
     start: u64,
     len: u64,
@@ -38,13 +42,13 @@ pub struct FileDisk {
 
 // The same file, opened once more: the system tells each opened file of a failed sync, and all clones of a handle once.
 #[derive(Drop)]
-struct Second {
-    file: File,
+struct Second<F> {
+    file: F,
     // a clone of the handle that has the lock
-    lock: File,
+    lock: F,
 }
 
-impl Second {
+impl Second<File> {
     // Opens the file of this path, which has to be the one that is locked.
     fn open<R: Files<File = File>>(rt: &R, path: &str, locked: &File) -> io::Result<Self> {
         let file = OpenOptions::new().read(true).write(true).open(rt, path)?;
@@ -66,10 +70,8 @@ pub struct FilePast {
     ghost fits: { start + len < 2 ^ 64 },
 }
 
-impl FileDisk {
-    ghost use Rattle.std.specs.Prelude.{IfErr, not};
-    ghost use Rattle.std.specs.IoError.{raw_os_error};
-    ghost use Rattle.disk_model.specs.File.{file_len, file_failures, file_is_broken, file_last_error, file_lends, IsNewlyOpened, StaysThere};
+impl FileDiskOn<File> {
+    ghost use Rattle.disk_model.specs.File.{file_len, file_lends, IsNewlyOpened};
 
     /// Opens a regular file that is there, as long as it is now. Each error is the system's, but for `InvalidInput`
     /// at what is no regular file, or where the path leads to another file meanwhile; `WouldBlock` comes where another
@@ -81,12 +83,11 @@ impl FileDisk {
         ensures new { IfOk result IsNewlyOpened }
         ensures lends { IfOk result (λ disk. file_lends disk ≡ true) }
     {
-        let file = OpenOptions::new().read(true).write(true).open(rt, path)?;
+        let mut file = OpenOptions::new().read(true).write(true).open(rt, path)?;
         if !file.metadata()?.is_file() {
             return Err(io::Error::new(ErrorKind::InvalidInput, "not a regular file"));
         }
-        file.try_lock()?;
-        file.sync_all()?;
+        claim(&mut file)?;
         // Advice: where the system doesn't follow it, the file is read as it is cached.
         let _ = libc::posix_fadvise(file.as_raw_fd(), 0, 0, libc::POSIX_FADV_DONTNEED);
         let len = file.metadata()?.len();
@@ -102,14 +103,18 @@ impl FileDisk {
         ensures new { IfOk result IsNewlyOpened }
         ensures lends { IfOk result (λ disk. file_lends disk ≡ true) }
     {
-        let file = File::create_new(rt, path)?;
-        file.try_lock()?;
-        write_zeros(&file, len)?;
-        file.sync_all()?;
+        let mut file = File::create_new(rt, path)?;
+        fill(&mut file, len)?;
         File::open(rt, folder_of(path))?.sync_all()?;
         let second = Second::open(rt, path, &file)?;
         Ok(FileDisk::with_second(file, second, len))
     }
+}
+
+impl<F: Drop> FileDiskOn<F> {
+    ghost use Rattle.std.specs.Prelude.{IfErr, not};
+    ghost use Rattle.std.specs.IoError.{raw_os_error};
+    ghost use Rattle.disk_model.specs.File.{file_len, file_failures, file_is_broken, file_last_error, file_lends, file_of, IsNewlyOpened, StaysThere};
 
     /// The system's number of the error of the last call that failed, for a log. None before the first failure, and
     /// where the system named none, as at the end of a file that was cut. A call that isn't made since an earlier one
@@ -122,12 +127,13 @@ impl FileDisk {
 
     /// The disk that an open file is, `len` bytes long, as if nothing had failed yet. The caller has taken its lock, and what is
     /// in it is durable. Where the file is shorter, a read behind its end fails with 101. It lends no log.
-    pub fn new(file: File, len: u64) -> Self
+    pub fn new(file: F, len: u64) -> Self
+        ensures file { file_of result ≡ file }
         ensures len { file_len result ≡ len }
         ensures new { IsNewlyOpened result }
         ensures lends { file_lends result ≡ false }
     {
-        FileDisk {
+        FileDiskOn {
             file,
             lock: None,
             second: None,
@@ -140,12 +146,12 @@ impl FileDisk {
     }
 
     // A disk that can lend its log.
-    fn with_second(file: File, second: Second, len: u64) -> Self
+    fn with_second(file: F, second: Second<F>, len: u64) -> Self
         ensures len { file_len result ≡ len }
         ensures new { IsNewlyOpened result }
         ensures lends { file_lends result ≡ true }
     {
-        let mut disk = FileDisk::new(file, len);
+        let mut disk = FileDiskOn::new(file, len);
         disk.second = Some(second);
         disk
     }
@@ -158,6 +164,8 @@ impl FileDisk {
         ensures failures { file_failures self.new ≡ (if is_ok done then file_failures self.old else file_failures self.old + 1) }
         ensures broken { file_is_broken self.new ≡ file_is_broken self.old }
         ensures there { StaysThere self.old self.new }
+        ensures file { file_of self.new ≡ file_of self.old }
+        ensures is_done { is_ok result ≡ is_ok done }
         ensures kept { OnOk done (file_last_error self.new ≡ file_last_error self.old) }
         ensures noted { IfErr done (λ e. file_last_error self.new ≡ raw_os_error e) }
     {
@@ -178,6 +186,8 @@ impl FileDisk {
         ensures failures { file_failures self.new ≡ (if is_ok done then file_failures self.old else file_failures self.old + 1) }
         ensures broken { file_is_broken self.new ≡ not (is_ok done) }
         ensures there { StaysThere self.old self.new }
+        ensures file { file_of self.new ≡ file_of self.old }
+        ensures is_done { is_ok result ≡ is_ok done }
         ensures kept { OnOk done (file_last_error self.new ≡ file_last_error self.old) }
         ensures noted { IfErr done (λ e. file_last_error self.new ≡ raw_os_error e) }
     {
@@ -196,18 +206,6 @@ impl FileDisk {
     }
 }
 
-// Writes this many zeros from the file's beginning on.
-fn write_zeros(file: &File, len: u64) -> io::Result<()> {
-    let zeros = [0; CHUNK];
-    let mut at = 0;
-    while at < len {
-        let n = (len - at).min(CHUNK as u64);
-        file.write_all_at(&zeros[..n as usize], at)?;
-        at += n;
-    }
-    Ok(())
-}
-
 // The folder that a file of this path lies in.
 fn folder_of(path: &str) -> &str {
     match Path::new(path).parent() {
@@ -216,10 +214,11 @@ fn folder_of(path: &str) -> &str {
     }
 }
 
-impl Disk for FileDisk {
-    ghost use Rattle.std.specs.Prelude.{◌≡◌, ◌⊎◌, ◌↔◌, ◌+◌, ◌-◌, ◌^◌, ◌≤◌, [], length, IsTrue, IsErr, OnOk, IsErrOf};
+impl<F: RawFile + Drop> Disk for FileDiskOn<F> {
+    ghost use Rattle.std.specs.Prelude.{◌≡◌, ◌⊎◌, ◌↔◌, ◌+◌, ◌-◌, ◌^◌, ◌≤◌, [], ◌∷◌, ◌++◌, length, IsTrue, IsErr, OnOk, IsErrOf};
     ghost use Rattle.disk_model.specs.Error.{HasCause};
-    ghost use Rattle.disk_model.specs.File.{file_len, file_failures, file_most_failures, file_is_broken, file_last_error, StaysThere};
+    ghost use Rattle.disk_model.specs.File.{file_len, file_failures, file_most_failures, file_is_broken, file_last_error, file_of, file_start, IsAtRest, StaysThere};
+    ghost use Rattle.disk_model.specs.RawFile.{reads, writes, syncs_data};
     ghost use Rattle.disk_model.specs.Counts.{within_counted};
 
     ghost keeps_model = { ⊥ };
@@ -267,6 +266,9 @@ impl Disk for FileDisk {
         ensures there { StaysThere self.old self.new }
         ensures latch { file_is_broken self.new ≡ file_is_broken self.old }
         ensures kept { OnOk result (file_last_error self.new ≡ file_last_error self.old) }
+        ensures asked { F.is_logged → ¬ (file_failures self.old ≡ 2 ^ 64 - 1)
+            → F.asked (file_of self.new) ≡ F.asked (file_of self.old) ++ reads (file_start self.old + at) (length bytes.old) (is_ok result) ∷ [] }
+        ensures unasked { F.is_logged → file_failures self.old ≡ 2 ^ 64 - 1 → F.asked (file_of self.new) ≡ F.asked (file_of self.old) }
     {
         if self.failures == u64::MAX {
             return Err(DiskError::Memory);
@@ -287,6 +289,9 @@ impl Disk for FileDisk {
         ensures latch { IsTrue (file_is_broken self.new) ↔ (IsTrue (file_is_broken self.old) ⊎ IsErrOf result DiskError.WriteFault) }
         ensures kept { OnOk result (file_last_error self.new ≡ file_last_error self.old) }
         ensures unmade { IsTrue (file_is_broken self.old) → file_last_error self.new ≡ file_last_error self.old }
+        ensures asked { F.is_logged → ¬ IsAtRest self.old
+            → F.asked (file_of self.new) ≡ F.asked (file_of self.old) ++ writes (file_start self.old + at) bytes.now (is_ok result) ∷ [] }
+        ensures unasked { F.is_logged → IsAtRest self.old → F.asked (file_of self.new) ≡ F.asked (file_of self.old) }
     {
         if self.failures == u64::MAX {
             return Err(DiskError::Memory);
@@ -309,6 +314,8 @@ impl Disk for FileDisk {
         ensures latch { IsTrue (file_is_broken self.new) ↔ (IsTrue (file_is_broken self.old) ⊎ IsErrOf result DiskError.SyncFault) }
         ensures kept { OnOk result (file_last_error self.new ≡ file_last_error self.old) }
         ensures unmade { IsTrue (file_is_broken self.old) → file_last_error self.new ≡ file_last_error self.old }
+        ensures asked { F.is_logged → ¬ IsAtRest self.old → F.asked (file_of self.new) ≡ F.asked (file_of self.old) ++ syncs_data (is_ok result) ∷ [] }
+        ensures unasked { F.is_logged → IsAtRest self.old → F.asked (file_of self.new) ≡ F.asked (file_of self.old) }
     {
         if self.failures == u64::MAX {
             return Err(DiskError::Memory);
@@ -324,11 +331,11 @@ impl Disk for FileDisk {
 /// The log goes by a handle of its own, and each half is stopped at once by its own failed write or sync. Where there is no
 /// second handle, as at a half, and only there, nothing is lent: 100 `Memory`. What is returned has to be the log that was
 /// lent: no clause knows one file from another.
-impl HalvedDisk for FileDisk {
-    ghost use Rattle.std.specs.Prelude.{◌≡◌, ◌⊎◌, ◌↔◌, ◌+◌, ◌≤◌, ◌<◌, max, IsTrue, IsErr, IfErr};
-    ghost use Rattle.disk_model.specs.File.{file_len, file_failures, file_most_failures, file_is_broken, file_last_error, file_start, file_lends, file_brings_lock};
+impl<F: RawFile + Drop> HalvedDisk for FileDiskOn<F> {
+    ghost use Rattle.std.specs.Prelude.{◌≡◌, ◌⊎◌, ◌↔◌, ◌+◌, ◌≤◌, ◌<◌, max, IsTrue, IsErr, IfErr, IfSome};
+    ghost use Rattle.disk_model.specs.File.{file_len, file_failures, file_most_failures, file_is_broken, file_last_error, file_of, file_start, file_lends, file_brings_lock};
 
-    type Log = FileDisk;
+    type Log = FileDiskOn<F>;
 
     type Past = FilePast;
 
@@ -342,7 +349,7 @@ impl HalvedDisk for FileDisk {
 
     ghost log_keeps = { λ no. absurd no };
 
-    fn lend_log(&mut self, border: u64) -> Result<(FileDisk, FilePast), DiskError>
+    fn lend_log(&mut self, border: u64) -> Result<(FileDiskOn<F>, FilePast), DiskError>
         requires { border ≤ file_len self.old }
         ensures home { IfOk result (λ r. file_len self.new ≡ border) }
         ensures log { IfOk result (λ r. border + file_len r.0 ≡ file_len self.old) }
@@ -352,6 +359,8 @@ impl HalvedDisk for FileDisk {
         // A half of what is broken is broken.
         ensures latch { IfOk result (λ r. (file_is_broken self.new ≡ file_is_broken self.old) × (file_is_broken r.0 ≡ file_is_broken self.old)) }
         ensures last_error { IfOk result (λ r. (file_last_error self.new ≡ file_last_error self.old) × (file_last_error r.0 ≡ file_last_error self.old)) }
+        // Each half goes by a handle of its own: the home by the disk's, the log by the second.
+        ensures files { IfOk result (λ r. (file_of self.new ≡ file_of self.old) × IfSome self.old.second (λ second. file_of r.0 ≡ second.file)) }
         // The log begins at the border. Neither half lends.
         ensures starts { IfOk result (λ r. (file_start self.new ≡ file_start self.old) × (file_start r.0 ≡ file_start self.old + border) × (r.1.start ≡ file_start self.old)) }
         ensures lends { IfOk result (λ r. (file_lends self.new ≡ false) × (file_lends r.0 ≡ false)) }
@@ -369,7 +378,7 @@ impl HalvedDisk for FileDisk {
             border,
             len: self.len,
         };
-        let log = FileDisk {
+        let log = FileDiskOn {
             file,
             lock: Some(lock),
             second: None,
@@ -383,12 +392,13 @@ impl HalvedDisk for FileDisk {
         Ok((log, past))
     }
 
-    fn return_log(&mut self, log: FileDisk, past: FilePast)
+    fn return_log(&mut self, log: FileDiskOn<F>, past: FilePast)
         requires home { file_len self.old ≡ past.border }
         requires log { past.border + file_len log ≡ past.len }
         ensures size { file_len self.new ≡ past.len }
         ensures failures { file_failures self.new ≡ max (file_failures self.old) (file_failures log) }
         ensures most { file_most_failures self.new ≤ max (file_most_failures self.old) (file_most_failures log) }
+        ensures files { (file_of self.new ≡ file_of self.old) × IfSome self.new.second (λ second. second.file ≡ file_of log) }
         ensures start { file_start self.new ≡ past.start }
         // It can lend again, where the log has its lock with it.
         ensures lends { file_lends self.new ≡ file_brings_lock log }
@@ -398,7 +408,7 @@ impl HalvedDisk for FileDisk {
         ensures home_error { file_failures log ≤ file_failures self.old → file_last_error self.new ≡ file_last_error self.old }
         ensures log_error { file_failures self.old < file_failures log → file_last_error self.new ≡ file_last_error log }
     {
-        let FileDisk {
+        let FileDiskOn {
             file,
             lock,
             failures,

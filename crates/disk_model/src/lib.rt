@@ -12,13 +12,15 @@ mod halves;
 mod halving;
 mod memory;
 mod part;
+mod raw_file;
 mod script;
 
 pub use content::Cut;
 pub use disk::Disk;
 pub use error::DiskError;
-pub use file::{FileDisk, FilePast};
+pub use file::{FileDisk, FileDiskOn, FilePast};
 pub use halves::{HalvedDisk, write_beside_log};
 pub use memory::{MemDisk, MemPast};
 pub use part::Part;
+pub use raw_file::RawFile;
 pub use script::{Event, Script};
