@@ -9,6 +9,7 @@
 mod arming;
 mod contents;
 mod laws;
+mod lend;
 mod lending;
 mod lent;
 mod pending;
@@ -19,7 +20,7 @@ mod store;
 mod store_like;
 
 pub use contents::Contents;
-pub use laws::{batches_go_over, disks_mean_one, meanings_are_opened};
+pub use laws::{batches_go_over, disks_mean_one, halves_mean, meanings_are_opened};
 pub use lending::{CommitWork, Journaled};
 pub use plain::PlainStore;
 pub use refusal::Refusal;
