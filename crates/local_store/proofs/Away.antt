@@ -1,29 +1,44 @@
 -- What a store keeps as its log is lent out, while it is away, and when it is back.
-use Rattle.std.proofs.Common.{◌≡◌, ℕ, true, ◌+◌, ◌-◌, ◌*◌, ◌<◌, ◌≤◌, List, [], ◌∷◌, ◌++◌, length, take, drop, refl, sym, ◌∙◌, ap, subst, inl, inr, ◌⊎◌, ⊎_elim, arith, Result, OnOk, IsNone}
-use Rattle.std.specs.Prelude.{All, Option, Some, None}
+use Rattle.std.proofs.Common.{◌≡◌, ℕ, true, ◌+◌, ◌<◌, ◌≤◌, List, [], ◌∷◌, ◌++◌, length, take, drop, refl, sym, ◌∙◌, ap, subst, inl, inr, ◌⊎◌, ⊎_elim, arith, Result, OnOk, IsNone}
+use Rattle.std.specs.Prelude.{All, Option, Some, None, unwrap_or}
 use Rattle.std.specs.Option.{ForSome}
-use Rattle.std.proofs.lemmas.Bool.{both_ways}
+use Rattle.std.proofs.lemmas.Bool.{both_ways, cases_lt}
+use Rattle.std.proofs.lemmas.List.{drop_at, take_at}
 use Rattle.std.proofs.lemmas.Result.{on_ok_weaker}
 use Rattle.block_cache.specs.Cache.{Agrees}
 use Rattle.disk_model.specs.Disk.{LeavesOnly, NothingNew}
 use Rattle.disk_model.specs.Halves.{AreHalves, gives_behind, gives_below, inside_behind, inside_below, left_behind, left_below}
-use Rattle.disk_model.specs.Part.{inside, KeepsPart, LeftInside}
+use Rattle.disk_model.specs.Part.{inside, KeepsPart}
 use Rattle.disk_model.specs.declared.part.Part.{Part}
-use Rattle.gate_journal.specs.Batch.{Batch, HoldsBatches, last_front}
+use Rattle.gate_journal.specs.Batch.{Batch, batch_size, HoldsBatches, HoldsOldOrNew, last_front}
 use Rattle.gate_journal.specs.Journal as journal
 use Rattle.gate_journal.specs.Journal.{Fits, IsSettled, appended, behind_border, part_behind, still_settled}
-use Rattle.gate_journal.specs.declared.batch.Image.{Image}
 use Rattle.home_blocks.specs.Home.{still_settled_home}
 use Rattle.home_blocks.specs.Places.{disk_size_of, home_part, superblock_part}
 use Rattle.home_blocks.specs.Superblock.{Superblock}
+use Rattle.home_blocks.specs.declared.progress.Progress.TheVariants.{Whole}
+use Rattle.local_store.specs.About.{HasNoRoom, about_of}
+use Rattle.local_store.specs.Kept.{parts_mean}
 use Rattle.local_store.specs.Lending.{HoldsHome, IsHomeKept, border_of}
-use Rattle.local_store.specs.Away.{IsKeptOver, IsLent, Keeps, LeftWith, batch_in, journal_behind, left_either, left_more, over_means}
+use Rattle.local_store.specs.Away.{IsKeptOver, IsLent, Keeps, LeftWith, batch_in, halves_mean_old, holds_below, inside_journal, journal_behind, left_either, left_more, over_means}
 use Rattle.local_store.specs.Meaning.{Means}
-use Rattle.local_store.specs.Overlay.{AllFitIn, with_images}
-use Rattle.local_store.specs.Store.{State, IsOfSuperblock, IsSameButForPending, IsStored, committed, geometry_of, meaning_in}
+use Rattle.local_store.specs.Overlay.{AllFitIn, with_batches, with_images}
+use Rattle.local_store.specs.Store.{State, IsOfSuperblock, IsSameButForPending, IsStored, committed, geometry_of, meaning_after, meaning_in}
 use Rattle.local_store.specs.declared.lent.Lent.{Lent}
 use Rattle.local_store.proofs.Homes.{one_batch}
-use Rattle.local_store.proofs.Stored.{all_fit, last_fits, region_still}
+use Rattle.local_store.proofs.Overlays.{with_batches-push}
+use Rattle.local_store.proofs.Stored.{all_fit, last_fits, last_front-push, region_still}
+
+-- what holds of a value holds of whatever value there is
+pub for_some : {T : Type 0} (x : T) (P : T → Type 0) → P x → ForSome (Some x) P
+for_some {T} x P has = λ other is. subst P (ap (λ (o : Option T). unwrap_or o x) is) has
+
+-- so many images fit into the journal where they have room in the area
+pub has_room : (store : State) (n m : ℕ) → (¬ HasNoRoom (about_of store) n) → m ≡ n → store.journal.part.len ≡ (geometry_of store).area → Fits store.journal m
+has_room store n m enough same long = elim (cases_lt (geometry_of store).area (store.journal.end + batch_size n + 1)) [
+  | inl less ↦ absurd (enough less)
+  | inr fits ↦ omega (arith, fits, same, long)
+]
 
 -- the disk has its home half, whether the log is lent or not
 pub has_border : {P : Type 0} (lent : Option (Lent P)) (store : State) (size : ℕ) (cut whole : P → ℕ) → (IsNone lent → disk_size_of (geometry_of store) ≤ size)
@@ -164,6 +179,22 @@ home_still {store} superblock region was = record {
   runs = was.runs;
 }
 
+-- a disk that was left as it was keeps what it kept
+pub stored_untouched : {store : State} {v gives now : List ℕ} {left left_now : List ℕ → Type 0} → now ≡ gives → NothingNew left left_now → IsStored store v gives left → IsStored store v now left_now
+stored_untouched {store} {v} {gives} {now} {left} {left_now} same nothing was = record {
+  stands = was.stands;
+  superblock = still_settled_home (keeps superblock_part) was.superblock;
+  is_whole = was.is_whole;
+  batches = was.batches;
+  area = still_settled (keeps store.journal.part) was.area;
+  region = region_still (keeps (home_part (geometry_of store))).gives (keeps (home_part (geometry_of store))).leaves was.region;
+  cached = subst (Agrees store.cache) (sym (keeps (home_part (geometry_of store))).gives) was.cached;
+  runs = was.runs;
+}
+  where
+    keeps : (part : Part) → KeepsPart part gives now left left_now
+    keeps part = record { gives = ap (inside part) same; leaves = λ x (c, may, is). (c, nothing c may, is) }
+
 -- the home half of a disk that keeps a volume
 home_of : {store : State} {v gives : List ℕ} {left : List ℕ → Type 0} (was : IsStored store v gives left) → IsHomeKept store v was.batches gives left
 home_of was = record { stands = was.stands; superblock = was.superblock; is_whole = was.is_whole; region = was.region; cached = was.cached; runs = was.runs }
@@ -220,3 +251,24 @@ module _ (store : State) (v : List ℕ) {gives home_gives log_gives : List ℕ} 
         region = one_batch batch (last_fits (geometry_of store).blocks batches batch (subst (λ (n : ℕ). AllFitIn n (batches ++ batch ∷ [])) of.blocks fit)) home.region;
         runs = home.runs;
       }
+
+-- what the halves hold, the one behind the other, means the old front and volume, or the new ones
+new_means : (store : State) (v : List ℕ) (batches : List Batch) (batch : Batch) (c : List ℕ) → IsOfSuperblock store → store.home.superblock.progress ≡ Whole → HoldsHome store v batches (take (border_of (geometry_of store)) c)
+    → HoldsBatches store.journal.blocks store.journal.before (batches ++ batch ∷ []) (inside store.journal.part c) → Means (meaning_after store v batch.front batch.images) c
+new_means store v batches batch c of whole home area =
+    let border = border_of (geometry_of store) in
+    let region = ap (λ (l : List ℕ). with_batches l batches) (sym (inside_below border (home_part (geometry_of store)) c (omega arith))) ∙ home.region in
+    subst (λ (n : ℕ). Means (record { slot = store.home.superblock.slot; incarnation = store.home.superblock.incarnation; geometry = geometry_of store; front = n; volume = with_images v batch.images }) c)
+    (last_front-push store.home.superblock.front batches batch)
+    (parts_mean store (with_images v batch.images) (batches ++ batch ∷ []) c of whole (holds_below border c (omega arith) home.superblock) area
+    (with_batches-push (inside (home_part (geometry_of store)) c) batches batch ∙ ap (λ (w : List ℕ). with_images w batch.images) region))
+
+pub halves_come : (store : State) (v : List ℕ) (batches : List Batch) (batch : Batch) (a x : List ℕ) → IsOfSuperblock store → store.home.superblock.progress ≡ Whole → store.journal.front ≡ last_front store.journal.before batches
+    → length a ≡ border_of (geometry_of store) → HoldsHome store v batches a → HoldsOldOrNew store.journal.blocks store.journal.before batches batch (inside (part_behind store.journal.part (border_of (geometry_of store))) x)
+    → Means (meaning_in store v) (a ++ x) ⊎ Means (meaning_after store v batch.front batch.images) (a ++ x)
+halves_come store v batches batch a x of whole front long home area =
+    let border = border_of (geometry_of store) in
+    let below = subst (HoldsHome store v batches) (sym (take_at a x border long)) home in
+    let same : inside (part_behind store.journal.part border) x ≡ inside store.journal.part (a ++ x) = ap (inside (part_behind store.journal.part border)) (sym (drop_at a x border long)) ∙ inside_journal store (a ++ x) of in
+    ⊎_elim (λ old. inl (halves_mean_old store v batches (a ++ x) of whole front below (subst (HoldsBatches store.journal.blocks store.journal.before batches) same old)))
+    (λ new. inr (new_means store v batches batch (a ++ x) of whole below (subst (HoldsBatches store.journal.blocks store.journal.before (batches ++ batch ∷ [])) same new))) area

@@ -75,7 +75,7 @@ pub all_fit : (blocks before : ℕ) (batches : List Batch) → AreBatches blocks
 all_fit blocks before [] are = All-nil _
 all_fit blocks before (batch ∷ batches) (is, are) = All-cons (λ (b : Batch). All (FitsIn blocks) b.images) batch batches (λ k d lt. (is.images.within k d lt, (is.whole k d lt).size)) (all_fit blocks batch.front batches are)
 
-last_front-push : (before : ℕ) (batches : List Batch) (batch : Batch) → last_front before (batches ++ batch ∷ []) ≡ batch.front
+pub last_front-push : (before : ℕ) (batches : List Batch) (batch : Batch) → last_front before (batches ++ batch ∷ []) ≡ batch.front
 last_front-push before [] batch = refl
 last_front-push before (first ∷ batches) batch = last_front-push first.front batches batch
 

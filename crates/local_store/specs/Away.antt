@@ -1,5 +1,5 @@
 -- A store whose log may be lent out: what it keeps, and what a stop may leave of it.
-use Rattle.std.specs.Prelude.{◌≡◌, ◌⊎◌, ℕ, ◌+◌, ◌-◌, ◌*◌, ◌<◌, ◌≤◌, Option, None, Some, Result, IfOk, List, [], All, length, map, take, drop}
+use Rattle.std.specs.Prelude.{◌≡◌, ◌⊎◌, ℕ, ◌+◌, ◌*◌, ◌<◌, ◌≤◌, Option, None, Some, Result, IfOk, List, [], All, length, map, take, drop}
 use Rattle.std.proofs.Common.{Box, Global, arith, refl, sym, ◌∙◌, ap, subst, inl, inr, ⊎_elim}
 use Rattle.disk_model.specs.Halves.{LeftBehind, inside_behind, inside_below}
 use Rattle.disk_model.specs.Part.{inside}
@@ -79,7 +79,7 @@ left_either None cut before A B C from c left = from c left
 left_either (Some l) cut before A B C from c (home, behind) = ⊎_elim (λ b. inl (b, behind)) (λ x. inr (x, behind)) (from (take (cut l) c) home)
 
 -- below the border the whole has the superblock that the home half has
-holds_below : {sb : Superblock} (border : ℕ) (c : List ℕ) → 8192 ≤ border → HoldsSuperblock sb (take border c) → HoldsSuperblock sb c
+pub holds_below : {sb : Superblock} (border : ℕ) (c : List ℕ) → 8192 ≤ border → HoldsSuperblock sb (take border c) → HoldsSuperblock sb c
 holds_below border c within holds = record {
   is = holds.is;
   payload = record {

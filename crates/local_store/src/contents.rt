@@ -1,5 +1,5 @@
 //! What a member's disk holds, as its store knows it. Each call is lent the disk.
-ghost use Rattle.std.specs.Prelude.{◌≡◌, ◌≢◌, ◌⊎◌, ◌+◌, ◌-◌, ◌*◌, ◌^◌, ◌<◌, ◌≤◌, ◌↔◌, ℕ, List, Some, None, true, false, length, take, drop, Any, replicate, set, IfOk, IfErr, IfNone, IfSome, OnOk, OnErr, IsErrOf, IsSome};
+ghost use Rattle.std.specs.Prelude.{◌≡◌, ◌≢◌, ◌⊎◌, ◌+◌, ◌-◌, ◌*◌, ◌^◌, ◌<◌, ◌≤◌, ◌↔◌, ℕ, List, Some, None, true, false, length, take, drop, All, Any, replicate, set, IfOk, IfErr, IfNone, IfSome, OnOk, OnErr, IsErrOf, IsSome};
 ghost use Rattle.disk_model.specs.Disk.{LeavesOnly, Only, put};
 ghost use Rattle.gate_journal.specs.Batch.{AreImages, Batch};
 ghost use Rattle.gate_journal.specs.Journal as journals;
@@ -16,6 +16,7 @@ ghost use Rattle.volume.specs.Writes.{block_of};
 ghost use Rattle.home_blocks.specs.Superblock.{marked};
 ghost use Rattle.local_store.specs.About.{HasNeighbours, HasNoRoom, HasRoom, IsWithoutRun, about_of};
 ghost use Rattle.local_store.specs.Lending.{HoldsHome, IsHomeKept, border_of};
+ghost use Rattle.local_store.specs.Away.{images_of};
 ghost use Rattle.local_store.specs.Meaning.{HasDamagedArea, IsUnfinished, Means};
 ghost use Rattle.local_store.specs.Overlay.{with_images};
 ghost use Rattle.local_store.specs.Pending.{AreCleared, held};
@@ -293,8 +294,48 @@ impl Contents {
         self.journal.front()
     }
 
+    /// Where the log half of its disk begins: with the first area.
+    pub(crate) fn border(&self) -> u64
+        ensures { result ≡ border_of (geometry_of self.now) }
+    {
+        area_part(self.geometry(), Area::First).start()
+    }
+
+    /// Its journal as the log half sees it.
+    pub(crate) fn twin(&self) -> Journal
+        ensures twin { result ≡ journals.behind_border self.now.journal (border_of (geometry_of self.now)) }
+        ensures blocks { result.blocks ≡ (geometry_of self.now).blocks }
+        ensures area { result.part.len ≡ (geometry_of self.now).area }
+        ensures within { border_of (geometry_of self.now) + (result.part.start + result.part.len) ≤ disk_size_of (geometry_of self.now) }
+        ensures runs { self.now.broken ≡ false → result.broken ≡ false }
+    {
+        self.journal.behind(self.border())
+    }
+
+    /// Has one batch more, which was journaled on the log half: its images are pending from now on. They are of blocks of
+    /// the volume, and the batch fits.
+    pub(crate) fn add(&mut self, front: u64, staged: Vec<Box<Image>>)
+        requires images { All (λ image. image.block < (geometry_of self.old).blocks) (images_of staged.items) }
+        requires fits { journals.Fits self.old.journal (length staged.items) }
+        requires limit { front ≤ MAX_NUMBER }
+        ensures ok { self.new ≡ committed self.old front (images_of staged.items) }
+        ensures pends { (b : ℕ) → IsPending self.new.pending b ↔ (IsPending self.old.pending b ⊎ Any (λ image. image.block ≡ b) (images_of staged.items)) }
+    {
+        // What fits is fewer than 2^32.
+        let _room = self.journal.room();
+        self.journal.note(front, staged.len() as u32);
+        self.pending.keep(staged);
+    }
+
+    /// Is broken from now on: a device call failed in the log half.
+    pub(crate) fn give_up(&mut self)
+        ensures { self.new ≡ record self.old { broken = true } }
+    {
+        self.broken = true;
+    }
+
     /// Whether a commit of so many images may go on.
-    fn may_commit(&self, front: u64, count: usize) -> Result<(), Refusal>
+    pub(crate) fn may_commit(&self, front: u64, count: usize) -> Result<(), Refusal>
         requires { 0 < count }
         ensures runs { OnOk result ((self.now.broken ≡ false) × (self.now.journal.front < front)) }
         ensures fits { OnOk result (¬ HasNoRoom (about_of self.now) count) }

@@ -1,5 +1,5 @@
 //! A commit as a value of its own: it owns the log half of its disk, so it may be journaled while its store goes on.
-ghost use Rattle.std.specs.Prelude.{◌≡◌, ◌+◌, ◌<◌, ◌≤◌, ◌++◌, ◌∷◌, [], List, false, length, IfOk, IfErr, OnOk, OnErr, IsErrOf};
+ghost use Rattle.std.specs.Prelude.{◌≡◌, ◌+◌, ◌<◌, ◌≤◌, ◌↔◌, ◌++◌, ◌∷◌, [], List, false, length, IfOk, IfErr, OnOk, OnErr, IsErrOf, IsTrue};
 ghost use Rattle.disk_model.specs.Disk.{LeavesOnly};
 ghost use Rattle.disk_model.specs.Part.{inside};
 ghost use Rattle.gate_journal.specs.Batch.{AreImages, Batch, HoldsOldOrNew};
@@ -9,7 +9,7 @@ ghost use Rattle.gate_journal.specs.declared.batch.TheConstants.{MAX_NUMBER};
 ghost use Rattle.local_store.specs.Refusal.{IsOfJournaling, journaled_once};
 
 use disk_model::Disk;
-use gate_journal::{Image, Journal, MAX_NUMBER, Refusal, Synced};
+use gate_journal::{Image, Journal, MAX_NUMBER, Refusal, Slot, Synced};
 use std::alloc::Global;
 
 /// A commit that is to be journaled. Its journal stands in a part of the log half, counted from the half's beginning.
@@ -69,6 +69,18 @@ impl<L: Disk> CommitWork<L> {
             log,
             journal,
             outcome,
+        }
+    }
+}
+
+impl<L: Disk> Journaled<L> {
+    /// Whether its receipt, if it has one, is of this slot and front.
+    pub(crate) fn is_of(&self, slot: Slot, front: u64) -> bool
+        ensures { IsTrue result ↔ IfOk self.now.outcome (λ receipt. receipt ≡ record { slot = slot; front = front }) }
+    {
+        match &self.outcome {
+            Ok(receipt) => receipt.slot() == slot && receipt.front() == front,
+            Err(_) => true,
         }
     }
 }

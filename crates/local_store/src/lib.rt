@@ -11,6 +11,7 @@ mod contents;
 mod given;
 mod installer;
 mod laws;
+mod lend;
 mod lending;
 mod lending_store;
 mod lent;
@@ -23,7 +24,7 @@ mod store_like;
 
 pub use contents::Contents;
 pub use installer::Installer;
-pub use laws::{batches_go_over, disks_mean_one, meanings_are_opened};
+pub use laws::{batches_go_over, disks_mean_one, halves_mean, meanings_are_opened};
 pub use lending::{CommitWork, Journaled};
 pub use lending_store::LendingStore;
 pub use plain::PlainStore;

@@ -1,4 +1,4 @@
-use Rattle.local_store.proofs.Away.{kept_here, none_is, owned_with, stored_here}
+use Rattle.local_store.proofs.Away.{none_is, owned_with, stored_here}
 use Rattle.local_store.proofs.lending_store.LendingStoreStoreLike.checkpoint.Goals as goal
 
 pub returns-clause-any_moment : goal.returns-clause-any_moment

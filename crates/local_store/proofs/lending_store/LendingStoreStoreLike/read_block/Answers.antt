@@ -1,7 +1,6 @@
 use Rattle.std.proofs.Common.{IsNone, refl, sym, ◌∙◌}
-use Rattle.std.proofs.lemmas.Result.{on_ok_weaker}
 use Rattle.volume.specs.Writes.{block_of}
-use Rattle.local_store.proofs.Away.{has_border, keeps_still, kept_here, leaves_still, none_is, owned_with, read_still, still_away, still_here, stored_here}
+use Rattle.local_store.proofs.Away.{has_border, keeps_still, leaves_still, none_is, owned_with, read_still, still_away, still_here, stored_here}
 use Rattle.local_store.proofs.Stored.{reads_leave}
 use Rattle.local_store.proofs.lending_store.LendingStoreStoreLike.read_block.Goals as goal
 

@@ -1,0 +1,53 @@
+use Rattle.std.proofs.Common.{◌≤◌, ◌<◌, ℕ, List, ◌∙◌, ap, length, refl, subst, sym}
+use Rattle.std.specs.Prelude.{All}
+use Rattle.std.proofs.Math.Nat.{le_refl}
+use Rattle.std.proofs.lemmas.Bool.{both_ways}
+use Rattle.disk_model.specs.Halves.{AreHalves}
+use Rattle.gate_journal.specs.Journal as journal
+use Rattle.gate_journal.specs.Journal.{IsSettled}
+use Rattle.gate_journal.specs.declared.batch.Image.{Image}
+use Rattle.home_blocks.specs.Places.{disk_size_of}
+use Rattle.local_store.specs.Away.{IsKeptOver, IsLent, batch_in}
+use Rattle.local_store.specs.Store.{geometry_of}
+use Rattle.local_store.proofs.Away.{for_some, has_room, lent_over, lent_settled, stored_untouched}
+use Rattle.local_store.proofs.lending_store.LendingStore.lend_commit.Goals as goal
+
+pub returns-in-Err-clause-unchanged : goal.returns-in-Err-clause-unchanged
+returns-in-Err-clause-unchanged g c = λ keeps v was. let same = c.in-Err.ensures.unlent keeps in stored_untouched same.shown same.leaves was
+
+pub invariant_of-self-2 : goal.invariant_of-self-2
+invariant_of-self-2 g c =
+    let s = c.args.self.now in
+    let border = c.border-border.ensures in
+    let staged = c.in_ok-staged.ensures in
+    record {
+      here = λ here. absurd (both_ways _ here refl);
+      away = for_some _ (λ l. IsLent s.contents (g.D.Disk.size c.lend_log.new.self) (g.D.HalvedDisk.cut_at l.past) (g.D.HalvedDisk.whole l.past) l.len (batch_in l)) (record {
+        home = c.in-Ok.ensures.home ∙ border;
+        cut = c.in-Ok.ensures.sizes.0 ∙ border;
+        whole = c.in-Ok.ensures.sizes.1 ∙ sym c.len-len.ensures;
+        room = subst (λ (n : ℕ). disk_size_of (geometry_of s.contents) ≤ n) (sym c.len-len.ensures) (s.here c.requires.here);
+        within = subst (λ (images : List Image). All (λ image. image.block < (geometry_of s.contents).blocks) images) (sym staged) c.requires.images.within;
+        limit = c.requires.limit;
+        fits = has_room s.contents _ _ c.in_ok-may_commit.ensures.fits (ap (λ (l : List Image). length l) staged) (sym (ap (λ (j : journal.State). j.part.len) c.twin-journal.ensures.twin) ∙ c.twin-journal.ensures.area);
+      });
+    }
+
+pub returns-clause-log : goal.returns-clause-log
+returns-clause-log g c = λ keeps v was.
+    let s = c.args.self.now in
+    let home = c.lend_log.new.self in
+    let log = c.in-Ok.lent.0 in
+    let past = c.in-Ok.lent.1 in
+    let border = c.border-border.ensures in
+    let size = c.in-Ok.ensures.home ∙ border in
+    let halves = subst (λ (n : ℕ). AreHalves n (g.D.Disk.gives s.disk) (g.D.Disk.gives home) (g.D.Log.Disk.gives log) (g.D.Disk.may_leave_now s.disk) (g.D.Disk.may_leave_now home) (g.D.Log.Disk.may_leave_now log)) border (c.in-Ok.ensures.halves keeps) in
+    let long = g.met.D.Disk.gives_size keeps home ∙ size in
+    let before = c.in-Ok.ensures.past keeps in (
+      was.batches,
+      subst (λ (j : journal.State). IsSettled j was.batches (g.D.Log.Disk.gives log) (g.D.Log.Disk.may_leave_now log)) (sym c.twin-journal.ensures.twin) (lent_settled s.contents v halves long (g.met.D.Disk.leaves_gives keeps home) was),
+      for_some _ (λ l. IsKeptOver s.contents v was.batches (g.D.Disk.gives home) (g.D.Disk.may_leave_now home) (g.D.HalvedDisk.left_before l.past (g.D.HalvedDisk.until l.past)))
+          (lent_over s.contents v halves long (λ a left. g.met.D.Disk.leaves_size keeps home a left ∙ size) (g.met.D.Log.Disk.leaves_gives (g.met.D.HalvedDisk.log_keeps keeps) log)
+          (g.D.HalvedDisk.left_before past (g.D.HalvedDisk.until past))
+          (λ d may. g.met.D.Disk.only_now keeps s.disk d (before.nothing_else (g.D.Disk.moment s.disk) d (le_refl (g.D.Disk.moment s.disk)) (subst (λ (n : ℕ). g.D.HalvedDisk.left_before past n d) before.at may))) was),
+    )

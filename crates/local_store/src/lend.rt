@@ -1,0 +1,153 @@
+//! How a store lends its log out, with a commit that is to be journaled, and takes it back.
+ghost use Rattle.std.specs.Prelude.{◌≡◌, ◌≢◌, ◌⊎◌, ◌+◌, ◌<◌, ◌≤◌, ◌↔◌, ◌++◌, ◌∷◌, [], ℕ, List, true, false, length, max, Any, IfOk, IfErr, OnOk, OnErr, IsErrOf, IsNone, IsSome, IfSome, IsTrue};
+ghost use Rattle.std.specs.Option.{ForSome};
+ghost use Rattle.flusher.specs.Plan.{IsPending};
+ghost use Rattle.gate_journal.specs.Batch.{AreImages, Batch};
+ghost use Rattle.gate_journal.specs.Journal.{IsSettled, appended, behind_border};
+ghost use Rattle.local_store.specs.About.{HasNoRoom, about_of};
+ghost use Rattle.local_store.specs.Lending.{border_of};
+ghost use Rattle.local_store.specs.Away.{IsKeptOver, IsLogOf, batch_of};
+ghost use Rattle.local_store.specs.Overlay.{with_images};
+ghost use Rattle.local_store.specs.Refusal.{IsOfCommitting, IsOfDevice};
+ghost use Rattle.local_store.specs.Store.{IsStored, committed, geometry_of};
+
+use crate::lending::{CommitWork, Journaled};
+use crate::lent::Lent;
+use crate::pending::stage;
+use crate::refusal::Refusal;
+use crate::lending_store::LendingStore;
+use disk_model::{Disk, HalvedDisk};
+use gate_journal::{Image, MAX_NUMBER, Synced};
+use std::alloc::Global;
+
+impl<D: HalvedDisk + Drop> LendingStore<D> {
+    /// Lends out the log, with a commit that is to be journaled on it: whole blocks are to be put into the volume, as by
+    /// `commit`. The images are at least one, each of a block of the volume, no block twice; the front is at most 2^63 - 1;
+    /// the log is there. Until the log is back, the store reads and ticks on its home half alone, at the old front.
+    ///
+    /// 122 `Broken` exactly where a device call failed before; else 134 `Backwards` exactly where the front isn't above the
+    /// old one; else 121 `Full` exactly where the batch doesn't fit into the area; else 100 `Memory`: these change nothing.
+    pub fn lend_commit(
+        &mut self,
+        alloc: Global,
+        front: u64,
+        images: &[Image],
+    ) -> Result<CommitWork<D::Log>, Refusal>
+        requires images { AreImages (geometry_of self.old.contents).blocks images.now }
+        requires limit { front ≤ MAX_NUMBER }
+        requires here { IsNone self.old.lent }
+
+        ensures front { IfOk result (λ work. work.front ≡ front) }
+        ensures images { IfOk result (λ work. work.images.items ≡ images.now) }
+        ensures journal { IfOk result (λ work. work.journal ≡ behind_border self.old.contents.journal (border_of (geometry_of self.old.contents))) }
+        ensures size { IfOk result (λ work. border_of (geometry_of self.old.contents) + D.Log.size work.log ≡ D.size self.old.disk) }
+        ensures lent { OnOk result (IsSome self.new.lent) }
+        ensures batch { OnOk result (batch_of self.new.lent ≡ record { front = front; images = images.now }) }
+        ensures same { self.new.contents ≡ self.old.contents }
+
+        // Of some batches, the journal is settled on them, and the store keeps its volume over them.
+        ensures log { D.keeps_model → (volume : List ℕ) → IsStored self.old.contents volume (D.gives self.old.disk) (D.may_leave_now self.old.disk)
+            → IfOk result (λ work. (batches : List Batch) × IsSettled work.journal batches (D.Log.gives work.log) (D.Log.may_leave_now work.log)
+            × ForSome self.new.lent (λ l. IsKeptOver self.new.contents volume batches (D.gives self.new.disk) (D.may_leave_now self.new.disk) (D.left_before l.past (D.until l.past)))) }
+        ensures failures { (D.failures self.new.disk ≡ D.failures self.old.disk) × IfOk result (λ work. D.Log.failures work.log ≡ D.failures self.old.disk) }
+
+        ensures broken { IsErrOf result Refusal.Broken ↔ (self.old.contents.broken ≡ true) }
+        ensures backwards { IsErrOf result Refusal.Backwards ↔ ((self.old.contents.broken ≡ false) × (front ≤ self.old.contents.journal.front)) }
+        ensures full { IsErrOf result Refusal.Full ↔ ((self.old.contents.broken ≡ false) × (self.old.contents.journal.front < front) × HasNoRoom (about_of self.old.contents) (length images.now)) }
+        ensures told { IfErr result IsOfCommitting }
+        ensures own { IfErr result (λ r. ¬ IsOfDevice r) }
+        ensures here { OnErr result (IsNone self.new.lent) }
+        ensures unchanged { D.keeps_model → (volume : List ℕ) → IsStored self.old.contents volume (D.gives self.old.disk) (D.may_leave_now self.old.disk)
+            → OnErr result (IsStored self.new.contents volume (D.gives self.new.disk) (D.may_leave_now self.new.disk)) }
+    {
+        self.contents.may_commit(front, images.len())?;
+        let staged = stage(alloc, images)?;
+        let images = Vec::from_slice(alloc, images)?;
+        let border = self.contents.border();
+        let len = self.disk.len();
+        let (log, past) = match self.disk.lend_log(border) {
+            Ok(lent) => lent,
+            Err(_) => return Err(Refusal::Memory),
+        };
+        let journal = self.contents.twin();
+        self.lent = Some(Lent {
+            past,
+            len,
+            front,
+            staged,
+        });
+        Ok(CommitWork {
+            log,
+            journal,
+            front,
+            images,
+        })
+    }
+
+    /// Whether this is the log that was lent, with its commit done or refused: a log is lent, this one is as long, and a
+    /// receipt is of the member's slot and the front that was to be journaled.
+    pub fn is_log_of(&self, done: &Journaled<D::Log>) -> bool
+        ensures { IsTrue result ↔ (IsSome self.now.lent × IfSome self.now.lent (λ l. IsLogOf self.now.contents l (D.Log.size done.now.log) done.now.outcome)) }
+    {
+        let Some(lent) = &self.lent else {
+            return false;
+        };
+        let is_as_long = lent.len - self.contents.border() == done.log.len();
+        is_as_long && done.is_of(self.contents.slot(), lent.front)
+    }
+
+    /// Takes the log back. Where its commit was journaled, the store has the new front and volume, and the receipt is
+    /// handed on.
+    ///
+    /// 122 `Broken` exactly where a device call of the store failed meanwhile; else 100 `Memory`, as the commit was refused:
+    /// the store is at its old front; else what the device refused: then the store is broken, and the disk means the old
+    /// front or the new.
+    pub fn finish_commit(&mut self, done: Journaled<D::Log>) -> Result<Synced, Refusal>
+        requires lent { IsSome self.old.lent }
+        requires log { IfSome self.old.lent (λ l. IsLogOf self.old.contents l (D.Log.size done.log) done.outcome) }
+
+        ensures back { IsNone self.new.lent }
+        ensures receipt { IfOk result (λ receipt. receipt ≡ record { slot = self.old.contents.home.superblock.slot; front = (batch_of self.old.lent).front }) }
+        ensures ok { OnOk result (self.new.contents ≡ committed self.old.contents (batch_of self.old.lent).front (batch_of self.old.lent).images) }
+        ensures pends { OnOk result ((b : ℕ) → IsPending self.new.contents.pending b ↔ (IsPending self.old.contents.pending b ⊎ Any (λ image. image.block ≡ b) (batch_of self.old.lent).images)) }
+        ensures kept { D.keeps_model → (batches : List Batch) (volume : List ℕ)
+            → ForSome self.old.lent (λ l. IsKeptOver self.old.contents volume batches (D.gives self.old.disk) (D.may_leave_now self.old.disk) (D.left_before l.past (D.until l.past)))
+            → IsSettled (appended (behind_border self.old.contents.journal (border_of (geometry_of self.old.contents))) (batch_of self.old.lent).front (length (batch_of self.old.lent).images))
+            (batches ++ batch_of self.old.lent ∷ []) (D.Log.gives done.log) (D.Log.may_leave_now done.log)
+            → OnOk result (IsStored self.new.contents (with_images volume (batch_of self.old.lent).images) (D.gives self.new.disk) (D.may_leave_now self.new.disk)) }
+
+        ensures broken { IsErrOf result Refusal.Broken ↔ (self.old.contents.broken ≡ true) }
+        ensures memory { IsErrOf result Refusal.Memory → self.new.contents ≡ self.old.contents }
+        ensures kept_old { D.keeps_model → (batches : List Batch) (volume : List ℕ)
+            → ForSome self.old.lent (λ l. IsKeptOver self.old.contents volume batches (D.gives self.old.disk) (D.may_leave_now self.old.disk) (D.left_before l.past (D.until l.past)))
+            → IsSettled (behind_border self.old.contents.journal (border_of (geometry_of self.old.contents))) batches (D.Log.gives done.log) (D.Log.may_leave_now done.log)
+            → IsErrOf result Refusal.Memory → IsStored self.new.contents volume (D.gives self.new.disk) (D.may_leave_now self.new.disk) }
+        ensures err { IfErr result (λ r. r ≢ Refusal.Memory → self.new.contents ≡ record self.old.contents { broken = true }) }
+        ensures told { IfErr result IsOfCommitting }
+        ensures failures { D.failures self.new.disk ≡ max (D.failures self.old.disk) (D.Log.failures done.log) }
+    {
+        let Some(lent) = self.lent.take() else {
+            return Err(Refusal::Broken);
+        };
+        let Journaled {
+            log,
+            journal: _,
+            outcome,
+        } = done;
+        self.disk.return_log(log, lent.past);
+        if self.contents.is_broken() {
+            return Err(Refusal::Broken);
+        }
+        match outcome {
+            Ok(receipt) => {
+                self.contents.add(lent.front, lent.staged);
+                Ok(receipt)
+            }
+            Err(gate_journal::Refusal::Memory) => Err(Refusal::Memory),
+            Err(refusal) => {
+                self.contents.give_up();
+                Err(Refusal::from(refusal))
+            }
+        }
+    }
+}
