@@ -2,6 +2,7 @@ mod ArmedSteps
 mod Away
 mod Boxes
 mod Changing
+mod Counts
 mod HomeHalf
 mod Homes
 mod Installing

@@ -1,5 +1,5 @@
 -- What is in a journal area and not yet home.
-use Rattle.std.specs.Prelude.{◌≡◌, ℕ, ◌+◌, ◌*◌, ◌<◌, true, Option, Some, None, List, length, fold, set, slice_index_or}
+use Rattle.std.specs.Prelude.{◌≡◌, ℕ, ◌+◌, ◌*◌, ◌<◌, true, Option, Some, None, List, length, fold, set, count_by, is_some, slice_index_or}
 use Rattle.flusher.specs.Plan.{IsWithin}
 use Rattle.gate_journal.specs.Batch.{Batch}
 use Rattle.gate_journal.specs.declared.batch.Image.{Image}
@@ -9,6 +9,10 @@ use Rattle.volume.specs.Writes.{block_of}
 -- the pending image of a block, if there is one
 abbrev pub held : List (Option (List ℕ)) → ℕ → Option (List ℕ)
 held pending block = slice_index_or pending block None
+
+-- how many images are pending
+abbrev pub count_pending : List (Option (List ℕ)) → ℕ
+count_pending pending = count_by is_some pending
 
 -- with these images pending
 abbrev pub with_pending : List (Option (List ℕ)) → List Image → List (Option (List ℕ))

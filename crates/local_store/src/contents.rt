@@ -19,7 +19,7 @@ ghost use Rattle.local_store.specs.Lending.{HoldsHome, IsHomeKept, border_of};
 ghost use Rattle.local_store.specs.Away.{images_of};
 ghost use Rattle.local_store.specs.Meaning.{HasDamagedArea, IsUnfinished, Means};
 ghost use Rattle.local_store.specs.Overlay.{with_images};
-ghost use Rattle.local_store.specs.Pending.{AreCleared, held};
+ghost use Rattle.local_store.specs.Pending.{AreCleared, count_pending, held};
 ghost use Rattle.local_store.specs.Refusal.{HasCause, IsCaused, IsOfCheckpoint, IsOfCommitting, IsOfDevice, IsOfFormatting, IsOfOpening, IsOfReading, IsOfTicking, IsOfTickingRun};
 ghost use Rattle.local_store.specs.Store.{IsAllHome, IsEmptied, IsFreshJournal, IsOfSuperblock, IsSameButForPending, IsStored, State, committed, geometry_of, meaning_after, meaning_in, with_home};
 
@@ -76,6 +76,7 @@ impl Contents {
         ensures about { IfOk result (λ s. about_of s ≡ record { slot = slot; incarnation = incarnation; geometry = geometry; front = 0; used = 0; stores = 1; broken = false; lent = false }) }
         ensures stored { D.keeps_model → IfOk result (λ s. IsStored s (replicate (4096 * geometry.blocks) 0) (D.gives disk.new) (D.may_leave_now disk.new)) }
         ensures size { D.size disk.new ≡ D.size disk.old }
+        ensures calls { D.calls_made disk.new ≤ D.calls_made disk.old + geometry.blocks + 14 }
         ensures told { IfErr result IsOfFormatting }
         ensures unchanged { IsErrOf result Refusal.Memory → disk.new ≡ disk.old }
         ensures cause { HasCause (D.failures disk.old) (D.failures disk.new) result }
@@ -183,6 +184,7 @@ impl Contents {
         ensures pending { IsSome (held self.old.pending block) → disk.new ≡ disk.old }
         ensures same { IsSameButForPending self.old self.new }
         ensures size { D.size disk.new ≡ D.size disk.old }
+        ensures calls { D.calls_made disk.new ≤ D.calls_made disk.old + 1 }
         ensures broken { IsErrOf result Refusal.Broken ↔ (self.old.broken ≡ true) }
         ensures told { IfErr result IsOfReading }
         ensures err { OnErr result (self.new ≡ record self.old { cache = self.new.cache; broken = true }) }
@@ -233,6 +235,7 @@ impl Contents {
             → LeavesOnly D.moment D.may_have_left_since disk.old disk.new (HoldsHome self.old volume batches) }
         ensures same { IsSameButForPending self.old self.new }
         ensures size { D.size disk.new ≡ D.size disk.old }
+        ensures calls { D.calls_made disk.new ≤ D.calls_made disk.old + 1 }
         ensures broken { IsErrOf result Refusal.Broken ↔ (self.old.broken ≡ true) }
         ensures told { IfErr result IsOfReading }
         ensures err { OnErr result (self.new ≡ record self.old { broken = true }) }
@@ -387,6 +390,7 @@ impl Contents {
             → LeavesOnly D.moment D.may_have_left_since disk.old disk.new
             (λ c. Means (meaning_in self.old volume) c ⊎ Means (meaning_after self.old volume front images.now) c) }
         ensures size { D.size disk.new ≡ D.size disk.old }
+        ensures calls { D.calls_made disk.new ≤ D.calls_made disk.old + 4 }
 
         ensures broken { IsErrOf result Refusal.Broken ↔ (self.old.broken ≡ true) }
         ensures backwards { IsErrOf result Refusal.Backwards ↔ ((self.old.broken ≡ false) × (front ≤ self.old.journal.front)) }
@@ -433,6 +437,7 @@ impl Contents {
             → LeavesOnly D.moment D.may_have_left_since disk.old disk.new (HoldsHome self.old volume batches) }
         ensures same { IsSameButForPending self.old self.new }
         ensures size { D.size disk.new ≡ D.size disk.old }
+        ensures calls { D.calls_made disk.new ≤ D.calls_made disk.old + 1 }
         ensures broken { IsErrOf result Refusal.Broken ↔ (self.old.broken ≡ true) }
         ensures told { IfErr result IsOfTicking }
         ensures unchanged { IfErr result (λ r. ¬ IsOfDevice r → (self.new ≡ self.old) × (disk.new ≡ disk.old) × (plan.new ≡ plan.old)) }
@@ -476,6 +481,8 @@ impl Contents {
         ensures home_moment { D.keeps_model → (volume : List ℕ) (batches : List Batch) → IsHomeKept self.old volume batches (D.gives disk.old) (D.may_leave_now disk.old)
             → LeavesOnly D.moment D.may_have_left_since disk.old disk.new (HoldsHome self.old volume batches) }
         ensures size { D.size disk.new ≡ D.size disk.old }
+        ensures calls { D.calls_made disk.new ≤ D.calls_made disk.old + 1 }
+        ensures pays { OnOk result (D.calls_made disk.new + count_pending self.new.pending ≤ D.calls_made disk.old + count_pending self.old.pending) }
         ensures told { IfErr result IsOfTicking }
         ensures own { IfErr result IsOfDevice }
         ensures err { OnErr result (self.new ≡ record self.old { cache = self.new.cache; broken = true }) }
@@ -529,6 +536,7 @@ impl Contents {
             → LeavesOnly D.moment D.may_have_left_since disk.old disk.new (HoldsHome self.old volume batches) }
         ensures same { IsSameButForPending self.old self.new }
         ensures size { D.size disk.new ≡ D.size disk.old }
+        ensures calls { D.calls_made disk.new ≤ D.calls_made disk.old + 1 }
         ensures broken { IsErrOf result Refusal.Broken ↔ (self.old.broken ≡ true) }
         ensures memory { IsErrOf result Refusal.Memory → (1 < most) × HasNeighbours (IsPending self.old.pending) }
         ensures told { IfErr result IsOfTickingRun }
@@ -584,6 +592,7 @@ impl Contents {
         ensures home_moment { D.keeps_model → (volume : List ℕ) (batches : List Batch) → IsHomeKept self.old volume batches (D.gives disk.old) (D.may_leave_now disk.old)
             → LeavesOnly D.moment D.may_have_left_since disk.old disk.new (HoldsHome self.old volume batches) }
         ensures size { D.size disk.new ≡ D.size disk.old }
+        ensures calls { D.calls_made disk.new ≤ D.calls_made disk.old + 1 }
         ensures memory { IsErrOf result Refusal.Memory → 1 < run.count }
         ensures runs { ¬ IsErrOf result Refusal.Broken }
         ensures told { IfErr result IsOfTickingRun }
@@ -619,6 +628,7 @@ impl Contents {
         ensures home_moment { D.keeps_model → (volume : List ℕ) (batches : List Batch) → IsHomeKept self.old volume batches (D.gives disk.old) (D.may_leave_now disk.old)
             → LeavesOnly D.moment D.may_have_left_since disk.old disk.new (HoldsHome self.old volume batches) }
         ensures size { D.size disk.new ≡ D.size disk.old }
+        ensures calls { D.calls_made disk.new ≤ D.calls_made disk.old + 1 }
         ensures runs { ¬ IsErrOf result Refusal.Broken }
         ensures told { IfErr result IsOfTickingRun }
         ensures unchanged { IfErr result (λ r. ¬ IsOfDevice r → (self.new ≡ self.old) × (disk.new ≡ disk.old)) }
@@ -653,6 +663,7 @@ impl Contents {
         ensures any_moment { D.keeps_model → (volume : List ℕ) → IsStored self.old volume (D.gives disk.old) (D.may_leave_now disk.old)
             → LeavesOnly D.moment D.may_have_left_since disk.old disk.new (Means (meaning_in self.old volume)) }
         ensures size { D.size disk.new ≡ D.size disk.old }
+        ensures calls { D.calls_made disk.new ≤ D.calls_made disk.old + count_pending self.old.pending + 9 }
 
         ensures broken { IsErrOf result Refusal.Broken ↔ (self.old.broken ≡ true) }
         ensures full { IsErrOf result Refusal.Full ↔ ((self.old.broken ≡ false) × (self.old.home.pair.number ≡ MAX_NUMBER)) }
@@ -682,6 +693,8 @@ impl Contents {
         ensures any_moment { D.keeps_model → (volume : List ℕ) → IsStored self.old volume (D.gives disk.old) (D.may_leave_now disk.old)
             → LeavesOnly D.moment D.may_have_left_since disk.old disk.new (Means (meaning_in self.old volume)) }
         ensures size { D.size disk.new ≡ D.size disk.old }
+        ensures calls { D.calls_made disk.new ≤ D.calls_made disk.old + count_pending self.old.pending + 1 }
+        ensures pays { OnOk result (D.calls_made disk.new ≤ D.calls_made disk.old + count_pending self.old.pending) }
         ensures told { IfErr result IsOfTicking }
         ensures own { IfErr result IsOfDevice }
         ensures err { OnErr result (self.new ≡ record self.old { pending = self.new.pending; cache = self.new.cache; broken = true }) }
@@ -707,6 +720,7 @@ impl Contents {
         ensures any_moment { D.keeps_model → (volume : List ℕ) → IsStored self.old volume (D.gives disk.old) (D.may_leave_now disk.old)
             → LeavesOnly D.moment D.may_have_left_since disk.old disk.new (Means (meaning_in self.old volume)) }
         ensures size { D.size disk.new ≡ D.size disk.old }
+        ensures calls { D.calls_made disk.new ≤ D.calls_made disk.old + 9 }
         ensures told { IfErr result IsOfCheckpoint }
         ensures own { IfErr result IsOfDevice }
         ensures err { OnErr result ((self.new.broken ≡ true) × IsSameButForPending self.old self.new) }
@@ -753,6 +767,7 @@ fn other_area<D: Disk>(home: &mut Home, disk: &mut D, front: u64) -> Result<Jour
         → IsStored (record store { home = home.old }) volume (D.gives disk.old) (D.may_leave_now disk.old)
         → LeavesOnly D.moment D.may_have_left_since disk.old disk.new (Means (meaning_in (record store { home = home.old }) volume)) }
     ensures size { D.size disk.new ≡ D.size disk.old }
+    ensures calls { D.calls_made disk.new ≤ D.calls_made disk.old + 9 }
     ensures told { IfErr result IsOfCheckpoint }
     ensures own { IfErr result IsOfDevice }
     ensures cause { HasCause (D.failures disk.old) (D.failures disk.new) result }
@@ -772,6 +787,7 @@ fn write_zeros<D: Disk>(disk: &mut D, geometry: Geometry) -> Result<(), Refusal>
     requires on_disk { disk_size_of geometry ≤ D.size disk.old }
     ensures zeros { D.keeps_model → OnOk result (inside (places.home_part geometry) (D.gives disk.new) ≡ replicate (4096 * geometry.blocks) 0) }
     ensures size { D.size disk.new ≡ D.size disk.old }
+    ensures calls { D.calls_made disk.new ≤ D.calls_made disk.old + geometry.blocks }
     ensures told { IfErr result IsOfTicking }
     ensures own { IfErr result IsOfDevice }
     ensures cause { HasCause (D.failures disk.old) (D.failures disk.new) result }

@@ -23,6 +23,7 @@ pub(crate) fn read_blocks<D: Disk>(
     ensures read { D.keeps_model → OnOk result (bytes.new ≡ take (length bytes.old) (drop (4096 * first) (inside (places.home_part home.now.superblock.geometry) (D.gives disk.old)))) }
     ensures reads { D.keeps_model → OnlyReads D.gives D.may_leave_now D.moment D.may_have_left_since disk.old disk.new }
     ensures size { D.size disk.new ≡ D.size disk.old }
+    ensures calls { D.calls_made disk.new ≤ D.calls_made disk.old + 1 }
     ensures cause { HasCause DiskError.ReadFault (D.failures disk.old) (D.failures disk.new) result }
 {
     let part = home_part(home.superblock().geometry());
@@ -50,6 +51,7 @@ pub(crate) fn write_home<D: Disk>(
     ensures time { D.keeps_model → Elapses (D.moment disk.old) (D.moment disk.new)
         (D.may_have_left_since disk.old) (D.may_have_left_since disk.new) (D.may_leave_now disk.new) }
     ensures size { D.size disk.new ≡ D.size disk.old }
+    ensures calls { D.calls_made disk.new ≤ D.calls_made disk.old + 1 }
     ensures cause { HasCause DiskError.WriteFault (D.failures disk.old) (D.failures disk.new) result }
 {
     write_run(home, disk, block, bytes)
@@ -76,6 +78,7 @@ pub(crate) fn write_run<D: Disk>(
     ensures time { D.keeps_model → Elapses (D.moment disk.old) (D.moment disk.new)
         (D.may_have_left_since disk.old) (D.may_have_left_since disk.new) (D.may_leave_now disk.new) }
     ensures size { D.size disk.new ≡ D.size disk.old }
+    ensures calls { D.calls_made disk.new ≤ D.calls_made disk.old + 1 }
     ensures cause { HasCause DiskError.WriteFault (D.failures disk.old) (D.failures disk.new) result }
 {
     let part = home_part(home.superblock().geometry());

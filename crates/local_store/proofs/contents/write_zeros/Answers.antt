@@ -8,11 +8,12 @@ use Rattle.local_store.proofs.contents.write_zeros.Goals as goal
 
 pub loop-block-preserved : goal.loop-block-preserved
 loop-block-preserved g c =
-    let (size, failures, most, zeros) = c.loop-block.invariant in
+    let (size, failures, most, calls, zeros) = c.loop-block.invariant in
     let done = c.in_ok-write_at.ensures in (
       c.write_at.ensures.size ∙ size,
       done.cause.done ∙ failures,
       omega (arith, most, c.write_at.ensures.most),
+      omega (arith, calls, c.write_at.ensures.calls),
       λ keeps.
           let long = length-home c.args.geometry (g.D.Disk.gives c.loop-block.disk) (omega (arith, c.requires.on_disk, size, g.met.D.Disk.gives_size keeps c.loop-block.disk)) in
           zero_next c.args.geometry.blocks c.loop-block.block (inside (home_part c.args.geometry) (g.D.Disk.gives c.loop-block.disk)) (inside (home_part c.args.geometry) (g.D.Disk.gives c.write_at.new.disk)) long c.loop-block-test.true
@@ -23,6 +24,6 @@ loop-block-preserved g c =
 
 pub returns-clause-zeros : goal.returns-clause-zeros
 returns-clause-zeros g c = λ keeps.
-    let (size, failures, most, zeros) = c.loop-block.invariant in
+    let (size, failures, most, calls, zeros) = c.loop-block.invariant in
     let long = length-home c.args.geometry (g.D.Disk.gives c.loop-block.disk) (omega (arith, c.requires.on_disk, size, g.met.D.Disk.gives_size keeps c.loop-block.disk)) in
     all_zero c.args.geometry.blocks (inside (home_part c.args.geometry) (g.D.Disk.gives c.loop-block.disk)) long (λ b below. zeros keeps b (omega (arith, below, c.loop-block-test.false)))

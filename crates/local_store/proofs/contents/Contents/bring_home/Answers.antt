@@ -7,6 +7,8 @@ use Rattle.local_store.specs.Meaning.{Means}
 use Rattle.local_store.specs.Store.{IsStored, State, geometry_of, meaning_in}
 use Rattle.local_store.proofs.Stored.{at_rest, tick_keeps, tick_leaves}
 use Rattle.local_store.specs.Lending.{HoldsHome, IsHomeKept}
+use Rattle.local_store.specs.Pending.{count_pending}
+use Rattle.local_store.proofs.Counts.{one_less}
 use Rattle.local_store.proofs.HomeHalf.{home_at_rest, home_tick_keeps, home_tick_leaves}
 use Rattle.local_store.proofs.contents.Contents.bring_home.Goals as goal
 
@@ -66,3 +68,9 @@ returns-clause-home_kept g c = λ keeps v batches.
     (subst (Agrees c.renew.new.self) (sym (c.in_default-write_home.ensures.gives keeps)) (c.renew.ensures.agrees (inside (home_part c.self.inside.home.superblock.geometry) (g.D.Disk.gives c.args.disk.now))
     (within c.args.block (geometry_of c.args.self.now).blocks c.self.inside.home.superblock.geometry.blocks _ c.requires.block (ap (λ (s : State). (geometry_of s).blocks) c.self.view_is) was.region.waits.as_long) was.cached))
     (subst (λ (s : State). c.args.block < (geometry_of s).blocks) (sym c.self.view_is) c.requires.block) (c.in_default-write_home.ensures.gives keeps)))
+
+pub returns-clause-pays : goal.returns-clause-pays
+returns-clause-pays g c =
+    let less = one_less c.self.inside.pending c.args.block c.in-Some.image.now.bytes (sym c.in-Some.ensures) in
+    let was : count_pending c.args.self.now.pending ≡ count_pending c.self.inside.pending = ap (λ (s : State). count_pending s.pending) (sym c.self.view_is) in
+    omega (arith, less, was, ap count_pending c.drop_block.ensures, c.write_home.ensures.calls)
