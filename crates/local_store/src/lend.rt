@@ -12,10 +12,10 @@ ghost use Rattle.local_store.specs.Refusal.{IsOfCommitting, IsOfDevice};
 ghost use Rattle.local_store.specs.Store.{IsStored, committed, geometry_of};
 
 use crate::lending::{CommitWork, Journaled};
+use crate::lending_store::LendingStore;
 use crate::lent::Lent;
 use crate::pending::stage;
 use crate::refusal::Refusal;
-use crate::lending_store::LendingStore;
 use disk_model::{Disk, HalvedDisk};
 use gate_journal::{Image, MAX_NUMBER, Synced};
 use std::alloc::Global;
