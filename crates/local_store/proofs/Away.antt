@@ -33,6 +33,9 @@ use Rattle.local_store.proofs.Stored.{all_fit, last_fits, last_front-push, regio
 pub for_some : {T : Type 0} (x : T) (P : T → Type 0) → P x → ForSome (Some x) P
 for_some {T} x P has = λ other is. subst P (ap (λ (o : Option T). unwrap_or o x) is) has
 
+pub for_it : {T : Type 0} (o : Option T) (x : T) (P : T → Type 0) → o ≡ Some x → P x → ForSome o P
+for_it {T} o x P is has = subst (λ (p : Option T). ForSome p P) (sym is) (for_some x P has)
+
 -- so many images fit into the journal where they have room in the area
 pub has_room : (store : State) (n m : ℕ) → (¬ HasNoRoom (about_of store) n) → m ≡ n → store.journal.part.len ≡ (geometry_of store).area → Fits store.journal m
 has_room store n m enough same long = elim (cases_lt (geometry_of store).area (store.journal.end + batch_size n + 1)) [

@@ -1,10 +1,11 @@
 //! How a store lends its log out, with a commit that is to be journaled, and takes it back.
 ghost use Rattle.std.specs.Prelude.{◌≡◌, ◌≢◌, ◌⊎◌, ◌+◌, ◌<◌, ◌≤◌, ◌↔◌, ◌++◌, ◌∷◌, [], ℕ, List, true, false, length, max, Any, IfOk, IfErr, OnOk, OnErr, IsErrOf, IsNone, IsSome, IfSome, IsTrue};
 ghost use Rattle.std.specs.Option.{ForSome};
+ghost use Rattle.disk_model.specs.Halves.{IsPast, Rejoins};
 ghost use Rattle.flusher.specs.Plan.{IsPending};
 ghost use Rattle.gate_journal.specs.Batch.{AreImages, Batch};
 ghost use Rattle.gate_journal.specs.Journal.{IsSettled, appended, behind_border};
-ghost use Rattle.local_store.specs.About.{HasNoRoom, about_of};
+ghost use Rattle.local_store.specs.About.{HasNoRoom, about_of, one_commit_more};
 ghost use Rattle.local_store.specs.Lending.{border_of};
 ghost use Rattle.local_store.specs.Away.{IsKeptOver, IsLogOf, batch_of};
 ghost use Rattle.local_store.specs.Overlay.{with_images};
@@ -16,6 +17,7 @@ use crate::lending_store::LendingStore;
 use crate::lent::Lent;
 use crate::pending::stage;
 use crate::refusal::Refusal;
+use crate::store_like::StoreLike;
 use disk_model::{Disk, HalvedDisk};
 use gate_journal::{Image, MAX_NUMBER, Synced};
 use std::alloc::Global;
@@ -45,10 +47,18 @@ impl<D: HalvedDisk + Drop> LendingStore<D> {
         ensures batch { OnOk result (batch_of self.new.lent ≡ record { front = front; images = images.now }) }
         ensures same { self.new.contents ≡ self.old.contents }
 
+        ensures about { OnOk result (⟦<LendingStore<D> as StoreLike>⟧.about self.new ≡ record (⟦<LendingStore<D> as StoreLike>⟧.about self.old) { lent = true }) }
+        ensures kept { D.keeps_model → (volume : List ℕ) → ⟦<LendingStore<D> as StoreLike>⟧.keeps self.old volume → ⟦<LendingStore<D> as StoreLike>⟧.keeps self.new volume }
+
         // Of some batches, the journal is settled on them, and the store keeps its volume over them.
         ensures log { D.keeps_model → (volume : List ℕ) → IsStored self.old.contents volume (D.gives self.old.disk) (D.may_leave_now self.old.disk)
             → IfOk result (λ work. (batches : List Batch) × IsSettled work.journal batches (D.Log.gives work.log) (D.Log.may_leave_now work.log)
             × ForSome self.new.lent (λ l. IsKeptOver self.new.contents volume batches (D.gives self.new.disk) (D.may_leave_now self.new.disk) (D.left_before l.past (D.until l.past)))) }
+
+        // What the whole was until then, and the beginning of the halves' times.
+        ensures len { IfSome self.new.lent (λ l. l.len ≡ D.size self.old.disk) }
+        ensures past { D.keeps_model → IfSome self.new.lent (λ l. IsPast (D.until l.past) (D.moment self.old.disk) (D.left_before l.past) (D.may_have_left_since self.old.disk)) }
+        ensures begins { D.keeps_model → IfOk result (λ work. (D.moment self.new.disk ≡ 0) × (D.Log.moment work.log ≡ 0)) }
         ensures failures { (D.failures self.new.disk ≡ D.failures self.old.disk) × IfOk result (λ work. D.Log.failures work.log ≡ D.failures self.old.disk) }
 
         ensures broken { IsErrOf result Refusal.Broken ↔ (self.old.contents.broken ≡ true) }
@@ -57,8 +67,6 @@ impl<D: HalvedDisk + Drop> LendingStore<D> {
         ensures told { IfErr result IsOfCommitting }
         ensures own { IfErr result (λ r. ¬ IsOfDevice r) }
         ensures here { OnErr result (IsNone self.new.lent) }
-        ensures unchanged { D.keeps_model → (volume : List ℕ) → IsStored self.old.contents volume (D.gives self.old.disk) (D.may_leave_now self.old.disk)
-            → OnErr result (IsStored self.new.contents volume (D.gives self.new.disk) (D.may_leave_now self.new.disk)) }
     {
         self.contents.may_commit(front, images.len())?;
         let staged = stage(alloc, images)?;
@@ -109,21 +117,25 @@ impl<D: HalvedDisk + Drop> LendingStore<D> {
         ensures back { IsNone self.new.lent }
         ensures receipt { IfOk result (λ receipt. receipt ≡ record { slot = self.old.contents.home.superblock.slot; front = (batch_of self.old.lent).front }) }
         ensures ok { OnOk result (self.new.contents ≡ committed self.old.contents (batch_of self.old.lent).front (batch_of self.old.lent).images) }
+        ensures about { OnOk result (⟦<LendingStore<D> as StoreLike>⟧.about self.new
+            ≡ record (one_commit_more (⟦<LendingStore<D> as StoreLike>⟧.about self.old) (batch_of self.old.lent).front (length (batch_of self.old.lent).images)) { lent = false }) }
         ensures pends { OnOk result ((b : ℕ) → IsPending self.new.contents.pending b ↔ (IsPending self.old.contents.pending b ⊎ Any (λ image. image.block ≡ b) (batch_of self.old.lent).images)) }
         ensures kept { D.keeps_model → (batches : List Batch) (volume : List ℕ)
             → ForSome self.old.lent (λ l. IsKeptOver self.old.contents volume batches (D.gives self.old.disk) (D.may_leave_now self.old.disk) (D.left_before l.past (D.until l.past)))
             → IsSettled (appended (behind_border self.old.contents.journal (border_of (geometry_of self.old.contents))) (batch_of self.old.lent).front (length (batch_of self.old.lent).images))
             (batches ++ batch_of self.old.lent ∷ []) (D.Log.gives done.log) (D.Log.may_leave_now done.log)
-            → OnOk result (IsStored self.new.contents (with_images volume (batch_of self.old.lent).images) (D.gives self.new.disk) (D.may_leave_now self.new.disk)) }
+            → OnOk result (⟦<LendingStore<D> as StoreLike>⟧.keeps self.new (with_images volume (batch_of self.old.lent).images)) }
 
         ensures broken { IsErrOf result Refusal.Broken ↔ (self.old.contents.broken ≡ true) }
         ensures memory { IsErrOf result Refusal.Memory → self.new.contents ≡ self.old.contents }
         ensures kept_old { D.keeps_model → (batches : List Batch) (volume : List ℕ)
             → ForSome self.old.lent (λ l. IsKeptOver self.old.contents volume batches (D.gives self.old.disk) (D.may_leave_now self.old.disk) (D.left_before l.past (D.until l.past)))
             → IsSettled (behind_border self.old.contents.journal (border_of (geometry_of self.old.contents))) batches (D.Log.gives done.log) (D.Log.may_leave_now done.log)
-            → IsErrOf result Refusal.Memory → IsStored self.new.contents volume (D.gives self.new.disk) (D.may_leave_now self.new.disk) }
+            → IsErrOf result Refusal.Memory → ⟦<LendingStore<D> as StoreLike>⟧.keeps self.new volume }
         ensures err { IfErr result (λ r. r ≢ Refusal.Memory → self.new.contents ≡ record self.old.contents { broken = true }) }
         ensures told { IfErr result IsOfCommitting }
+        ensures time { D.keeps_model → ForSome self.old.lent (λ l. Rejoins (D.until l.past) (D.moment self.new.disk) (D.left_before l.past) (D.may_have_left_since self.new.disk)
+            (D.cut_at l.past) (D.may_have_left_since self.old.disk 0) (D.Log.may_have_left_since done.log 0)) }
         ensures failures { D.failures self.new.disk ≡ max (D.failures self.old.disk) (D.Log.failures done.log) }
     {
         let Some(lent) = self.lent.take() else {

@@ -9,11 +9,17 @@ use Rattle.gate_journal.specs.declared.batch.Image.{Image}
 use Rattle.home_blocks.specs.Places.{disk_size_of}
 use Rattle.local_store.specs.Away.{IsKeptOver, IsLent, batch_in}
 use Rattle.local_store.specs.Store.{geometry_of}
-use Rattle.local_store.proofs.Away.{for_some, has_room, lent_over, lent_settled, stored_untouched}
+use Rattle.local_store.specs.declared.lent.Lent.{Lent}
+use Rattle.local_store.proofs.Away.{for_some, has_room, kept_here, lent_over, lent_settled, stored_here, stored_untouched}
 use Rattle.local_store.proofs.lending_store.LendingStore.lend_commit.Goals as goal
 
-pub returns-in-Err-clause-unchanged : goal.returns-in-Err-clause-unchanged
-returns-in-Err-clause-unchanged g c = λ keeps v was. let same = c.in-Err.ensures.unlent keeps in stored_untouched same.shown same.leaves was
+pub returns-in-Err-clause-kept : goal.returns-in-Err-clause-kept
+returns-in-Err-clause-kept g c = λ keeps v kept.
+    let s = c.args.self.now in
+    let before = λ (l : Lent g.row.D-Past.Denot). g.D.HalvedDisk.left_before l.past (g.D.HalvedDisk.until l.past) in
+    let same = c.in-Err.ensures.unlent keeps in
+    kept_here s.lent before s.contents v (g.D.Disk.gives c.lend_log.new.self) (g.D.Disk.may_leave_now c.lend_log.new.self) c.requires.here
+    (stored_untouched same.shown same.leaves (stored_here s.lent before s.contents v (g.D.Disk.gives s.disk) (g.D.Disk.may_leave_now s.disk) c.requires.here kept))
 
 pub invariant_of-self-2 : goal.invariant_of-self-2
 invariant_of-self-2 g c =
@@ -50,4 +56,23 @@ returns-clause-log g c = λ keeps v was.
           (lent_over s.contents v halves long (λ a left. g.met.D.Disk.leaves_size keeps home a left ∙ size) (g.met.D.Log.Disk.leaves_gives (g.met.D.HalvedDisk.log_keeps keeps) log)
           (g.D.HalvedDisk.left_before past (g.D.HalvedDisk.until past))
           (λ d may. g.met.D.Disk.only_now keeps s.disk d (before.nothing_else (g.D.Disk.moment s.disk) d (le_refl (g.D.Disk.moment s.disk)) (subst (λ (n : ℕ). g.D.HalvedDisk.left_before past n d) before.at may))) was),
+    )
+
+pub returns-clause-kept : goal.returns-clause-kept
+returns-clause-kept g c = λ keeps v kept.
+    let s = c.args.self.now in
+    let before = λ (l : Lent g.row.D-Past.Denot). g.D.HalvedDisk.left_before l.past (g.D.HalvedDisk.until l.past) in
+    let was = stored_here s.lent before s.contents v (g.D.Disk.gives s.disk) (g.D.Disk.may_leave_now s.disk) c.requires.here kept in
+    let home = c.lend_log.new.self in
+    let log = c.in-Ok.lent.0 in
+    let past = c.in-Ok.lent.1 in
+    let border = c.border-border.ensures in
+    let size = c.in-Ok.ensures.home ∙ border in
+    let halves = subst (λ (n : ℕ). AreHalves n (g.D.Disk.gives s.disk) (g.D.Disk.gives home) (g.D.Log.Disk.gives log) (g.D.Disk.may_leave_now s.disk) (g.D.Disk.may_leave_now home) (g.D.Log.Disk.may_leave_now log)) border (c.in-Ok.ensures.halves keeps) in
+    let long = g.met.D.Disk.gives_size keeps home ∙ size in
+    let earlier = c.in-Ok.ensures.past keeps in (
+      was.batches,
+      lent_over s.contents v halves long (λ a left. g.met.D.Disk.leaves_size keeps home a left ∙ size) (g.met.D.Log.Disk.leaves_gives (g.met.D.HalvedDisk.log_keeps keeps) log)
+          (g.D.HalvedDisk.left_before past (g.D.HalvedDisk.until past))
+          (λ d may. g.met.D.Disk.only_now keeps s.disk d (earlier.nothing_else (g.D.Disk.moment s.disk) d (le_refl (g.D.Disk.moment s.disk)) (subst (λ (n : ℕ). g.D.HalvedDisk.left_before past n d) earlier.at may))) was,
     )
