@@ -5,6 +5,7 @@ use Rattle.flush_barrier.specs.declared.error_code.ErrorCode.TheVariants.{Io}
 use Rattle.gate_journal.specs.declared.batch.Image.{Image}
 use Rattle.gate_journal.specs.declared.batch.TheConstants.{MAX_NUMBER}
 use Rattle.version_table.specs.Held.{data_of, forgotten_to, with_write, writes_upto}
+use Rattle.volume.specs.Body.{kept_of}
 use Rattle.version_table.specs.declared.kept.Origin.{Origin}
 use Rattle.volume.specs.Writes.{Placed, IsTouched, block_of, patched}
 use Rattle.chain_steps.specs.Node.{Delivery, NodeState, Refused, Stepped, Taken, durable_of, epoch_of, is_stopped, last_of}
@@ -83,9 +84,9 @@ apply n origin write node = record {
   out = record { messages = if node.turned then send (successor_of node.place) (Put n origin write) node else []; replies = [] };
 }
 
--- 1,024 writes are kept, or the bytes of one more are too many, or the greatest number is used
+-- 1,024 writes are kept, or the bytes of one more, unless they are zeros alone, are too many, or the greatest number is used
 abbrev pub is_full : Placed → NodeState → Bool
-is_full write node = nat_le 1024 (length node.table.kept) || nat_lt 16777216 (data_of node.table.kept + length write.bytes) || nat_le MAX_NUMBER (last_of node)
+is_full write node = nat_le 1024 (length node.table.kept) || nat_lt 16777216 (data_of node.table.kept + kept_of write) || nat_le MAX_NUMBER (last_of node)
 
 -- Put: an applied write is passed over, the next one is applied, and no chain has another.
 abbrev pub put : ℕ → Origin → Placed → NodeState → Delivery
