@@ -182,13 +182,18 @@ impl<D: HalvedDisk + Drop> Store<D> {
         ensures receipt { IfOk result (λ receipt. receipt ≡ record { slot = self.old.contents.home.superblock.slot; front = front }) }
         ensures ok { OnOk result (self.new.contents ≡ committed self.old.contents front images.now) }
         ensures back { IsNone self.new.lent }
+        ensures pends { OnOk result ((b : ℕ) → IsPending self.new.contents.pending b ↔ (IsPending self.old.contents.pending b ⊎ Any (λ image. image.block ≡ b) images.now)) }
         ensures kept { D.keeps_model → (volume : List ℕ) → ⟦<Store<D> as StoreLike>⟧.keeps self.old volume → OnOk result (⟦<Store<D> as StoreLike>⟧.keeps self.new (with_images volume images.now)) }
 
         // A stop at any moment of the three leaves what means the old front and volume, or the new ones.
         ensures any_moment { D.keeps_model → (volume : List ℕ) → ⟦<Store<D> as StoreLike>⟧.keeps self.old volume → LeavesOnly D.moment D.may_have_left_since self.old.disk self.new.disk
             (λ c. Means (meaning_in self.old.contents volume) c ⊎ Means (meaning_after self.old.contents volume front images.now) c) }
         ensures broken { IsErrOf result Refusal.Broken ↔ (self.old.contents.broken ≡ true) }
+        ensures backwards { IsErrOf result Refusal.Backwards ↔ ((self.old.contents.broken ≡ false) × (front ≤ self.old.contents.journal.front)) }
+        ensures full { IsErrOf result Refusal.Full ↔ ((self.old.contents.broken ≡ false) × (self.old.contents.journal.front < front) × HasNoRoom (about_of self.old.contents) (length images.now)) }
         ensures told { IfErr result IsOfCommitting }
+        ensures unchanged { IfErr result (λ r. ¬ IsOfDevice r → self.new.contents ≡ self.old.contents) }
+        ensures device { IfErr result (λ r. IsOfDevice r → self.new.contents ≡ record self.old.contents { broken = true }) }
         ensures cause { HasCause (D.failures self.old.disk) (D.failures self.new.disk) result }
     {
         let work = self.lend_commit(alloc, front, images)?;
