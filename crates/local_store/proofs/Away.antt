@@ -1,5 +1,5 @@
 -- What a store keeps as its log is lent out, while it is away, and when it is back.
-use Rattle.std.proofs.Common.{◌≡◌, ℕ, true, ◌+◌, ◌<◌, ◌≤◌, List, [], ◌∷◌, ◌++◌, length, take, drop, refl, sym, ◌∙◌, ap, subst, inl, inr, ◌⊎◌, ⊎_elim, arith, Result, OnOk, IsNone}
+use Rattle.std.proofs.Common.{◌≡◌, ℕ, Bool, IsErrOf, true, ◌+◌, ◌<◌, ◌≤◌, List, [], ◌∷◌, ◌++◌, length, take, drop, refl, sym, ◌∙◌, ap, subst, inl, inr, ◌⊎◌, ⊎_elim, arith, false, max, Err, IsSome, MatchResult, Ok, Result, OnErr, OnOk, IsNone}
 use Rattle.std.specs.Prelude.{All, Option, Some, None, unwrap_or}
 use Rattle.std.specs.Option.{ForSome}
 use Rattle.std.proofs.lemmas.Bool.{both_ways, cases_lt}
@@ -13,7 +13,11 @@ use Rattle.disk_model.specs.declared.part.Part.{Part}
 use Rattle.gate_journal.specs.Batch.{Batch, batch_size, HoldsBatches, HoldsOldOrNew, last_front}
 use Rattle.gate_journal.specs.Journal as journal
 use Rattle.gate_journal.specs.Journal.{Fits, IsSettled, appended, behind_border, part_behind, still_settled}
-use Rattle.home_blocks.specs.Home.{still_settled_home}
+use Rattle.gate_journal.specs.Pair.{HoldsPair}
+use Rattle.gate_journal.specs.Refusal as journals
+use Rattle.gate_journal.specs.declared.refusal.Refusal.{Refusal as JournalRefusal}
+use Rattle.gate_journal.specs.declared.refusal.Refusal.TheVariants as variants
+use Rattle.home_blocks.specs.Home.{settled_leaves, still_settled_home}
 use Rattle.home_blocks.specs.Places.{disk_size_of, home_part, superblock_part}
 use Rattle.home_blocks.specs.Superblock.{Superblock}
 use Rattle.home_blocks.specs.declared.progress.Progress.TheVariants.{Whole}
@@ -24,7 +28,9 @@ use Rattle.local_store.specs.Away.{IsKeptOver, IsLent, Keeps, LeftWith, batch_in
 use Rattle.local_store.specs.Meaning.{Means}
 use Rattle.local_store.specs.Overlay.{AllFitIn, with_batches, with_images}
 use Rattle.local_store.specs.Store.{State, IsOfSuperblock, IsSameButForPending, IsStored, committed, geometry_of, meaning_after, meaning_in}
+use Rattle.local_store.specs.Refusal.{HasCause, IsCaused, by_journal}
 use Rattle.local_store.specs.declared.lent.Lent.{Lent}
+use Rattle.local_store.specs.declared.refusal.Refusal.{Refusal}
 use Rattle.local_store.proofs.Homes.{one_batch}
 use Rattle.local_store.proofs.Overlays.{with_batches-push}
 use Rattle.local_store.proofs.Stored.{all_fit, last_fits, last_front-push, region_still}
@@ -275,3 +281,66 @@ halves_come store v batches batch a x of whole front long home area =
     let same : inside (part_behind store.journal.part border) x ≡ inside store.journal.part (a ++ x) = ap (inside (part_behind store.journal.part border)) (sym (drop_at a x border long)) ∙ inside_journal store (a ++ x) of in
     ⊎_elim (λ old. inl (halves_mean_old store v batches (a ++ x) of whole front below (subst (HoldsBatches store.journal.blocks store.journal.before batches) same old)))
     (λ new. inr (new_means store v batches batch (a ++ x) of whole below (subst (HoldsBatches store.journal.blocks store.journal.before (batches ++ batch ∷ [])) same new))) area
+
+-- before anything, the halves hold the old batches and the home under them
+pub first_beside : (store : State) (v gives : List ℕ) (left : List ℕ → Type 0) (was : IsStored store v gives left) (batch : Batch) (d : List ℕ) → left d
+    → HoldsHome store v was.batches (take (border_of (geometry_of store)) d)
+    × HoldsOldOrNew store.journal.blocks store.journal.before was.batches batch (inside (part_behind store.journal.part (border_of (geometry_of store))) (drop (border_of (geometry_of store)) d))
+first_beside store v gives left was batch d may =
+    let border = border_of (geometry_of store) in
+    let holds = settled_leaves was.superblock d may in (
+      record {
+        superblock = record {
+          is = holds.is;
+          payload = record {
+            slots = holds.payload.slots;
+            holds = subst (HoldsPair holds.payload.slots) (sym (inside_below border superblock_part d (omega arith))) holds.payload.holds;
+            number = holds.payload.number;
+            is_newest = holds.payload.is_newest;
+          };
+        };
+        region = ap (λ (l : List ℕ). with_batches l was.batches) (inside_below border (home_part (geometry_of store)) d (omega arith)) ∙ was.region.left (inside (home_part (geometry_of store)) d) (d, may, refl);
+      },
+      inl (subst (HoldsBatches store.journal.blocks store.journal.before was.batches) (sym (inside_journal store d was.stands ∙ was.area.durable (inside store.journal.part d) (d, may, refl))) was.area.holds),
+    )
+
+pub halves_at : (store : State) (v : List ℕ) (batches : List Batch) (batch : Batch) (d : List ℕ) → IsOfSuperblock store → store.home.superblock.progress ≡ Whole → store.journal.front ≡ last_front store.journal.before batches
+    → HoldsHome store v batches (take (border_of (geometry_of store)) d)
+    → HoldsOldOrNew store.journal.blocks store.journal.before batches batch (inside (part_behind store.journal.part (border_of (geometry_of store))) (drop (border_of (geometry_of store)) d))
+    → Means (meaning_in store v) d ⊎ Means (meaning_after store v batch.front batch.images) d
+halves_at store v batches batch d of whole front home area =
+    let same = inside_journal store d of in
+    ⊎_elim (λ old. inl (halves_mean_old store v batches d of whole front home (subst (HoldsBatches store.journal.blocks store.journal.before batches) same old)))
+    (λ new. inr (new_means store v batches batch d of whole home (subst (HoldsBatches store.journal.blocks store.journal.before (batches ++ batch ∷ [])) same new))) area
+
+pub some_of : {T : Type 0} (o : Option T) → IsSome o → (x : T) × (o ≡ Some x)
+some_of None is = absurd (both_ways false refl is)
+some_of (Some x) is = (x, refl)
+
+-- a store answers what the journaling did
+pub answered : {R : Type 0} (outcome : Result R JournalRefusal) (result : Result R Refusal) (P Q : Type 0) → MatchResult outcome (λ x. result ≡ Ok x) (λ e. result ≡ Err (by_journal e)) → OnOk outcome P → (P → OnOk result Q) → OnOk result Q
+answered (Ok x) result P Q is has come = come has
+answered (Err e) result P Q is has come = subst (λ (r : Result _ Refusal). OnOk r Q) (sym is) tt
+
+caused_by : (before log now : ℕ) (e : JournalRefusal) → journals.IsCaused before log e → log ≤ now → IsCaused before now (by_journal e)
+caused_by before log now variants.Memory caused le = tt
+caused_by before log now variants.Full caused le = tt
+caused_by before log now variants.Broken caused le = tt
+caused_by before log now variants.Damaged caused le = tt
+caused_by before log now (variants.Device error) caused le = λ other. omega (arith, caused other, le)
+
+pub caused_back : {R : Type 0} (outcome : Result R JournalRefusal) (result : Result R Refusal) (before home log now : ℕ) → now ≡ max home log → home ≡ before → journals.HasCause before log outcome
+    → MatchResult outcome (λ x. result ≡ Ok x) (λ e. result ≡ Err (by_journal e)) → HasCause before now result
+caused_back (Ok x) result before home log now is same cause answer =
+    subst (λ (r : Result _ Refusal). HasCause before now r) (sym answer) (record { later = omega (arith, is, same, cause.later); done = omega (arith, is, same, cause.done); failed = tt })
+caused_back (Err e) result before home log now is same cause answer =
+    subst (λ (r : Result _ Refusal). HasCause before now r) (sym answer) (record { later = omega (arith, is, same, cause.later); done = tt; failed = caused_by before log now e cause.failed (omega (arith, is)) })
+
+pub on_err : {T E P : Type 0} (r : Result T E) → P → OnErr r P
+on_err (Ok x) p = tt
+on_err (Err e) p = p
+
+-- what wasn't refused for a broken store isn't one's
+pub runs_if : {T : Type 0} (b : Bool) (x : T) (r : Refusal) → (b ≡ true → IsErrOf (Ok x) r) → b ≡ false
+runs_if false x r told = refl
+runs_if true x r told = let e = told refl in cc

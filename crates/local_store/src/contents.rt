@@ -307,6 +307,7 @@ impl Contents {
     /// Its journal as the log half sees it.
     pub(crate) fn twin(&self) -> Journal
         ensures twin { result ≡ journals.behind_border self.now.journal (border_of (geometry_of self.now)) }
+        ensures slot { result.slot ≡ self.now.home.superblock.slot }
         ensures blocks { result.blocks ≡ (geometry_of self.now).blocks }
         ensures area { result.part.len ≡ (geometry_of self.now).area }
         ensures within { border_of (geometry_of self.now) + (result.part.start + result.part.len) ≤ disk_size_of (geometry_of self.now) }

@@ -1,6 +1,7 @@
 //! How a store lends its log out, with a commit that is to be journaled, and takes it back.
-ghost use Rattle.std.specs.Prelude.{◌≡◌, ◌≢◌, ◌⊎◌, ◌+◌, ◌<◌, ◌≤◌, ◌↔◌, ◌++◌, ◌∷◌, [], ℕ, List, true, false, length, max, Any, IfOk, IfErr, OnOk, OnErr, IsErrOf, IsNone, IsSome, IfSome, IsTrue};
+ghost use Rattle.std.specs.Prelude.{◌≡◌, ◌≢◌, ◌⊎◌, ◌+◌, ◌<◌, ◌≤◌, ◌↔◌, ◌++◌, ◌∷◌, [], ℕ, List, true, false, length, max, Any, IfOk, IfErr, OnOk, OnErr, IsErrOf, IsNone, IsSome, IfSome, IsTrue, MatchResult, Ok, Err};
 ghost use Rattle.std.specs.Option.{ForSome};
+ghost use Rattle.disk_model.specs.Disk.{LeavesOnly};
 ghost use Rattle.disk_model.specs.Halves.{IsPast, Rejoins};
 ghost use Rattle.flusher.specs.Plan.{IsPending};
 ghost use Rattle.gate_journal.specs.Batch.{AreImages, Batch};
@@ -8,9 +9,10 @@ ghost use Rattle.gate_journal.specs.Journal.{IsSettled, appended, behind_border}
 ghost use Rattle.local_store.specs.About.{HasNoRoom, about_of, one_commit_more};
 ghost use Rattle.local_store.specs.Lending.{border_of};
 ghost use Rattle.local_store.specs.Away.{IsKeptOver, IsLogOf, batch_of};
+ghost use Rattle.local_store.specs.Meaning.{Means};
 ghost use Rattle.local_store.specs.Overlay.{with_images};
-ghost use Rattle.local_store.specs.Refusal.{IsOfCommitting, IsOfDevice};
-ghost use Rattle.local_store.specs.Store.{IsStored, committed, geometry_of};
+ghost use Rattle.local_store.specs.Refusal.{HasCause, IsOfCommitting, IsOfDevice, by_journal};
+ghost use Rattle.local_store.specs.Store.{IsStored, committed, geometry_of, meaning_after, meaning_in};
 
 use crate::lending::{CommitWork, Journaled};
 use crate::lending_store::LendingStore;
@@ -42,6 +44,7 @@ impl<D: HalvedDisk + Drop> LendingStore<D> {
         ensures front { IfOk result (λ work. work.front ≡ front) }
         ensures images { IfOk result (λ work. work.images.items ≡ images.now) }
         ensures journal { IfOk result (λ work. work.journal ≡ behind_border self.old.contents.journal (border_of (geometry_of self.old.contents))) }
+        ensures slot { IfOk result (λ work. work.journal.slot ≡ self.old.contents.home.superblock.slot) }
         ensures size { IfOk result (λ work. border_of (geometry_of self.old.contents) + D.Log.size work.log ≡ D.size self.old.disk) }
         ensures lent { OnOk result (IsSome self.new.lent) }
         ensures batch { OnOk result (batch_of self.new.lent ≡ record { front = front; images = images.now }) }
@@ -50,10 +53,12 @@ impl<D: HalvedDisk + Drop> LendingStore<D> {
         ensures about { OnOk result (⟦<LendingStore<D> as StoreLike>⟧.about self.new ≡ record (⟦<LendingStore<D> as StoreLike>⟧.about self.old) { lent = true }) }
         ensures kept { D.keeps_model → (volume : List ℕ) → ⟦<LendingStore<D> as StoreLike>⟧.keeps self.old volume → ⟦<LendingStore<D> as StoreLike>⟧.keeps self.new volume }
 
-        // Of some batches, the journal is settled on them, and the store keeps its volume over them.
-        ensures log { D.keeps_model → (volume : List ℕ) → IsStored self.old.contents volume (D.gives self.old.disk) (D.may_leave_now self.old.disk)
-            → IfOk result (λ work. (batches : List Batch) × IsSettled work.journal batches (D.Log.gives work.log) (D.Log.may_leave_now work.log)
-            × ForSome self.new.lent (λ l. IsKeptOver self.new.contents volume batches (D.gives self.new.disk) (D.may_leave_now self.new.disk) (D.left_before l.past (D.until l.past)))) }
+        // The journal is settled on the store's batches, and the store keeps its volume over them.
+        ensures log { D.keeps_model → (volume : List ℕ) (was : IsStored self.old.contents volume (D.gives self.old.disk) (D.may_leave_now self.old.disk))
+            → IfOk result (λ work. IsSettled work.journal was.batches (D.Log.gives work.log) (D.Log.may_leave_now work.log)
+            × ForSome self.new.lent (λ l. IsKeptOver self.new.contents volume was.batches (D.gives self.new.disk) (D.may_leave_now self.new.disk) (D.left_before l.past (D.until l.past)))) }
+        ensures at_rest { D.keeps_model → (volume : List ℕ) → IsStored self.old.contents volume (D.gives self.old.disk) (D.may_leave_now self.old.disk)
+            → OnErr result (LeavesOnly D.moment D.may_have_left_since self.old.disk self.new.disk (Means (meaning_in self.old.contents volume))) }
 
         // What the whole was until then, and the beginning of the halves' times.
         ensures len { IfSome self.new.lent (λ l. l.len ≡ D.size self.old.disk) }
@@ -126,6 +131,7 @@ impl<D: HalvedDisk + Drop> LendingStore<D> {
             (batches ++ batch_of self.old.lent ∷ []) (D.Log.gives done.log) (D.Log.may_leave_now done.log)
             → OnOk result (⟦<LendingStore<D> as StoreLike>⟧.keeps self.new (with_images volume (batch_of self.old.lent).images)) }
 
+        ensures answer { self.old.contents.broken ≡ false → MatchResult done.outcome (λ receipt. result ≡ Ok receipt) (λ refusal. result ≡ Err (by_journal refusal)) }
         ensures broken { IsErrOf result Refusal.Broken ↔ (self.old.contents.broken ≡ true) }
         ensures memory { IsErrOf result Refusal.Memory → self.new.contents ≡ self.old.contents }
         ensures kept_old { D.keeps_model → (batches : List Batch) (volume : List ℕ)
@@ -161,5 +167,37 @@ impl<D: HalvedDisk + Drop> LendingStore<D> {
                 Err(Refusal::from(refusal))
             }
         }
+    }
+
+    /// Commits by the three calls, one after another: it answers and keeps what `commit` does.
+    pub fn commit_in_three(
+        &mut self,
+        alloc: Global,
+        front: u64,
+        images: &[Image],
+    ) -> Result<Synced, Refusal>
+        requires images { AreImages (geometry_of self.old.contents).blocks images.now }
+        requires limit { front ≤ MAX_NUMBER }
+        requires here { IsNone self.old.lent }
+        ensures receipt { IfOk result (λ receipt. receipt ≡ record { slot = self.old.contents.home.superblock.slot; front = front }) }
+        ensures ok { OnOk result (self.new.contents ≡ committed self.old.contents front images.now) }
+        ensures back { IsNone self.new.lent }
+        ensures pends { OnOk result ((b : ℕ) → IsPending self.new.contents.pending b ↔ (IsPending self.old.contents.pending b ⊎ Any (λ image. image.block ≡ b) images.now)) }
+        ensures kept { D.keeps_model → (volume : List ℕ) → ⟦<LendingStore<D> as StoreLike>⟧.keeps self.old volume → OnOk result (⟦<LendingStore<D> as StoreLike>⟧.keeps self.new (with_images volume images.now)) }
+
+        // A stop at any moment of the three leaves what means the old front and volume, or the new ones.
+        ensures any_moment { D.keeps_model → (volume : List ℕ) → ⟦<LendingStore<D> as StoreLike>⟧.keeps self.old volume → LeavesOnly D.moment D.may_have_left_since self.old.disk self.new.disk
+            (λ c. Means (meaning_in self.old.contents volume) c ⊎ Means (meaning_after self.old.contents volume front images.now) c) }
+        ensures broken { IsErrOf result Refusal.Broken ↔ (self.old.contents.broken ≡ true) }
+        ensures backwards { IsErrOf result Refusal.Backwards ↔ ((self.old.contents.broken ≡ false) × (front ≤ self.old.contents.journal.front)) }
+        ensures full { IsErrOf result Refusal.Full ↔ ((self.old.contents.broken ≡ false) × (self.old.contents.journal.front < front) × HasNoRoom (about_of self.old.contents) (length images.now)) }
+        ensures told { IfErr result IsOfCommitting }
+        ensures unchanged { IfErr result (λ r. ¬ IsOfDevice r → self.new.contents ≡ self.old.contents) }
+        ensures device { IfErr result (λ r. IsOfDevice r → self.new.contents ≡ record self.old.contents { broken = true }) }
+        ensures cause { HasCause (D.failures self.old.disk) (D.failures self.new.disk) result }
+    {
+        let work = self.lend_commit(alloc, front, images)?;
+        let done = work.journal(alloc);
+        self.finish_commit(done)
     }
 }

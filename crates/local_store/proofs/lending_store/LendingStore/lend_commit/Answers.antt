@@ -3,14 +3,18 @@ use Rattle.std.specs.Prelude.{All}
 use Rattle.std.proofs.Math.Nat.{le_refl}
 use Rattle.std.proofs.lemmas.Bool.{both_ways}
 use Rattle.disk_model.specs.Halves.{AreHalves}
+use Rattle.disk_model.specs.Moments.{goes_on}
 use Rattle.gate_journal.specs.Journal as journal
 use Rattle.gate_journal.specs.Journal.{IsSettled}
 use Rattle.gate_journal.specs.declared.batch.Image.{Image}
 use Rattle.home_blocks.specs.Places.{disk_size_of}
 use Rattle.local_store.specs.Away.{IsKeptOver, IsLent, batch_in}
-use Rattle.local_store.specs.Store.{geometry_of}
+use Rattle.local_store.specs.Kept.{stored_means}
+use Rattle.local_store.specs.Meaning.{Means}
+use Rattle.local_store.specs.Store.{geometry_of, meaning_in}
 use Rattle.local_store.specs.declared.lent.Lent.{Lent}
-use Rattle.local_store.proofs.Away.{for_some, has_room, kept_here, lent_over, lent_settled, stored_here, stored_untouched}
+use Rattle.local_store.proofs.Away.{for_some, has_room, kept_here, lent_over, lent_settled, on_err, stored_here, stored_untouched}
+use Rattle.local_store.proofs.Stored.{at_rest}
 use Rattle.local_store.proofs.lending_store.LendingStore.lend_commit.Goals as goal
 
 pub returns-in-Err-clause-kept : goal.returns-in-Err-clause-kept
@@ -50,7 +54,6 @@ returns-clause-log g c = λ keeps v was.
     let halves = subst (λ (n : ℕ). AreHalves n (g.D.Disk.gives s.disk) (g.D.Disk.gives home) (g.D.Log.Disk.gives log) (g.D.Disk.may_leave_now s.disk) (g.D.Disk.may_leave_now home) (g.D.Log.Disk.may_leave_now log)) border (c.in-Ok.ensures.halves keeps) in
     let long = g.met.D.Disk.gives_size keeps home ∙ size in
     let before = c.in-Ok.ensures.past keeps in (
-      was.batches,
       subst (λ (j : journal.State). IsSettled j was.batches (g.D.Log.Disk.gives log) (g.D.Log.Disk.may_leave_now log)) (sym c.twin-journal.ensures.twin) (lent_settled s.contents v halves long (g.met.D.Disk.leaves_gives keeps home) was),
       for_some _ (λ l. IsKeptOver s.contents v was.batches (g.D.Disk.gives home) (g.D.Disk.may_leave_now home) (g.D.HalvedDisk.left_before l.past (g.D.HalvedDisk.until l.past)))
           (lent_over s.contents v halves long (λ a left. g.met.D.Disk.leaves_size keeps home a left ∙ size) (g.met.D.Log.Disk.leaves_gives (g.met.D.HalvedDisk.log_keeps keeps) log)
@@ -76,3 +79,20 @@ returns-clause-kept g c = λ keeps v kept.
           (g.D.HalvedDisk.left_before past (g.D.HalvedDisk.until past))
           (λ d may. g.met.D.Disk.only_now keeps s.disk d (earlier.nothing_else (g.D.Disk.moment s.disk) d (le_refl (g.D.Disk.moment s.disk)) (subst (λ (n : ℕ). g.D.HalvedDisk.left_before past n d) earlier.at may))) was,
     )
+
+pub returns-in_err-may_commit-clause-at_rest : goal.returns-in_err-may_commit-clause-at_rest
+returns-in_err-may_commit-clause-at_rest g c = λ keeps v was. on_err c.from_residual.result (at_rest c.args.self.now.disk was.stands was (g.met.D.Disk.only_now keeps c.args.self.now.disk))
+
+pub returns-in_err-staged-clause-at_rest : goal.returns-in_err-staged-clause-at_rest
+returns-in_err-staged-clause-at_rest g c = λ keeps v was. on_err c.from_residual-in_err-staged.result (at_rest c.args.self.now.disk was.stands was (g.met.D.Disk.only_now keeps c.args.self.now.disk))
+
+pub returns-in_err-images-clause-at_rest : goal.returns-in_err-images-clause-at_rest
+returns-in_err-images-clause-at_rest g c = λ keeps v was. on_err c.from_residual-in_err-images.result (at_rest c.args.self.now.disk was.stands was (g.met.D.Disk.only_now keeps c.args.self.now.disk))
+
+pub returns-in-Err-clause-at_rest : goal.returns-in-Err-clause-at_rest
+returns-in-Err-clause-at_rest g c = λ keeps v was.
+    let s = c.args.self.now in
+    let d = g.D.Disk in
+    let same = c.in-Err.ensures.unlent keeps in
+    goes_on d.moment d.may_have_left_since s.disk s.disk c.lend_log.new.self (Means (meaning_in s.contents v)) (d.may_leave_now c.lend_log.new.self)
+    (at_rest s.disk was.stands was (g.met.D.Disk.only_now keeps s.disk)) same.time (λ x left. stored_means was.stands was x (same.leaves x left))
