@@ -1,5 +1,5 @@
 -- How many images are pending.
-use Rattle.std.proofs.Common.{◌≡◌, ◌∙◌, ℕ, zero, suc, ◌+◌, Option, Some, None, is_some, List, [], ◌∷◌, set, cond, ap, sym, arith}
+use Rattle.std.proofs.Common.{◌≡◌, ◌∙◌, ℕ, zero, suc, ◌+◌, Option, Some, None, is_some, List, [], ◌∷◌, set, cond, ap, arith}
 use Rattle.std.proofs.lemmas.List.Sums.{sum_by-append}
 use Rattle.local_store.specs.Pending.{count_pending, held}
 
