@@ -2,8 +2,9 @@
 //!
 //! Its contract for the layers above: while a store keeps a volume, a stop at any moment of a `tick`, a `tick_run` or a
 //! `checkpoint` leaves a disk that means that front and volume, and at any moment of a `commit` these or the new ones;
-//! after Ok it keeps the volume that the call says. `open` finds what a disk means. What the numbers of the fronts stand for, and
-//! which blocks a write touches, is left to those layers.
+//! after Ok it keeps the volume that the call says. `open` finds what a disk means. While a `LendingStore` has lent its log out with
+//! a commit, reads and ticks go on on the home half, and a stop leaves the old front or the new. What the numbers of the fronts
+//! stand for, and which blocks a write touches, is left to those layers.
 #![tactic(auto)]
 
 mod arming;
