@@ -58,8 +58,8 @@ impl<S: StoreLike + Drop> World<S> {
         let geometry = chain.geometry();
         // No journal marks zeros yet.
         let area = 0;
-        let (size, max_payload) = (geometry.size(), geometry.max_payload);
-        let clients = Clients::new(alloc, chain.board(), size, max_payload, area);
+        let size = geometry.size();
+        let clients = Clients::new(alloc, chain.board(), size, geometry.max_payload, area);
         Ok(World {
             alloc,
             chain,
