@@ -127,7 +127,6 @@ world_begins about keeps may_leave_now (x ∷ xs) told c w sizes words begins is
       runs = subst (All (λ m. m.node.state.stopped ≡ None)) (sym (ap (λ y. y.members) is ∙ members)) (all_mapped (λ m. m.node.state.stopped ≡ None) (beginning_of about c.id told) (x ∷ xs) (λ k d within. refl));
     }
 
--- its members' disks are those of the stores
 -- the stores of a chain that begins are those that it was given
 stores_kept : {S : Type 0} (about : S → About) (id : BoardId) (told : Record) (stores : List S) → map (λ (m : Linked S). m.node.store) (map (beginning_of about id told) stores) ≡ stores
 stores_kept about id told [] = refl

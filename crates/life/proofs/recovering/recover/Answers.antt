@@ -52,7 +52,7 @@ returns-then-incarnation-eq0-clause-calm c = λ member calm.
     absurd (omega (arith, member.given, same, c.incarnation.ensures.incarnation, c.if-incarnation-eq0.true))
 
 pub returns-then-incarnation-eq0-clause-back : goal.returns-then-incarnation-eq0-clause-back
-returns-then-incarnation-eq0-clause-back c = let read = c.in-Ok.ensures.reads tt in rw c.into_disk.ensures (read.same, read.leaves)
+returns-then-incarnation-eq0-clause-back c = let read = c.in-Ok.ensures.reads tt in rw c.into_disk-then-incarnation-eq0.ensures (read.same, read.leaves)
 
 -- nothing else is left of a disk that was only read
 only_again : (disk back : MemDisk) → given_of back ≡ given_of disk → NothingNew (may_be_left disk) (may_be_left back) → Only (given_of disk) (may_be_left disk) → Only (given_of back) (may_be_left back)
@@ -62,7 +62,7 @@ pub returns-in-Err-clause-again : goal.returns-in-Err-clause-again
 returns-in-Err-clause-again c = let back = c.in-Err.ensures.back tt in only_again c.args.disk c.in-Err.disk back.same back.leaves
 
 pub returns-then-incarnation-eq0-clause-again : goal.returns-then-incarnation-eq0-clause-again
-returns-then-incarnation-eq0-clause-again c = let read = c.in-Ok.ensures.reads tt in rw c.into_disk.ensures (only_again c.args.disk c.in-Ok.store.disk read.same read.leaves)
+returns-then-incarnation-eq0-clause-again c = let read = c.in-Ok.ensures.reads tt in rw c.into_disk-then-incarnation-eq0.ensures (only_again c.args.disk c.in-Ok.store.disk read.same read.leaves)
 
 pub returns-in-Ok-alone-clause-go : goal.returns-in-Ok-alone-clause-go
 returns-in-Ok-alone-clause-go c =
