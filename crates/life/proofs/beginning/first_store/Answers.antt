@@ -1,3 +1,4 @@
+use Rattle.std.proofs.Common.{◌∙◌}
 use Rattle.disk_model.specs.Calm.{calm, calm_runs}
 use Rattle.disk_model.specs.Memory.{failures_of}
 use Rattle.life.proofs.beginning.first_store.Goals as goal
