@@ -13,6 +13,9 @@ const MAX_PAYLOAD: u32 = 4096;
 
 const SIZE: u64 = 32_768;
 
+// Into this journal area one image fits, or marks of zeros.
+const AREA: u32 = 4_114;
+
 const EXPORT_NAME: &[u8] = b"IHAVEOPT\0\0\0\x01\0\0\0\0";
 
 const LIST: &[u8] = b"IHAVEOPT\0\0\0\x03\0\0\0\0";
@@ -262,6 +265,16 @@ fn write_of(flags: u16, offset: u64, payload: &[u8]) -> Request<'_> {
     }
 }
 
+fn zero_of(flags: u16, offset: u64, length: u32) -> Request<'static> {
+    let cookie = 3;
+    Request::Zero {
+        flags,
+        cookie,
+        offset,
+        length,
+    }
+}
+
 fn flush_of(flags: u16, offset: u64, length: u32) -> Request<'static> {
     let cookie = 5;
     Request::Flush {
@@ -308,7 +321,7 @@ fn requests(rt: HostRuntime) {
 // What becomes of each request is what is wanted.
 fn checks_are(rt: &impl Abort, rows: &[(Request, Checked)]) {
     for (request, want) in rows {
-        same_at(rt, check(request, SIZE, MAX_PAYLOAD), *want, request);
+        same_at(rt, check(request, SIZE, MAX_PAYLOAD, AREA), *want, request);
     }
 }
 
@@ -349,6 +362,29 @@ fn checks_of_writes(rt: HostRuntime) {
             (write_of(2, 32_764, b"four"), INVALID),
             (write_of(1, 32_765, b"four"), no_space),
             (write_of(1, 32_768, b""), Checked::Done),
+        ],
+    );
+}
+
+#[test]
+fn checks_of_zeros(rt: HostRuntime) {
+    let no_space = Checked::Refused(NbdError::NoSpace);
+    let zero = |offset, length, fua| {
+        Checked::Volume(Ask::Zero {
+            offset,
+            length,
+            fua,
+        })
+    };
+    checks_are(
+        &rt,
+        &[
+            (zero_of(0, 0, 32_768), zero(0, 32_768, false)),
+            (zero_of(3, 1, 1), zero(1, 1, true)),
+            (zero_of(0, 4_095, 2), INVALID),
+            (zero_of(4, 0, 1), INVALID),
+            (zero_of(0, 32_767, 2), no_space),
+            (zero_of(0, 32_768, 0), Checked::Done),
         ],
     );
 }
