@@ -83,7 +83,7 @@ def minutes_of(crates):
 
 class Lanes:
     """Runs tasks side by side, one a processor, as many as memory holds; those first that the longest chain of others waits for. The
-    first of all has as many jobs as there are processors, since the whole waits for it. Tasks that no other waits for give way."""
+    first of all has more jobs than others, since the whole waits for it. Mutants, tests and runs give way to proofs."""
 
     def __init__(self, tasks, logs, tell):
         self.tasks = {it.key: it for it in tasks}
@@ -91,7 +91,7 @@ class Lanes:
         fixed = os.environ.get("RT_JOBS", "")
         self.lanes = int(fixed) if fixed.isdigit() and fixed != "0" else kit.rt.processors()
         self.memory = 0.85 * kit.rt.free()
-        self.awaited = {key for it in tasks for key in it.waits}
+        self.only_proofs = all(it.kind == "proof" for it in tasks)
         minutes = minutes_of([it.crate for it in tasks])
         self.behind = {}
         for key in reversed(self.in_order()):
@@ -124,12 +124,14 @@ class Lanes:
         return done
 
     def jobs_for(self, task, idle, ready):
-        """How many processors the task may use. The first of all tasks that are left gets all, whatever else runs: all others end before it."""
+        """How many processors the task may use. The first of all tasks that are left gets two, whatever else runs: all others end before it.
+        It gets all where there are only proofs, which leave processors idle; each job reads the crates below anew, so it costs most there."""
         if task.kind not in SHARED:
             return 1
         most = min(MOST_JOBS, self.lanes)
         is_first = self.behind[task.key] >= max(self.behind[it] for it in self.tasks if it not in self.given)
-        return most if is_first else max(1, min(most, idle // ready))
+        least = 1 if not is_first else most if self.only_proofs else 2
+        return max(least, min(most, idle // ready))
 
     def memory_for(self, task, jobs):
         return kit.rt.need(task.crate) * MEMORY * (1 + MEMORY_A_JOB * (jobs - 1))
@@ -139,7 +141,7 @@ class Lanes:
         ready = [it for it in left if all(key in self.given or key not in self.tasks for key in self.tasks[it].waits)]
         for at, key in enumerate(ready):
             task = self.tasks[key]
-            # However many jobs a task has, some of them wait for others: it leaves room for two tasks beside it.
+            # However many jobs a task has, some of them end early: it leaves room for two tasks beside it.
             idle = self.lanes - sum(min(jobs, max(1, self.lanes - 2)) for _, jobs, _ in self.running.values())
             if idle <= 0:
                 return
@@ -150,7 +152,7 @@ class Lanes:
             if self.running and self.memory_for(task, jobs) > room:
                 continue
             left.remove(key)
-            self.running[pool.submit(self.call, task, jobs, key not in self.awaited)] = key, jobs, self.memory_for(task, jobs)
+            self.running[pool.submit(self.call, task, jobs, task.kind != "proof")] = key, jobs, self.memory_for(task, jobs)
 
     def all_run(self):
         left = sorted(self.tasks, key=lambda it: -self.behind[it])
