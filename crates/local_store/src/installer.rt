@@ -59,6 +59,8 @@ impl<D: Disk + Drop> Installer<D> {
         ensures any_moment_refused { D.keeps_model → ((c : List ℕ) → D.may_leave_now disk c → HasNone slot incarnation c)
             → IfErr result (λ e. LeavesOnly D.moment D.may_have_left_since disk e.1 (IsNotMeant slot incarnation)) }
 
+        ensures calls { IfOk result (λ s. D.calls_made s.disk ≤ D.calls_made disk + 12) }
+        ensures calls_refused { IfErr result (λ e. D.calls_made e.1 ≤ D.calls_made disk + 12) }
         ensures size { IfOk result (λ s. D.size s.disk ≡ D.size disk) }
         ensures size_refused { IfErr result (λ e. D.size e.1 ≡ D.size disk) }
         ensures unchanged { IfErr result (λ e. e.0 ≡ Refusal.Memory → e.1 ≡ disk) }
@@ -113,6 +115,7 @@ impl<D: Disk + Drop> Installer<D> {
             → LeavesOnly D.moment D.may_have_left_since self.old.disk self.new.disk MeansNothing }
 
         ensures home { self.new.home ≡ self.old.home }
+        ensures calls { D.calls_made self.new.disk ≤ D.calls_made self.old.disk + 1 }
         ensures size { D.size self.new.disk ≡ D.size self.old.disk }
         ensures runs { OnOk result (self.new.broken ≡ false) }
         ensures broken { IsErrOf result Refusal.Broken ↔ (self.old.broken ≡ true) }
@@ -180,6 +183,8 @@ impl<D: Disk + Drop> Installer<D> {
             → (volume : List ℕ) → HasGiven self.home.superblock.geometry self.given volume (D.gives self.disk)
             → IfErr result (λ e. LeavesOnly D.moment D.may_have_left_since self.disk e.1 (λ c. MeansNothing c ⊎ Means (finished_meaning self.home.superblock front volume) c)) }
 
+        ensures calls { IfOk result (λ r. D.calls_made r.1 ≤ D.calls_made self.disk + 9) }
+        ensures calls_refused { IfErr result (λ e. D.calls_made e.1 ≤ D.calls_made self.disk + 9) }
         ensures size { IfOk result (λ r. D.size r.1 ≡ D.size self.disk) }
         ensures size_refused { IfErr result (λ e. D.size e.1 ≡ D.size self.disk) }
         ensures runs { OnOk result (self.broken ≡ false) }
@@ -218,6 +223,7 @@ fn finish_home<D: Disk>(home: &mut Home, disk: &mut D, front: u64) -> Result<Syn
     ensures any_moment { D.keeps_model → IsInstalling home.old (D.gives disk.old) (D.may_leave_now disk.old)
         → LeavesOnly D.moment D.may_have_left_since disk.old disk.new
         (λ c. MeansNothing c ⊎ Means (finished_meaning home.old.superblock front (inside (places.home_part home.old.superblock.geometry) (D.gives disk.old))) c) }
+    ensures calls { D.calls_made disk.new ≤ D.calls_made disk.old + 9 }
     ensures size { D.size disk.new ≡ D.size disk.old }
     ensures told { IfErr result IsOfFinishing }
     ensures own { IfErr result IsOfDevice }

@@ -53,6 +53,7 @@ impl<L: Disk> CommitWork<L> {
         ensures any_moment { L.keeps_model → (batches : List Batch) → IsSettled self.journal batches (L.gives self.log) (L.may_leave_now self.log)
             → LeavesOnly L.moment L.may_have_left_since self.log result.log
             (λ x. HoldsOldOrNew self.journal.blocks self.journal.before batches (record { front = self.front; images = self.images.items }) (inside self.journal.part x)) }
+        ensures calls { L.calls_made result.log ≤ L.calls_made self.log + 4 }
         ensures size { L.size result.log ≡ L.size self.log }
         ensures unchanged { IsErrOf result.outcome Refusal.Memory → (result.journal ≡ self.journal) × (result.log ≡ self.log) }
         ensures told { IfErr result.outcome IsOfJournaling }
