@@ -15,8 +15,8 @@ import kit
 # The kinds of tasks that may use several processors.
 SHARED = ("proof", "tests")
 MOST_JOBS = 4
-# How much a command that gives way lowers its priority.
-PATIENCE = 10
+# How much commands lower their priority: a proof that isn't on the longest chain, and what isn't a proof.
+PATIENCE, MORE_PATIENCE = 5, 10
 # What a check was seen to take at most of the memory that the kit counts for it, and what each job more takes of that.
 MEMORY, MEMORY_A_JOB = 0.65, 0.6
 
@@ -53,12 +53,12 @@ class Task:
         return self.crate.name, self.kind
 
 
-def run(words, log, gives_way):
-    """Runs a command, which gives way to others if it is told to; what it prints goes to the log."""
+def run(words, log, patience):
+    """Runs a command, whose priority is lowered so much; what it prints goes to the log."""
     begun = time.time()
     os.makedirs(os.path.dirname(log), exist_ok=True)
     with open(log, "wb") as out:
-        started = subprocess.Popen(words, cwd=kit.ROOT, stdin=subprocess.DEVNULL, stdout=out, stderr=subprocess.STDOUT, preexec_fn=(lambda: os.nice(PATIENCE)) if gives_way else None)
+        started = subprocess.Popen(words, cwd=kit.ROOT, stdin=subprocess.DEVNULL, stdout=out, stderr=subprocess.STDOUT, preexec_fn=lambda: os.nice(patience))
         _, status, usage = os.wait4(started.pid, 0)
     started.returncode = os.waitstatus_to_exitcode(status)
     return Done(started.returncode, log, time.time() - begun, usage.ru_utime + usage.ru_stime)
@@ -83,7 +83,8 @@ def minutes_of(crates):
 
 class Lanes:
     """Runs tasks side by side, one a processor, as many as memory holds; those first that the longest chain of others waits for. The
-    first of all has more jobs than others, since the whole waits for it. Mutants, tests and runs give way to proofs."""
+    first of all has more jobs than others, since the whole waits for it, and all others give way to it; mutants, tests and runs give way
+    to all proofs."""
 
     def __init__(self, tasks, logs, tell):
         self.tasks = {it.key: it for it in tasks}
@@ -113,10 +114,10 @@ class Lanes:
             visit(key)
         return order
 
-    def call(self, task, jobs, gives_way):
+    def call(self, task, jobs, patience):
         log = f"{self.logs}/{task.crate.name}.{task.kind.replace(' ', '-')}.log"
         if all(it not in self.given or self.given[it].is_well for it in task.waits):
-            done = run([*task.words, "--jobs", str(jobs)] if task.kind in SHARED else task.words, log, gives_way)
+            done = run([*task.words, "--jobs", str(jobs)] if task.kind in SHARED else task.words, log, patience)
         else:
             done = Done(None, log)
         with self.telling:
@@ -129,9 +130,15 @@ class Lanes:
         if task.kind not in SHARED:
             return 1
         most = min(MOST_JOBS, self.lanes)
-        is_first = self.behind[task.key] >= max(self.behind[it] for it in self.tasks if it not in self.given)
-        least = 1 if not is_first else most if self.only_proofs else 2
+        least = 1 if not self.is_first(task) else most if self.only_proofs else 2
         return max(least, min(most, idle // ready))
+
+    def is_first(self, task):
+        """Whether no other task that is left has a longer chain behind it."""
+        return self.behind[task.key] >= max(self.behind[it] for it in self.tasks if it not in self.given)
+
+    def patience_of(self, task):
+        return MORE_PATIENCE if task.kind != "proof" else 0 if self.is_first(task) else PATIENCE
 
     def memory_for(self, task, jobs):
         return kit.rt.need(task.crate) * MEMORY * (1 + MEMORY_A_JOB * (jobs - 1))
@@ -152,7 +159,7 @@ class Lanes:
             if self.running and self.memory_for(task, jobs) > room:
                 continue
             left.remove(key)
-            self.running[pool.submit(self.call, task, jobs, task.kind != "proof")] = key, jobs, self.memory_for(task, jobs)
+            self.running[pool.submit(self.call, task, jobs, self.patience_of(task))] = key, jobs, self.memory_for(task, jobs)
 
     def all_run(self):
         left = sorted(self.tasks, key=lambda it: -self.behind[it])
