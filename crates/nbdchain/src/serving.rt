@@ -79,6 +79,14 @@ struct Begun<D: Disk + Drop> {
     others: Vec<D>,
 }
 
+/// Where a world is served, and for how many sessions; 0 is for ever.
+#[derive(Drop)]
+struct Serving {
+    listener: TcpListener,
+    port: u16,
+    sessions: u32,
+}
+
 /// Why no world goes on.
 #[derive(Drop)]
 enum Unbegun<D> {
@@ -90,8 +98,8 @@ enum Unbegun<D> {
 
 /// Serves the folder that the words name, so many sessions.
 ///
-/// 302 `ListenFault` where binding or accepting fails. Else as `folder::open`, and as `folder::restart`, which records the
-/// source alone, with the next epoch, before anything else is written.
+/// 302 `ListenFault` where binding fails, with nothing written to the folder, or accepting. Else as `folder::open`, and as
+/// `folder::restart`, which records the source alone, with the next epoch, before anything else is written.
 pub(crate) fn serve_folder<'a, R, O: Write>(
     rt: &R,
     matches: &ArgMatches<'a>,
@@ -121,6 +129,8 @@ where
         Ok(files) => files,
         Err(failure) => return Err(Fault::Folder { dir, failure }),
     };
+    // A port that can't be had is no reason to record another chain.
+    let listener = listen(rt, port)?;
     let begun = match begin_from(rt.alloc(), config, disks) {
         Ok(begun) => begun,
         Err(Unbegun::Refused(refused)) => {
@@ -129,14 +139,18 @@ where
         }
         Err(Unbegun::Memory) => return Err(Fault::Own(Refusal::Memory)),
     };
-    serve_begun(rt, port, sessions, begun, output)
+    let serving = Serving {
+        listener,
+        port,
+        sessions,
+    };
+    serve_begun(rt, serving, begun, output)
 }
 
 /// Serves a world that goes on from a folder's disks. Until its end they are held, and with them the files' locks.
 fn serve_begun<'a, R, O: Write>(
     rt: &R,
-    port: u16,
-    sessions: u32,
+    serving: Serving,
     begun: Begun<FileDisk>,
     output: &mut O,
 ) -> Result<(), Fault<'a>>
@@ -162,7 +176,7 @@ where
     } = begun;
     let mut service = Service::new(rt.alloc(), world);
     let served = match print_source(source.number(), front, epoch.number(), output) {
-        Ok(()) => serve_at(rt, port, sessions, &mut service, output),
+        Ok(()) => serve_at(rt, serving, &mut service, output),
         Err(refusal) => Err(Fault::Own(refusal)),
     };
     let _ = service.abandon();
@@ -253,8 +267,7 @@ fn world_of_one<S: StoreLike + Drop>(
 /// Serves a world at a port.
 fn serve_at<'a, R, S, O: Write>(
     rt: &R,
-    port: u16,
-    sessions: u32,
+    serving: Serving,
     service: &mut Service<S>,
     output: &mut O,
 ) -> Result<(), Fault<'a>>
@@ -270,7 +283,11 @@ where
         + 'static,
     S: StoreLike + HasError + Drop,
 {
-    let listener = listen(rt, port)?;
+    let Serving {
+        listener,
+        port,
+        sessions,
+    } = serving;
     let size = service.size();
     writeln!(output, "serving {size} bytes at 127.0.0.1:{port}")?;
     output.flush()?;

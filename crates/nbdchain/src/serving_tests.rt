@@ -36,6 +36,18 @@ const FIRST_READ: Exchange = (
     "674466980000000000000000000000020041424300",
 );
 
+/// A WRITE of `XYZ` at 100, which nobody asks to be durable.
+const PLAIN_WRITE: Exchange = (
+    "2560951300000001000000000000000300000000000000640000000358595a",
+    "67446698000000000000000000000003",
+);
+
+/// A READ of 5 bytes at 99, behind it.
+const PLAIN_READ: Exchange = (
+    "25609513000000000000000000000004000000000000006300000005",
+    "674466980000000000000000000000040058595a00",
+);
+
 /// A connection to a server that is about to listen at the port.
 fn connect<R: Net<Listener = TcpListener, Stream = TcpStream> + Clock + Abort>(
     rt: &R,
@@ -112,11 +124,11 @@ fn talk<R: Net<Listener = TcpListener, Stream = TcpStream> + Clock + AllocGlobal
     exchange(rt, alloc, &stream, last) && right
 }
 
-#[test]
-fn formatted_and_served(rt: HostRuntime) {
+/// A new folder with a chain of one, of 8 blocks.
+fn formatted(rt: &HostRuntime, name: &str) -> String {
     let id = process::id(rt.process());
-    let dir = format!(in rt.alloc(); "/tmp/nbdchain.{id}").expect(&rt, "memory");
-    fs::create_dir(&rt, dir.as_str()).expect(&rt, "a new folder");
+    let dir = format!(in rt.alloc(); "/tmp/nbdchain.{name}.{id}").expect(rt, "memory");
+    fs::create_dir(rt, dir.as_str()).expect(rt, "a new folder");
     let words = [
         "nbdchain",
         "format",
@@ -130,17 +142,33 @@ fn formatted_and_served(rt: HostRuntime) {
         "--members",
         "1",
     ];
-    let formatted = run_words(&rt, &words);
+    let formatted = run_words(rt, &words);
     assert_eq!(rt; shown(&formatted.output), "formatted 1 members, 8 blocks\n");
-    let (port, first_dir) = (free_port(&rt), dir.clone().expect(&rt, "memory"));
-    let first = thread::spawn(&rt, move || serve_once(&rt, &first_dir, port));
-    let first = first.expect(&rt, "a thread");
-    let wrote = talk(&rt, port, FIRST_WRITE);
-    assert!(rt; first.join(&rt) == 0 && wrote);
-    let (port, second_dir) = (free_port(&rt), dir.clone().expect(&rt, "memory"));
-    let second = thread::spawn(&rt, move || serve_once(&rt, &second_dir, port));
-    let second = second.expect(&rt, "a thread");
-    let read = talk(&rt, port, FIRST_READ);
-    assert!(rt; second.join(&rt) == 0 && read);
+    dir
+}
+
+#[test]
+fn formatted_and_served(rt: HostRuntime) {
+    let dir = formatted(&rt, "served");
+    for exchange in [FIRST_WRITE, FIRST_READ, PLAIN_WRITE, PLAIN_READ] {
+        let (port, own_dir) = (free_port(&rt), dir.clone().expect(&rt, "memory"));
+        let server = thread::spawn(&rt, move || serve_once(&rt, &own_dir, port));
+        let server = server.expect(&rt, "a thread");
+        let right = talk(&rt, port, exchange);
+        assert!(rt; server.join(&rt) == 0 && right);
+    }
+    fs::remove_dir_all(&rt, dir.as_str()).expect(&rt, "a folder to remove");
+}
+
+#[test]
+fn a_busy_port_changes_nothing(rt: HostRuntime) {
+    let dir = formatted(&rt, "busy");
+    let config = format!(in rt.alloc(); "{dir}/config.disk").expect(&rt, "memory");
+    let before = fs::read(&rt, config.as_str()).expect(&rt, "the record");
+    let busy = TcpListener::bind(&rt, (Ipv4Addr::LOCALHOST, 0)).expect(&rt, "a free port");
+    let port = busy.local_addr().expect(&rt, "an address").port();
+    assert_eq!(rt; serve_once(&rt, &dir, port), 1);
+    let after = fs::read(&rt, config.as_str()).expect(&rt, "the record");
+    assert!(rt; before.as_slice() == after.as_slice());
     fs::remove_dir_all(&rt, dir.as_str()).expect(&rt, "a folder to remove");
 }

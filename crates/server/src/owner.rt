@@ -47,7 +47,7 @@ enum Mode {
 }
 
 /// Serves the clients that come: so many, or for ever where it is 0. It ends when the last of them is gone and nothing is
-/// left to commit.
+/// left to do, in idle time neither.
 ///
 /// 302 `ListenFault` where the system accepts no more: then the clients that are there are hung up. 100 `Memory`, before
 /// any client is served.
@@ -134,7 +134,12 @@ impl Owner {
             let committed = world.commit();
             let goes_on = played || served || committed;
             if !goes_on && self.is_done() {
-                break;
+                // What was answered is to be there when it is served again, also where nobody asked for it to be durable.
+                if !world.rest() {
+                    break;
+                }
+                mode = Mode::Busy;
+                continue;
             }
             mode = next_mode(mode, told, goes_on, world);
         }
