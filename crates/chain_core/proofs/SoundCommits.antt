@@ -34,27 +34,6 @@ commit_cause refusals.Backwards told runs rises fits = absurd (rises refl)
 commit_cause (refusals.Device error) told runs rises fits = tt
 
 module _ (about : About) (keeping : Keeping) (node : NodeState) (is : IsSound about keeping node) where
-  -- the commit under way is no longer told of
-  pub sound_taken : IsSound about keeping (record node { commit = None })
-  sound_taken = record {
-    slot = is.slot;
-    incarnation = is.incarnation;
-    front = is.front;
-    behind = is.behind;
-    ahead = is.ahead;
-    limit = is.limit;
-    blocks = is.blocks;
-    inside = is.inside;
-    some = is.some;
-    owed = is.owed;
-    asked = is.asked;
-    found = is.found;
-    under_way = λ c here. absurd (cc);
-    running = is.running;
-    resting = λ cause here. refl;
-    journals = λ premise volume keep c here. absurd (cc);
-  }
-
   -- its store did its work, used no more of the area by it, and keeps what it kept
   pub sound_worked : node.stopped ≡ None → (used stores : ℕ) (tells : About) (keeps : List ℕ → Type 0) → used ≤ about.used → tells ≡ record about { used = used; stores = stores }
       → (keeping.premise → (volume : List ℕ) → keeping.keeps volume → keeps volume) → (keeping.premise → (one other : List ℕ) → keeps one → keeps other → one ≡ other)
@@ -105,27 +84,6 @@ module _ (about : About) (keeping : Keeping) (node : NodeState) (is : IsSound ab
     where
       the_same : (c : Commit) → Some commit ≡ Some c → commit ≡ c
       the_same c here = cc
-
-  -- its store failed, and it is to stop
-  pub sound_failing : (cause : Cause) (broken : Bool) (tells : About) (keeps : Keeping) → tells ≡ record about { broken = broken } → IsSound tells keeps (record node { stopped = Some cause; commit = None })
-  sound_failing cause broken tells keeps same = subst (λ a. IsSound a keeps (record node { stopped = Some cause; commit = None })) (sym same) (record {
-    slot = is.slot;
-    incarnation = is.incarnation;
-    front = is.front;
-    behind = is.behind;
-    ahead = is.ahead;
-    limit = is.limit;
-    blocks = is.blocks;
-    inside = is.inside;
-    some = is.some;
-    owed = is.owed;
-    asked = is.asked;
-    found = is.found;
-    under_way = λ c here. absurd (cc);
-    running = λ here. absurd (cc);
-    resting = λ other here. refl;
-    journals = λ premise volume keep c here. absurd (cc);
-  })
 
   module _ (commit : Commit) (here : node.commit ≡ Some commit) where
     -- a member with a commit under way runs

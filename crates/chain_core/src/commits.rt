@@ -5,7 +5,7 @@ ghost use Rattle.disk_model.specs.declared.error.DiskError.TheVariants.{ReadFaul
 ghost use Rattle.disk_model.specs.Error.{MayTell};
 ghost use Rattle.gate_journal.specs.declared.batch.TheConstants.{MAX_NUMBER};
 ghost use Rattle.gate_journal.specs.declared.batch.Image.{Image as Imaged};
-ghost use Rattle.local_store.specs.About.{HasRoom, IsOneLess, meaning_with, one_checkpoint_more};
+ghost use Rattle.local_store.specs.About.{HasNeighbours, HasRoom, IsOneLess, IsWithoutRun, meaning_with, one_checkpoint_more};
 ghost use Rattle.local_store.specs.Meaning.{Means};
 ghost use Rattle.chain_steps.specs.Node.{is_stopped};
 ghost use Rattle.chain_steps.specs.Steps.{Begins, CanBegin, IsGroup, silent, volume_at};
@@ -19,6 +19,7 @@ use crate::out::Out;
 use crate::reading::Unread;
 use crate::refusal::Refusal;
 use chain_steps::Cause;
+use flusher::Run;
 use gate_journal::Synced;
 use local_store::{Refusal as StoreRefusal, StoreLike};
 
@@ -166,6 +167,48 @@ impl<S: StoreLike + Drop> Node<S> {
                 self.commit = None;
                 self.stopped = Some(cause);
                 Ok((self.stop_by(cause), None))
+            }
+            Err(_) => unreachable!(),
+        }
+    }
+
+    /// Writes the next pending block home, and those behind it without a gap, at most so many, at least one, by one device
+    /// call, and gives the run; `None` where nothing is pending, or the member stopped.
+    ///
+    /// 154 `Stopped` once stopped; else 100 `Memory` where there is no room for the run's bytes, of which one block needs
+    /// none: these change nothing. Where the disk refuses, the member stops.
+    pub fn tick_run(&mut self, most: u32) -> Result<(Out, Option<Run>), Refusal>
+        requires { 0 < most }
+        ensures runs { OnOk result (self.old.state.stopped ≡ None) }
+        ensures worked { IfOk result (λ done. HasWorked S.about (S.about self.old.store) self.old self.new done.0
+            ⊎ ((done.1 ≡ None) × HasStoppedBy S.about S.failures (MayTell WriteFault) self.old self.new done.0)) }
+        ensures home { IfOk result (λ done. IfSome done.1 (λ run. IsWithoutRun most run (S.is_pending self.old.store) (S.is_pending self.new.store))) }
+        ensures none { IfOk result (λ done. self.new.state.stopped ≡ None → IfNone done.1 ((b : ℕ) → S.is_pending self.old.store b → ⊥)) }
+        ensures still { OnOk result (is_stopped self.new.state ≡ true → (b : ℕ) → S.is_pending self.new.store b ↔ S.is_pending self.old.store b) }
+        ensures kept { S.keeps_model → (volume : List ℕ) → S.keeps self.old.store volume → OnOk result (self.new.state.stopped ≡ None → S.keeps self.new.store volume) }
+
+        ensures failures { OnOk result (self.new.state.stopped ≡ None → S.failures self.new.store ≡ S.failures self.old.store) }
+
+        // A stop at any moment of the call leaves what means what it meant.
+        ensures any_moment { S.keeps_model → (volume : List ℕ) → S.keeps self.old.store volume → LeavesOnly S.moment S.may_have_left_since self.old.store self.new.store (Means (meaning_with (S.about self.old.store) volume)) }
+        ensures memory { IsErrOf result Refusal.Memory → (1 < most) × HasNeighbours (S.is_pending self.old.store) }
+        ensures stopped { IsErrOf result Refusal.Stopped ↔ (is_stopped self.old.state ≡ true) }
+        ensures refused { IfErr result (λ r. (r ≡ Refusal.Memory) ⊎ (r ≡ Refusal.Stopped)) }
+        ensures unchanged { OnErr result ((self.new.state ≡ self.old.state) × (S.about self.new.store ≡ S.about self.old.store)
+            × ((volume : List ℕ) → S.keeps self.old.store volume → S.keeps self.new.store volume) × ((b : ℕ) → S.is_pending self.new.store b ↔ S.is_pending self.old.store b)) }
+    {
+        if self.stopped.is_some() {
+            return Err(Refusal::Stopped);
+        }
+        match self.store.tick_run(self.alloc, most) {
+            Ok(given) => Ok((self.nothing(), given)),
+            Err(StoreRefusal::Memory) => Err(Refusal::Memory),
+            Err(StoreRefusal::Device(error)) => {
+                let cause = Cause::Device(error);
+                self.commit = None;
+                self.stopped = Some(cause);
+                let out = self.stop_by(cause);
+                Ok((out, None))
             }
             Err(_) => unreachable!(),
         }

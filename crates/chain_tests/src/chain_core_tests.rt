@@ -10,6 +10,7 @@ use chain_core::{Node, Out, Refused, Served};
 use chain_steps::{Message, Sent, WriteToken};
 use configurations::{Epoch, Incarnation, Member, Record};
 use flush_barrier::{BoardName, OwedFlush, OwedFua, OwedRead, OwedWrite, SessionId};
+use flusher::Run;
 use gate_journal::{Slot, Synced};
 use local_store::{PlainStore, StoreLike};
 use std::alloc::Global;
@@ -293,6 +294,9 @@ fn a_write_with_fua_is_paid_by_its_receipt(rt: HostRuntime) {
     same(&rt, pay(&board, &mut seat, &mut node).len(), 0);
     board.post(&mut seat, receipt);
     check(&rt, pay(&board, &mut seat, &mut node), 9, b"");
+    let run = Run { first: 0, count: 1 };
+    let given = node.tick_run(8).map(|(_, given)| given);
+    same(&rt, given, Ok(Some(run)));
     drop(node.abandon());
 }
 
