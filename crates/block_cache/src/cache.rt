@@ -5,7 +5,7 @@ ghost use Rattle.disk_model.specs.Disk.{put};
 ghost use Rattle.disk_model.specs.Error.{HasCause};
 ghost use Rattle.disk_model.specs.Part.{inside};
 ghost use Rattle.gate_journal.specs.Runs.{OnlyReads};
-ghost use Rattle.home_blocks.specs.Places.{disk_size_of, home_block, home_part};
+ghost use Rattle.home_blocks.specs.Places.{border_of, home_block, home_part};
 ghost use Rattle.volume.specs.Writes.{block_of};
 ghost use Rattle.block_cache.specs.Cache.{Agrees, IsCached, Keeps};
 
@@ -89,7 +89,7 @@ impl Cache {
         block: u32,
         bytes: &mut [u8],
     ) -> Result<(), DiskError>
-        requires on_disk { disk_size_of home.now.superblock.geometry ≤ D.size disk.old }
+        requires on_disk { border_of home.now.superblock.geometry ≤ D.size disk.old }
         requires block { block < home.now.superblock.geometry.blocks }
         requires whole { length bytes.old ≡ BLOCK_SIZE }
 

@@ -1,5 +1,5 @@
 //! How a chain begins, and how it is given up.
-ghost use Rattle.std.specs.Prelude.{◌≡◌, ◌<◌, ◌≤◌, ℕ, List, All, false, length, map, replicate, IfErr, IfOk, IfSome, slice_get};
+ghost use Rattle.std.specs.Prelude.{◌≡◌, ◌<◌, ◌≤◌, ℕ, List, All, None, false, length, map, replicate, IfErr, IfOk, IfSome, slice_get};
 ghost use Rattle.chain_core.specs.Node.{size_of};
 ghost use Rattle.world_model.specs.Chain.{View};
 ghost use Rattle.world_model.specs.ChainLaws.{IsBeginning};
@@ -20,7 +20,7 @@ impl<S: StoreLike + Drop> Member<S> {
     /// The member whose store this is, in a chain that begins.
     fn new(alloc: Global, board: &Board, told: Record, store: S) -> Member<S>
         requires runs { (S.about store).broken ≡ false }
-        requires here { (S.about store).lent ≡ false }
+        requires here { (S.about store).lent ≡ None }
         requires keeps { S.keeps_model → (volume : List ℕ) × S.keeps store volume × (length volume ≡ size_of (S.about store)) }
         ensures { result ≡ beginning_of S.about board.now told store }
     {
@@ -46,7 +46,7 @@ impl<S: StoreLike + Drop> Chain<S> {
         requires incarnations { All (λ m. 0 < m.incarnation) told.members }
         requires even { AreEven S.about stores.items }
         requires runs { All (λ store. (S.about store).broken ≡ false) stores.items }
-        requires here { All (λ store. (S.about store).lent ≡ false) stores.items }
+        requires here { All (λ store. (S.about store).lent ≡ None) stores.items }
         requires keeps { S.keeps_model → All (λ store. (volume : List ℕ) × S.keeps store volume × (length volume ≡ size_of (S.about store))) stores.items }
         ensures told { IfOk result (λ chain. chain.chain ≡ told) }
         ensures sizes { IfOk result (λ chain. IfSome (slice_get stores.items 0) (λ first. chain.geometry ≡ (S.about first).geometry)) }
@@ -119,7 +119,7 @@ fn begin_all<S: StoreLike + Drop>(
 ) -> Result<Vec<Member<S>>, Vec<S>>
     requires copies { copies.items ≡ replicate (length stores.items) told.now }
     requires runs { All (λ store. (S.about store).broken ≡ false) stores.items }
-    requires here { All (λ store. (S.about store).lent ≡ false) stores.items }
+    requires here { All (λ store. (S.about store).lent ≡ None) stores.items }
     requires keeps { S.keeps_model → All (λ store. (volume : List ℕ) × S.keeps store volume × (length volume ≡ size_of (S.about store))) stores.items }
     ensures members { IfOk result (λ members. members.items ≡ map (beginning_of S.about board.now told.now) stores.items) }
     ensures back { IfErr result (λ given. given.items ≡ stores.items) }

@@ -58,7 +58,7 @@ pub record Keeping : Type 1 where
 -- a store that runs: no device call failed, its log is there, and it keeps a volume of its size
 pub record IsRunning (about : About) (keeping : Keeping) : Type 0 where
   pub whole : about.broken ≡ false
-  pub here : about.lent ≡ false
+  pub here : about.lent ≡ None
   pub keeps : keeping.premise → (volume : List ℕ) × keeping.keeps volume × (length volume ≡ size_of about)
 
 -- what holds of every member, whose store tells this of itself and keeps such volumes

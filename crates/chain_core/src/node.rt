@@ -75,7 +75,7 @@ impl<S: StoreLike + Drop> Node<S> {
     /// store isn't broken, its log is there, and it keeps a volume of its size.
     pub fn new(alloc: Global, board: &Board, chain: Record, store: S) -> Node<S>
         requires runs { (S.about store).broken ≡ false }
-        requires here { (S.about store).lent ≡ false }
+        requires here { (S.about store).lent ≡ None }
         requires keeps { S.keeps_model → (volume : List ℕ) × S.keeps store volume × (length volume ≡ size_of (S.about store)) }
         ensures store { result.store ≡ store }
         ensures state { result.state ≡ record {

@@ -1,5 +1,5 @@
 -- What was found on the disks that returned.
-use Rattle.std.specs.Prelude.{◌≡◌, ℕ, ◌<◌, ◌^◌, false, Some, List, slice_get}
+use Rattle.std.specs.Prelude.{◌≡◌, ℕ, ◌<◌, ◌^◌, false, None, Some, List, slice_get}
 use Rattle.configurations.specs.declared.member.Member.{Member}
 use Rattle.local_store.specs.About.{About, meaning_with}
 use Rattle.local_store.specs.Meaning.{Meaning}
@@ -25,7 +25,7 @@ pub record IsRunning {S : Type 0} (about : S → About) (store : S) : Type 0 whe
   pub given : 0 < (about store).incarnation
   pub limit : (about store).incarnation < 2 ^ 63
   pub runs : (about store).broken ≡ false
-  pub here : (about store).lent ≡ false
+  pub here : (about store).lent ≡ None
 
 -- what is told to the rule of recovery
 abbrev pub returned_as : {S D : Type 0} → (S → About) → OnDisk S D → Returned

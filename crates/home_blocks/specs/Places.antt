@@ -13,6 +13,10 @@ use Rattle.home_blocks.specs.declared.area.Area.TheVariants.{First, Second}
 abbrev pub disk_size_of : Geometry → ℕ
 disk_size_of g = 8192 + 4096 * g.blocks + 2 * g.area
 
+-- where the home half of a disk ends and its log half begins: behind the home region, with the first area
+abbrev pub border_of : Geometry → ℕ
+border_of g = 8192 + 4096 * g.blocks
+
 -- the parts end below 2^64
 pub superblock_fits : 0 + 8192 < 2 ^ 64
 superblock_fits = lit< tt
@@ -30,7 +34,7 @@ home_part g = record { start = 8192; len = 4096 * g.blocks; fits = home_fits g }
 
 -- where an area begins
 abbrev pub area_start : Geometry → Area → ℕ
-area_start g area = 8192 + 4096 * g.blocks + area_number area * g.area
+area_start g area = border_of g + area_number area * g.area
 
 -- the part is that of this area
 pub record IsAreaPart (g : Geometry) (area : Area) (part : Part) : Type 0 where

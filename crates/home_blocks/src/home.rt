@@ -7,7 +7,7 @@ ghost use Rattle.gate_journal.specs.Pair.{IsBeingMade, stored};
 ghost use Rattle.gate_journal.specs.Runs.{OnlyReads};
 ghost use Rattle.home_blocks.specs.Home.{HoldsSuperblock, IsNoVolume, IsOtherVersion, IsSettledHome, IsVolume, State};
 ghost use Rattle.home_blocks.specs.Places as places;
-ghost use Rattle.home_blocks.specs.Places.{disk_size_of, home_block};
+ghost use Rattle.home_blocks.specs.Places.{border_of, disk_size_of, home_block};
 ghost use Rattle.home_blocks.specs.Refusal.{HasCause, IsOfDevice, IsOfMarking, IsOfOpening, IsOfWriting};
 ghost use Rattle.home_blocks.specs.Superblock.{marked, superblock_encoding};
 
@@ -19,7 +19,8 @@ use std::marker::Model;
 use volume::BLOCK_SIZE;
 
 /// The superblock and the home region of a member's disk. Each call is lent the disk, which has at least
-/// `disk_size(geometry)` bytes.
+/// `disk_size(geometry)` bytes; for those that read or write the home region alone, the bytes below the first area are
+/// enough.
 #[derive(Debug, Drop)]
 pub struct Home {
     pair: GatedPair,
@@ -133,7 +134,7 @@ impl Home {
         block: u32,
         bytes: &mut [u8],
     ) -> Result<(), DiskError>
-        requires on_disk { disk_size_of self.now.superblock.geometry ≤ D.size disk.old }
+        requires on_disk { border_of self.now.superblock.geometry ≤ D.size disk.old }
         requires block { block < self.now.superblock.geometry.blocks }
         requires whole { length bytes.old ≡ BLOCK_SIZE }
 
@@ -154,7 +155,7 @@ impl Home {
         first: u32,
         bytes: &mut [u8],
     ) -> Result<(), DiskError>
-        requires on_disk { disk_size_of self.now.superblock.geometry ≤ D.size disk.old }
+        requires on_disk { border_of self.now.superblock.geometry ≤ D.size disk.old }
         requires within { 4096 * first + length bytes.old ≤ 4096 * self.now.superblock.geometry.blocks }
 
         ensures read { D.keeps_model → OnOk result (bytes.new ≡ take (length bytes.old) (drop (4096 * first) (inside (places.home_part self.now.superblock.geometry) (D.gives disk.old)))) }
@@ -177,7 +178,7 @@ impl Home {
         block: u32,
         bytes: &[u8],
     ) -> Result<(), DiskError>
-        requires on_disk { disk_size_of self.now.superblock.geometry ≤ D.size disk.old }
+        requires on_disk { border_of self.now.superblock.geometry ≤ D.size disk.old }
         requires block { block < self.now.superblock.geometry.blocks }
         requires whole { length bytes.now ≡ BLOCK_SIZE }
 
@@ -211,7 +212,7 @@ impl Home {
         first: u32,
         bytes: &[u8],
     ) -> Result<(), DiskError>
-        requires on_disk { disk_size_of self.now.superblock.geometry ≤ D.size disk.old }
+        requires on_disk { border_of self.now.superblock.geometry ≤ D.size disk.old }
         requires within { 4096 * first + length bytes.now ≤ 4096 * self.now.superblock.geometry.blocks }
 
         ensures gives { D.keeps_model → OnOk result (Holds (inside (places.home_part self.now.superblock.geometry) (D.gives disk.old)) (4096 * first) bytes.now

@@ -4,7 +4,7 @@ ghost use Rattle.disk_model.specs.Part.{IsApart};
 ghost use Rattle.disk_model.specs.declared.part.Part.{Part as Placed};
 ghost use Rattle.home_blocks.specs.Area.{other_area};
 ghost use Rattle.home_blocks.specs.Places as places;
-ghost use Rattle.home_blocks.specs.Places.{IsAreaPart, disk_size_of};
+ghost use Rattle.home_blocks.specs.Places.{IsAreaPart, border_of, disk_size_of};
 
 use crate::Area;
 use disk_model::Part;
@@ -28,7 +28,7 @@ pub fn superblock_part() -> Part
 /// The part with the blocks of the volume, one behind the other.
 pub fn home_part(geometry: Geometry) -> Part
     ensures part { result ≡ places.home_part geometry }
-    ensures within { result.start + result.len ≤ disk_size_of geometry }
+    ensures end { result.start + result.len ≡ border_of geometry }
     ensures apart { IsApart places.superblock_part result }
 {
     Part::new(PAIR_SIZE, geometry.size())

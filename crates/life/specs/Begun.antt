@@ -20,7 +20,7 @@ export_of geometry = record { size = 4096 * geometry.blocks; max_payload = geome
 
 -- what the store of a member tells whose disk was formatted
 abbrev pub first_about : Geometry → ℕ → About
-first_about geometry slot = record { slot = slot; incarnation = 1; geometry = geometry; front = 0; used = 0; stores = 1; broken = false; lent = false }
+first_about geometry slot = record { slot = slot; incarnation = 1; geometry = geometry; front = 0; used = 0; stores = 1; broken = false; lent = None }
 
 -- the stores of its members, from the head's on
 abbrev pub stores_of : {S : Type 0} → Seen S → List S

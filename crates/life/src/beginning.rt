@@ -1,5 +1,5 @@
 //! How a world begins.
-ghost use Rattle.std.specs.Prelude.{◌≡◌, ◌≢◌, ◌*◌, ◌<◌, ◌≤◌, ℕ, List, [], All, IfErr, IfOk, IfSome, false, length, map, replicate, slice_get};
+ghost use Rattle.std.specs.Prelude.{◌≡◌, ◌≢◌, ◌*◌, ◌<◌, ◌≤◌, ℕ, List, [], All, IfErr, IfOk, IfSome, None, false, length, map, replicate, slice_get};
 ghost use Rattle.std.specs.List.{AllPairs, range_with_len};
 ghost use Rattle.chain.specs.Opening.{AreEven, recorded_in};
 ghost use Rattle.chain_core.specs.Node.{size_of};
@@ -94,7 +94,7 @@ pub(crate) fn world_of<S: StoreLike + Drop>(
     requires given { All (λ s. 0 < (S.about s).incarnation) stores.items }
     requires even { AreEven S.about stores.items }
     requires runs { All (λ s. (S.about s).broken ≡ false) stores.items }
-    requires here { All (λ s. (S.about s).lent ≡ false) stores.items }
+    requires here { All (λ s. (S.about s).lent ≡ None) stores.items }
     requires keeps { S.keeps_model → All (λ s. (volume : List ℕ) × S.keeps s volume × (length volume ≡ size_of (S.about s))) stores.items }
     ensures many { IfOk result (λ world. length world.chain.members ≡ length stores.items) }
     ensures stores { IfOk result (λ world. stores_of world ≡ stores.items) }

@@ -77,7 +77,7 @@ pub fn recover(alloc: Global, disk: MemDisk) -> Result<World<Store<MemDisk>>, Re
 fn alone<S: StoreLike + Drop>(alloc: Global, store: S) -> Result<World<S>, AllocError>
     requires given { 0 < (S.about store).incarnation }
     requires runs { (S.about store).broken ≡ false }
-    requires here { (S.about store).lent ≡ false }
+    requires here { (S.about store).lent ≡ None }
     requires keeps { S.keeps_model → (volume : List ℕ) × S.keeps store volume }
     ensures alone { IfOk result (λ world. length world.chain.members ≡ 1) }
     ensures store { IfOk result (λ world. stores_of world ≡ store ∷ []) }

@@ -14,17 +14,19 @@ use Rattle.gate_journal.specs.Batch.{Batch, batch_size, HoldsBatches, HoldsOldOr
 use Rattle.gate_journal.specs.Journal as journal
 use Rattle.gate_journal.specs.Journal.{Fits, IsSettled, appended, behind_border, part_behind, still_settled}
 use Rattle.gate_journal.specs.Pair.{HoldsPair}
+use Rattle.gate_journal.specs.Receipt.{Receipt}
 use Rattle.gate_journal.specs.Refusal as journals
 use Rattle.gate_journal.specs.declared.refusal.Refusal.{Refusal as JournalRefusal}
 use Rattle.gate_journal.specs.declared.refusal.Refusal.TheVariants as variants
 use Rattle.home_blocks.specs.Home.{settled_leaves, still_settled_home}
-use Rattle.home_blocks.specs.Places.{disk_size_of, home_part, superblock_part}
+use Rattle.home_blocks.specs.Places.{border_of, disk_size_of, home_part, superblock_part}
 use Rattle.home_blocks.specs.Superblock.{Superblock}
 use Rattle.home_blocks.specs.declared.progress.Progress.TheVariants.{Whole}
 use Rattle.local_store.specs.About.{HasNoRoom, about_of}
 use Rattle.local_store.specs.Kept.{parts_mean}
-use Rattle.local_store.specs.Lending.{HoldsHome, IsHomeKept, border_of}
-use Rattle.local_store.specs.Away.{IsKeptOver, IsLent, Keeps, LeftWith, batch_in, halves_mean_old, holds_below, inside_journal, journal_behind, left_either, left_more, over_means}
+use Rattle.local_store.specs.Lending.{Done, HoldsHome, IsDone, IsHomeKept}
+use Rattle.local_store.specs.Away.{IsKeptOver, IsLent, Keeps, LeftWith, batch_in, twin_of}
+use Rattle.local_store.specs.KeptAway.{halves_mean_old, holds_below, inside_journal, journal_behind, left_either, left_more, over_means}
 use Rattle.local_store.specs.Meaning.{Means}
 use Rattle.local_store.specs.Overlay.{AllFitIn, with_batches, with_images}
 use Rattle.local_store.specs.Store.{State, IsOfSuperblock, IsSameButForPending, IsStored, committed, geometry_of, meaning_after, meaning_in}
@@ -42,6 +44,26 @@ for_some {T} x P has = λ other is. subst P (ap (λ (o : Option T). unwrap_or o 
 pub for_it : {T : Type 0} (o : Option T) (x : T) (P : T → Type 0) → o ≡ Some x → P x → ForSome o P
 for_it {T} o x P is has = subst (λ (p : Option T). ForSome p P) (sym is) (for_some x P has)
 
+-- and of another that is the same
+pub for_it_of : {T L : Type 0} (o : Option T) (x : T) (R : T → L → Type 0) (log other : L) → o ≡ Some x → log ≡ other → R x log → ForSome o (λ l. R l other)
+for_it_of o x R log other is same has = for_it o x (λ l. R l other) is (subst (R x) same has)
+
+-- the log of a commit that is done is settled with its batch
+pub done_settles : {L : Type 0} {keeps_model : Type 0} {gives : L → List ℕ} {left : L → List ℕ → Type 0} {failures : L → ℕ} (done : Done L) (was log : L) (twin : journal.State) (batch : Batch) (batches : List Batch) (receipt : Receipt)
+    → IsDone keeps_model gives left failures done → keeps_model → done.was ≡ was → done.before ≡ twin → done.batch ≡ batch → done.log ≡ log → done.outcome ≡ Ok receipt → IsSettled twin batches (gives was) (left was)
+    → IsSettled (appended twin batch.front (length batch.images)) (batches ++ batch ∷ []) (gives log) (left log)
+done_settles {L} {gives = gives} {left} done was log twin batch batches receipt is keeps same_was same_twin same_batch same_log ok had =
+    let Now : journal.State → Batch → L → Type 0 = λ j b x. IsSettled (appended j b.front (length b.images)) (batches ++ b ∷ []) (gives x) (left x) in
+    let begun = subst (λ (j : journal.State). IsSettled j batches (gives done.was) (left done.was)) (sym same_twin) (subst (λ (x : L). IsSettled twin batches (gives x) (left x)) (sym same_was) had) in
+    let now = subst (λ (o : Result Receipt JournalRefusal). OnOk o (Now done.before done.batch done.log)) ok (is.settled keeps batches begun) in
+    subst (Now twin batch) same_log (subst (λ (b : Batch). Now twin b done.log) same_batch (subst (λ (j : journal.State). Now j done.batch done.log) same_twin now))
+
+-- and where memory ran out, as it was
+pub done_nothing : {L : Type 0} {keeps_model : Type 0} {gives : L → List ℕ} {left : L → List ℕ → Type 0} {failures : L → ℕ} (done : Done L) (was log : L) (twin : journal.State) (batches : List Batch)
+    → IsDone keeps_model gives left failures done → done.was ≡ was → done.log ≡ log → done.outcome ≡ Err variants.Memory → IsSettled twin batches (gives was) (left was) → IsSettled twin batches (gives log) (left log)
+done_nothing {L} {gives = gives} {left} done was log twin batches is same_was same_log memory had =
+    subst (λ (x : L). IsSettled twin batches (gives x) (left x)) (sym same_was ∙ sym (is.unchanged memory) ∙ same_log) had
+
 -- so many images fit into the journal where they have room in the area
 pub has_room : (store : State) (n m : ℕ) → (¬ HasNoRoom (about_of store) n) → m ≡ n → store.journal.part.len ≡ (geometry_of store).area → Fits store.journal m
 has_room store n m enough same long = elim (cases_lt (geometry_of store).area (store.journal.end + batch_size n + 1)) [
@@ -50,7 +72,7 @@ has_room store n m enough same long = elim (cases_lt (geometry_of store).area (s
 ]
 
 -- the disk has its home half, whether the log is lent or not
-pub has_border : {P : Type 0} (lent : Option (Lent P)) (store : State) (size : ℕ) (cut whole : P → ℕ) → (IsNone lent → disk_size_of (geometry_of store) ≤ size)
+pub has_border : {P L : Type 0} (lent : Option (Lent P L)) (store : State) (size : ℕ) (cut whole : P → ℕ) → (IsNone lent → disk_size_of (geometry_of store) ≤ size)
     → ForSome lent (λ l. IsLent store size (cut l.past) (whole l.past) l.len (batch_in l)) → border_of (geometry_of store) ≤ size
 has_border None store size cut whole here away = let room = here refl in omega (arith, room)
 has_border (Some l) store size cut whole here away = let at = (away l refl).home in omega (arith, at)
@@ -74,6 +96,10 @@ still_away {cut} {whole} {len} {batch} old new size now same as_long was = recor
     border : border_of (geometry_of old) ≡ border_of (geometry_of new)
     border = ap (λ (b : Superblock). border_of b.geometry) (sym same.superblock)
 
+twin_still : {old new : State} → IsSameButForPending old new → twin_of old ≡ twin_of new
+twin_still {old} {new} same =
+    ap (λ (j : journal.State). behind_border j (border_of (geometry_of old))) (sym same.journal) ∙ ap (λ (b : Superblock). behind_border new.journal (border_of b.geometry)) (sym same.superblock)
+
 -- what it keeps of the disk or of the home half, the store keeps
 over_still : {old new : State} {v : List ℕ} {batches : List Batch} {gives now : List ℕ} {left left_now left_before : List ℕ → Type 0} → IsSameButForPending old new → IsHomeKept new v batches now left_now
     → IsKeptOver old v batches gives left left_before → IsKeptOver new v batches now left_now left_before
@@ -83,31 +109,31 @@ over_still {old} {new} {v} {batches} same home was = record {
   held = λ c may. subst (λ (j : journal.State). HoldsBatches j.blocks j.before batches (inside j.part c)) (sym same.journal) (was.held c may);
 }
 
-pub keeps_still : {L T E : Type 0} (lent : Option L) (before : L → List ℕ → Type 0) (old new : State) (v gives now : List ℕ) (left left_now : List ℕ → Type 0) (r : Result T E) → IsSameButForPending old new
+pub keeps_still : {L T E : Type 0} (lent : Option L) (before : L → List ℕ → Type 0) (had : L → journal.State → List Batch → Type 0) (old new : State) (v gives now : List ℕ) (left left_now : List ℕ → Type 0) (r : Result T E) → IsSameButForPending old new
     → (IsStored old v gives left → OnOk r (IsStored new v now left_now)) → ((batches : List Batch) → IsHomeKept old v batches gives left → OnOk r (IsHomeKept new v batches now left_now))
-    → Keeps lent before old v gives left → OnOk r (Keeps lent before new v now left_now)
-keeps_still None before old new v gives now left left_now r same stored home kept = stored kept
-keeps_still (Some l) before old new v gives now left left_now r same stored home (batches, over) =
-    on_ok_weaker r (λ (is : IsHomeKept new v batches now left_now). (batches, over_still same is over)) (home batches over.home)
+    → Keeps lent before had old v gives left → OnOk r (Keeps lent before had new v now left_now)
+keeps_still None before had old new v gives now left left_now r same stored home kept = stored kept
+keeps_still (Some l) before had old new v gives now left left_now r same stored home (batches, over, log) =
+    on_ok_weaker r (λ (is : IsHomeKept new v batches now left_now). (batches, over_still same is over, subst (λ (j : journal.State). had l j batches) (twin_still same) log)) (home batches over.home)
 
 -- and what it reads, either way
-pub read_still : {L T E : Type 0} (lent : Option L) (before : L → List ℕ → Type 0) (store : State) (v gives : List ℕ) (left : List ℕ → Type 0) (r : Result T E) (P : Type 0)
-    → (IsStored store v gives left → OnOk r P) → ((batches : List Batch) → IsHomeKept store v batches gives left → OnOk r P) → Keeps lent before store v gives left → OnOk r P
-read_still None before store v gives left r P stored home kept = stored kept
-read_still (Some l) before store v gives left r P stored home (batches, over) = home batches over.home
+pub read_still : {L T E : Type 0} (lent : Option L) (before : L → List ℕ → Type 0) (had : L → journal.State → List Batch → Type 0) (store : State) (v gives : List ℕ) (left : List ℕ → Type 0) (r : Result T E) (P : Type 0)
+    → (IsStored store v gives left → OnOk r P) → ((batches : List Batch) → IsHomeKept store v batches gives left → OnOk r P) → Keeps lent before had store v gives left → OnOk r P
+read_still None before had store v gives left r P stored home kept = stored kept
+read_still (Some l) before had store v gives left r P stored home (batches, over, log) = home batches over.home
 
 -- where the log is there, the store keeps what its disk does
 pub none_is : {L : Type 0} (lent : Option L) → IsNone lent → lent ≡ None
 none_is None here = refl
 none_is (Some l) here = absurd (both_ways true here refl)
 
-pub stored_here : {L : Type 0} (lent : Option L) (before : L → List ℕ → Type 0) (store : State) (v gives : List ℕ) (left : List ℕ → Type 0) → IsNone lent → Keeps lent before store v gives left → IsStored store v gives left
-stored_here None before store v gives left here kept = kept
-stored_here (Some l) before store v gives left here kept = absurd (both_ways true here refl)
+pub stored_here : {L : Type 0} (lent : Option L) (before : L → List ℕ → Type 0) (had : L → journal.State → List Batch → Type 0) (store : State) (v gives : List ℕ) (left : List ℕ → Type 0) → IsNone lent → Keeps lent before had store v gives left → IsStored store v gives left
+stored_here None before had store v gives left here kept = kept
+stored_here (Some l) before had store v gives left here kept = absurd (both_ways true here refl)
 
-pub kept_here : {L : Type 0} (lent : Option L) (before : L → List ℕ → Type 0) (store : State) (v gives : List ℕ) (left : List ℕ → Type 0) → IsNone lent → IsStored store v gives left → Keeps lent before store v gives left
-kept_here None before store v gives left here stored = stored
-kept_here (Some l) before store v gives left here stored = absurd (both_ways true here refl)
+pub kept_here : {L : Type 0} (lent : Option L) (before : L → List ℕ → Type 0) (had : L → journal.State → List Batch → Type 0) (store : State) (v gives : List ℕ) (left : List ℕ → Type 0) → IsNone lent → IsStored store v gives left → Keeps lent before had store v gives left
+kept_here None before had store v gives left here stored = stored
+kept_here (Some l) before had store v gives left here stored = absurd (both_ways true here refl)
 
 -- a run of the disk or of the home half is one of the store
 pub owned_with : {L D S : Type 0} {moment : D → ℕ} {left_since : D → ℕ → List ℕ → Type 0} (o : Option L) (cut : L → ℕ) (before : L → List ℕ → Type 0) (disk : S → D) (lent_in : S → Option L) (old new : S) (P Q : List ℕ → Type 0)
@@ -120,14 +146,14 @@ owned_with {L} {D} {S} {moment} {left_since} o cut before disk lent_in old new P
       (left_either o cut before (left_since (disk new) t) (left_since (disk old) t) P (λ a here. run.before t a le here) c (subst (λ (x : Option L). LeftWith x cut before (left_since (disk new) t) c) is now));
 }
 
-pub leaves_still : {L D S : Type 0} {moment : D → ℕ} {left_since : D → ℕ → List ℕ → Type 0} (lent : Option L) (cut : L → ℕ) (before : L → List ℕ → Type 0) (disk : S → D) (lent_in : S → Option L) (old new : S) → lent_in old ≡ lent → lent_in new ≡ lent
+pub leaves_still : {L D S : Type 0} {moment : D → ℕ} {left_since : D → ℕ → List ℕ → Type 0} (lent : Option L) (cut : L → ℕ) (before : L → List ℕ → Type 0) (had : L → journal.State → List Batch → Type 0) (disk : S → D) (lent_in : S → Option L) (old new : S) → lent_in old ≡ lent → lent_in new ≡ lent
     → (store : State) (v gives : List ℕ) (left : List ℕ → Type 0) → ((l : L) → lent ≡ Some l → cut l ≡ border_of (geometry_of store))
     → (IsStored store v gives left → LeavesOnly moment left_since (disk old) (disk new) (Means (meaning_in store v)))
     → ((batches : List Batch) → IsHomeKept store v batches gives left → LeavesOnly moment left_since (disk old) (disk new) (HoldsHome store v batches))
-    → Keeps lent before store v gives left → LeavesOnly (λ (s : S). moment (disk s)) (λ (s : S) t. LeftWith (lent_in s) cut before (left_since (disk s) t)) old new (Means (meaning_in store v))
-leaves_still None cut before disk lent_in old new was is store v gives left at stored home kept =
+    → Keeps lent before had store v gives left → LeavesOnly (λ (s : S). moment (disk s)) (λ (s : S) t. LeftWith (lent_in s) cut before (left_since (disk s) t)) old new (Means (meaning_in store v))
+leaves_still None cut before had disk lent_in old new was is store v gives left at stored home kept =
     owned_with None cut before disk lent_in old new (Means (meaning_in store v)) (Means (meaning_in store v)) was is (λ c means. means) (stored kept)
-leaves_still (Some l) cut before disk lent_in old new was is store v gives left at stored home (batches, over) =
+leaves_still (Some l) cut before had disk lent_in old new was is store v gives left at stored home (batches, over, log) =
     owned_with (Some l) cut before disk lent_in old new (HoldsHome store v batches) (Means (meaning_in store v)) was is
     (λ c (holds, behind). over_means store v batches gives left (before l) (cut l) (at l refl) over c holds behind) (home batches over.home)
 

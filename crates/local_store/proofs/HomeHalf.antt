@@ -1,7 +1,6 @@
 -- What calls keep of a store's home half, and leave of it.
-use Rattle.std.proofs.Common.{◌≡◌, ℕ, ◌+◌, ◌-◌, ◌*◌, ◌<◌, ◌≤◌, List, take, drop, length, sym, ◌∙◌, ap, subst, arith}
+use Rattle.std.proofs.Common.{◌≡◌, ℕ, ◌+◌, ◌*◌, ◌<◌, ◌≤◌, List, length, sym, ◌∙◌, ap, subst, arith}
 use Rattle.std.specs.Prelude.{Option, Some}
-use Rattle.std.specs.List.{slice_range}
 use Rattle.block_cache.specs.Cache.{Agrees, Blocks}
 use Rattle.disk_model.specs.Disk.{Elapses, Follows, Holds, LeavesOnly, Torn}
 use Rattle.disk_model.specs.Frames.{both, others_keep, started_inside, write_goes_on}
@@ -11,7 +10,8 @@ use Rattle.gate_journal.specs.Batch.{Batch}
 use Rattle.gate_journal.specs.Runs.{OnlyReads, reads_keep}
 use Rattle.home_blocks.specs.Home.{HoldsSuperblock, still_settled_home}
 use Rattle.home_blocks.specs.Places.{home_part, superblock_part}
-use Rattle.local_store.specs.Lending.{HoldsHome, IsHomeKept, home_leaves}
+use Rattle.local_store.specs.Lending.{HoldsHome, IsHomeKept}
+use Rattle.local_store.specs.KeptAway.{home_leaves}
 use Rattle.local_store.specs.Overlay.{with_batches}
 use Rattle.local_store.specs.Pending.{AreCleared, AreJoined, held}
 use Rattle.local_store.specs.Store.{State, geometry_of, with_home}
@@ -20,11 +20,17 @@ use Rattle.local_store.proofs.Joined.{joined_torn, run_home}
 use Rattle.local_store.proofs.Stored.{first_part, held_by, home_from_superblock, region_still}
 use Rattle.volume.specs.Volumes.{length-block_of}
 
--- the bytes from a block on are what is read there
-pub blocks_read : (bytes : List ℕ) (b n at : ℕ) → at ≡ 4096 * b → slice_range bytes at (at + n) ≡ take n (drop (4096 * b) bytes)
-blocks_read bytes b n at place =
-    let count : at + n - at ≡ n = omega arith in
-    ap (λ (k : ℕ). take k (drop at bytes)) count ∙ ap (λ (k : ℕ). take n (drop k bytes)) place
+-- another cache that agrees with the home region
+pub home_with_cache : {store : State} {v : List ℕ} {batches : List Batch} {gives : List ℕ} {left : List ℕ → Type 0} (cache : Blocks) → Agrees cache (inside (home_part (geometry_of store)) gives) → IsHomeKept store v batches gives left
+    → IsHomeKept (record store { cache = cache }) v batches gives left
+home_with_cache cache agrees was = record {
+  stands = record { part = was.stands.part; slot = was.stands.slot; blocks = was.stands.blocks; before = was.stands.before };
+  superblock = was.superblock;
+  is_whole = was.is_whole;
+  region = was.region;
+  cached = agrees;
+  runs = was.runs;
+}
 
 -- before any call
 pub home_at_rest : {D : Type 0} {moment : D → ℕ} {left_since : D → ℕ → List ℕ → Type 0} {store : State} {v : List ℕ} {batches : List Batch} {gives : List ℕ} {left : List ℕ → Type 0} (disk : D) → IsHomeKept store v batches gives left

@@ -1,8 +1,8 @@
 -- What a store tells of itself, whatever it is kept on.
-use Rattle.std.specs.Prelude.{◌≢◌, ◌↔◌, ℕ, ◌+◌, ◌<◌, ◌≤◌, Bool, false, List}
+use Rattle.std.specs.Prelude.{◌≢◌, ◌↔◌, ℕ, ◌+◌, ◌<◌, ◌≤◌, Bool, List, None, Option}
 use Rattle.flusher.specs.Plan.{IsRun, IsWithin}
 use Rattle.flusher.specs.declared.plan.Run.{Run}
-use Rattle.gate_journal.specs.Batch.{batch_size}
+use Rattle.gate_journal.specs.Batch.{Batch, batch_size}
 use Rattle.gate_journal.specs.declared.batch.Image.{Image}
 use Rattle.local_store.specs.Meaning.{Meaning}
 use Rattle.local_store.specs.Overlay.{with_images}
@@ -10,7 +10,7 @@ use Rattle.local_store.specs.Store.{State, geometry_of}
 use Rattle.volume.specs.declared.geometry.Geometry.{Geometry}
 
 -- whose disk it is, the sizes, the front, the bytes of the current area that batches have, how many superblocks were
--- stored, whether a device call failed, and whether the log is lent out
+-- stored, whether a device call failed, and the batch for which the log is lent out, if it is
 pub record About : Type 0 where
   pub slot : ℕ
   pub incarnation : ℕ
@@ -19,7 +19,7 @@ pub record About : Type 0 where
   pub used : ℕ
   pub stores : ℕ
   pub broken : Bool
-  pub lent : Bool
+  pub lent : Option Batch
 
 -- what a store means that tells this of itself and keeps the volume
 abbrev pub meaning_with : About → List ℕ → Meaning
@@ -54,7 +54,7 @@ about_of store = record {
   used = store.journal.end;
   stores = store.home.pair.number;
   broken = store.broken;
-  lent = false;
+  lent = None;
 }
 
 -- one of these was pending, the block, and now it isn't; of each other it is as before

@@ -1,38 +1,41 @@
 -- A store whose log may be lent out: what it keeps, and what a stop may leave of it.
-use Rattle.std.specs.Prelude.{◌≡◌, ◌⊎◌, ℕ, ◌+◌, ◌*◌, ◌<◌, ◌≤◌, Option, None, Some, Result, IfOk, List, [], All, length, map, take, drop}
-use Rattle.std.proofs.Common.{Box, Global, arith, refl, sym, ◌∙◌, ap, subst, inl, inr, ⊎_elim}
-use Rattle.disk_model.specs.Halves.{LeftBehind, inside_behind, inside_below}
+use Rattle.std.specs.Prelude.{◌≡◌, ℕ, ◌+◌, ◌<◌, ◌≤◌, Option, None, Some, Result, IfOk, List, [], All, length, map, take, drop}
+use Rattle.std.proofs.Common.{Box, Global}
+use Rattle.disk_model.specs.Halves.{LeftBehind}
 use Rattle.disk_model.specs.Part.{inside}
 use Rattle.gate_journal.specs.Batch.{Batch, HoldsBatches, last_front}
-use Rattle.gate_journal.specs.Journal.{Fits, part_behind}
-use Rattle.gate_journal.specs.Pair.{HoldsPair}
+use Rattle.gate_journal.specs.Journal as journal
+use Rattle.gate_journal.specs.Journal.{Fits, behind_border}
 use Rattle.gate_journal.specs.Receipt.{Receipt}
 use Rattle.gate_journal.specs.declared.batch.Image.{Image}
 use Rattle.gate_journal.specs.declared.batch.TheConstants.{MAX_NUMBER}
 use Rattle.gate_journal.specs.declared.refusal.Refusal.{Refusal}
-use Rattle.home_blocks.specs.Home.{HoldsSuperblock}
-use Rattle.home_blocks.specs.Places.{disk_size_of, home_part, superblock_part}
-use Rattle.home_blocks.specs.Superblock.{Superblock}
-use Rattle.home_blocks.specs.declared.progress.Progress.TheVariants.{Whole}
-use Rattle.local_store.specs.Kept.{old_meaning, one_home, one_volume, stored_means}
-use Rattle.local_store.specs.Lending.{HoldsHome, IsHomeKept, border_of, home_leaves}
-use Rattle.local_store.specs.Meaning.{Means}
-use Rattle.local_store.specs.Overlay.{with_batches}
-use Rattle.local_store.specs.Store.{State, IsOfSuperblock, IsStored, geometry_of, meaning_in}
+use Rattle.home_blocks.specs.Places.{border_of, disk_size_of}
+use Rattle.local_store.specs.Lending.{Done, IsHomeKept}
+use Rattle.local_store.specs.Store.{State, IsStored, geometry_of}
 use Rattle.local_store.specs.declared.lent.Lent.{Lent}
+
+-- the journal of a store's disk, as its log half sees it
+abbrev pub twin_of : State → journal.State
+twin_of store = behind_border store.journal (border_of (geometry_of store))
 
 -- the images in these boxes
 abbrev pub images_of : List (Box Image Global) → List Image
 images_of staged = map (λ (image : Box Image Global). image.value) staged
 
 -- the batch that is being journaled
-abbrev pub batch_in : {P : Type 0} → Lent P → Batch
+abbrev pub batch_in : {P L : Type 0} → Lent P L → Batch
 batch_in lent = record { front = lent.front; images = images_of lent.staged.items }
 
 -- the same, if a log is lent
-abbrev pub batch_of : {P : Type 0} → Option (Lent P) → Batch
+abbrev pub batch_of : {P L : Type 0} → Option (Lent P L) → Batch
 batch_of None = record { front = 0; images = [] }
 batch_of (Some lent) = batch_in lent
+
+-- the batch that is told of, if a log is lent
+abbrev pub lent_batch : {P L : Type 0} → Option (Lent P L) → Option Batch
+lent_batch None = None
+lent_batch (Some lent) = Some (batch_in lent)
 
 -- The log of a disk of so many bytes is lent out, for a batch that fits into the journal: the disk is its home half.
 pub record IsLent (store : State) (size at bytes len : ℕ) (batch : Batch) : Type 0 where
@@ -46,9 +49,15 @@ pub record IsLent (store : State) (size at bytes len : ℕ) (batch : Batch) : Ty
 
 -- The log that was lent, with its commit done or refused: it is as long, and a receipt is of the store's slot and the
 -- batch's front.
-pub record IsLogOf {P : Type 0} (store : State) (lent : Lent P) (log_size : ℕ) (outcome : Result Receipt Refusal) : Type 0 where
+pub record IsLogOf {P L : Type 0} (store : State) (lent : Lent P L) (log_size : ℕ) (outcome : Result Receipt Refusal) : Type 0 where
   pub as_long : border_of (geometry_of store) + log_size ≡ lent.len
   pub receipt : IfOk outcome (λ receipt. receipt ≡ record { slot = store.home.superblock.slot; front = lent.front })
+
+-- This is the commit that was lent, journaled or refused: of the log and the journal as they were, and of the batch.
+pub record IsCommitOf {P L : Type 0} (store : State) (lent : Lent P L) (done : Done L) : Type 0 where
+  pub was : done.was ≡ lent.was.value
+  pub before : done.before ≡ twin_of store
+  pub batch : done.batch ≡ batch_in lent
 
 -- While its log is lent the store keeps this volume over these batches: its home half does, and whatever might have been
 -- left before had them in the journal.
@@ -57,80 +66,13 @@ pub record IsKeptOver (store : State) (volume : List ℕ) (batches : List Batch)
   pub front : store.journal.front ≡ last_front store.journal.before batches
   pub held : (c : List ℕ) → left_before c → HoldsBatches store.journal.blocks store.journal.before batches (inside store.journal.part c)
 
--- the store keeps this volume, its log there or lent
-abbrev pub Keeps : {L : Type 0} → Option L → (L → List ℕ → Type 0) → State → List ℕ → List ℕ → (List ℕ → Type 0) → Type 0
-Keeps None before store volume gives may_leave = IsStored store volume gives may_leave
-Keeps (Some lent) before store volume gives may_leave = (batches : List Batch) × IsKeptOver store volume batches gives may_leave (before lent)
+-- the store keeps this volume, its log there or lent: while it is lent, over the batches that the log had
+abbrev pub Keeps : {L : Type 0} → Option L → (L → List ℕ → Type 0) → (L → journal.State → List Batch → Type 0) → State → List ℕ → List ℕ → (List ℕ → Type 0) → Type 0
+Keeps None before had store volume gives may_leave = IsStored store volume gives may_leave
+Keeps (Some lent) before had store volume gives may_leave = (batches : List Batch) × IsKeptOver store volume batches gives may_leave (before lent) × had lent (twin_of store) batches
 
 -- what a stop may leave of the disk; while the log is lent, what it may leave of the home half, with a log that might have
 -- been left before
 abbrev pub LeftWith : {L : Type 0} → Option L → (L → ℕ) → (L → List ℕ → Type 0) → (List ℕ → Type 0) → List ℕ → Type 0
 LeftWith None cut before may_leave c = may_leave c
 LeftWith (Some lent) cut before may_leave c = may_leave (take (cut lent) c) × LeftBehind (cut lent) (before lent) (drop (cut lent) c)
-
--- Lemmas for what is said of a store. What may be left of a disk, where more may be left of another.
-pub left_more : {L : Type 0} (lent : Option L) (cut : L → ℕ) (before : L → List ℕ → Type 0) (A B : List ℕ → Type 0) → ((c : List ℕ) → A c → B c) → (c : List ℕ) → LeftWith lent cut before A c → LeftWith lent cut before B c
-left_more None cut before A B from c left = from c left
-left_more (Some l) cut before A B from c (home, behind) = (from (take (cut l) c) home, behind)
-
-pub left_either : {L : Type 0} (lent : Option L) (cut : L → ℕ) (before : L → List ℕ → Type 0) (A B C : List ℕ → Type 0) → ((c : List ℕ) → A c → B c ⊎ C c) → (c : List ℕ)
-    → LeftWith lent cut before A c → LeftWith lent cut before B c ⊎ LeftWith lent cut before C c
-left_either None cut before A B C from c left = from c left
-left_either (Some l) cut before A B C from c (home, behind) = ⊎_elim (λ b. inl (b, behind)) (λ x. inr (x, behind)) (from (take (cut l) c) home)
-
--- below the border the whole has the superblock that the home half has
-pub holds_below : {sb : Superblock} (border : ℕ) (c : List ℕ) → 8192 ≤ border → HoldsSuperblock sb (take border c) → HoldsSuperblock sb c
-holds_below border c within holds = record {
-  is = holds.is;
-  payload = record {
-    slots = holds.payload.slots;
-    holds = subst (HoldsPair holds.payload.slots) (inside_below border superblock_part c (omega (arith, within))) holds.payload.holds;
-    number = holds.payload.number;
-    is_newest = holds.payload.is_newest;
-  };
-}
-
--- the journal stands behind the border
-pub journal_behind : (store : State) → IsOfSuperblock store → border_of (geometry_of store) ≤ store.journal.part.start
-journal_behind store of = omega (arith, of.part.start)
-
-pub inside_journal : (store : State) (c : List ℕ) → IsOfSuperblock store
-    → inside (part_behind store.journal.part (border_of (geometry_of store))) (drop (border_of (geometry_of store)) c) ≡ inside store.journal.part c
-inside_journal store c of =
-    let border = border_of (geometry_of store) in
-    let behind = journal_behind store of in
-    inside_behind border store.journal.part (part_behind store.journal.part border) c (omega (arith, behind)) refl
-
--- A home half that holds what it keeps, below a log with the batches that it keeps it over, means what the store means.
-pub halves_mean_old : (store : State) (volume : List ℕ) (batches : List Batch) (c : List ℕ) → IsOfSuperblock store → store.home.superblock.progress ≡ Whole → store.journal.front ≡ last_front store.journal.before batches
-    → HoldsHome store volume batches (take (border_of (geometry_of store)) c) → HoldsBatches store.journal.blocks store.journal.before batches (inside store.journal.part c) → Means (meaning_in store volume) c
-halves_mean_old store volume batches c of whole front home area =
-    let border = border_of (geometry_of store) in
-    old_meaning store volume batches of whole front c (holds_below border c (omega arith) home.superblock) area
-    (ap (λ (l : List ℕ). with_batches l batches) (sym (inside_below border (home_part (geometry_of store)) c (omega arith))) ∙ home.region)
-
--- so does whatever may be left while the log is lent
-pub over_means : (store : State) (volume : List ℕ) (batches : List Batch) (gives : List ℕ) (left left_before : List ℕ → Type 0) (cut : ℕ) → cut ≡ border_of (geometry_of store) → IsKeptOver store volume batches gives left left_before → (c : List ℕ)
-    → HoldsHome store volume batches (take cut c) → LeftBehind cut left_before (drop cut c) → Means (meaning_in store volume) c
-over_means store volume batches gives left left_before cut at kept c home (d, was, same) =
-    let border = border_of (geometry_of store) in
-    let of = kept.home.stands in
-    let same_log : drop border c ≡ drop border d = subst (λ (n : ℕ). drop n c ≡ drop n d) at same in
-    halves_mean_old store volume batches c of kept.home.is_whole kept.front (subst (λ (n : ℕ). HoldsHome store volume batches (take n c)) at home)
-    (subst (HoldsBatches store.journal.blocks store.journal.before batches)
-    (sym (inside_journal store d of) ∙ ap (inside (part_behind store.journal.part border)) (sym same_log) ∙ inside_journal store c of) (kept.held d was))
-
-pub means_either : {L : Type 0} (lent : Option L) (cut : L → ℕ) (before : L → List ℕ → Type 0) (store : State) (volume gives : List ℕ) (left : List ℕ → Type 0) → ((l : L) → lent ≡ Some l → cut l ≡ border_of (geometry_of store))
-    → Keeps lent before store volume gives left → (c : List ℕ) → LeftWith lent cut before left c → Means (meaning_in store volume) c
-means_either None cut before store volume gives left at kept c may = stored_means kept.stands kept c may
-means_either (Some l) cut before store volume gives left at (batches, kept) c (home, behind) =
-    over_means store volume batches gives left (before l) (cut l) (at l refl) kept c (home_leaves kept.home (take (cut l) c) home) behind
-
--- it keeps one volume, which is as long as its blocks
-pub one_either : {L : Type 0} (lent : Option L) (before : L → List ℕ → Type 0) (store : State) (one other gives : List ℕ) (left : List ℕ → Type 0) → Keeps lent before store one gives left → Keeps lent before store other gives left → one ≡ other
-one_either None before store one other gives left was too = one_volume was too
-one_either (Some l) before store one other gives left (batches, was) (others, too) = one_home was.home.region.waits too.home.region.waits
-
-pub size_either : {L : Type 0} (lent : Option L) (before : L → List ℕ → Type 0) (store : State) (volume gives : List ℕ) (left : List ℕ → Type 0) → Keeps lent before store volume gives left → length volume ≡ 4096 * (geometry_of store).blocks
-size_either None before store volume gives left kept = kept.region.waits.size
-size_either (Some l) before store volume gives left (batches, kept) = kept.home.region.waits.size

@@ -1,20 +1,21 @@
--- What the home half of a store's disk keeps while the log half is lent out.
-use Rattle.std.specs.Prelude.{◌≡◌, ℕ, ◌+◌, ◌*◌, false, List}
+-- What the home half of a store's disk keeps while the log half is lent out, and what is said of the commit in it.
+use Rattle.std.specs.Prelude.{◌≡◌, ◌++◌, ◌∷◌, [], ℕ, false, length, List, Result, IfErr, IfOk, IsErrOf, OnOk}
 use Rattle.block_cache.specs.Cache.{Agrees}
 use Rattle.disk_model.specs.Part.{inside, LeftInside}
-use Rattle.disk_model.specs.Frames.{left_inside}
 use Rattle.gate_journal.specs.Batch.{Batch}
-use Rattle.home_blocks.specs.Home.{HoldsSuperblock, IsSettledHome, settled_leaves}
+use Rattle.gate_journal.specs.Journal as journal
+use Rattle.gate_journal.specs.Journal.{IsSettled, appended}
+use Rattle.gate_journal.specs.Receipt.{Receipt}
+use Rattle.gate_journal.specs.Refusal.{HasCause}
+use Rattle.gate_journal.specs.declared.refusal.Refusal.{Refusal}
+use Rattle.gate_journal.specs.declared.refusal.Refusal.TheVariants.{Memory}
+use Rattle.home_blocks.specs.Home.{HoldsSuperblock, IsSettledHome}
 use Rattle.home_blocks.specs.Places.{home_part}
 use Rattle.home_blocks.specs.declared.progress.Progress.TheVariants.{Whole}
 use Rattle.local_store.specs.Overlay.{with_batches}
 use Rattle.local_store.specs.Pending.{IsHome}
+use Rattle.local_store.specs.Refusal.{IsOfJournaling}
 use Rattle.local_store.specs.Store.{State, IsOfSuperblock, geometry_of}
-use Rattle.volume.specs.declared.geometry.Geometry.{Geometry}
-
--- where the log half of a disk begins: behind the home region, with the first area
-abbrev pub border_of : Geometry → ℕ
-border_of g = 8192 + 4096 * g.blocks
 
 -- The home half keeps this volume under the batches that the log holds: the superblock is settled, and whatever a stop
 -- leaves of the home region is the volume under them.
@@ -31,9 +32,20 @@ pub record HoldsHome (store : State) (volume : List ℕ) (batches : List Batch) 
   pub superblock : HoldsSuperblock store.home.superblock c
   pub region : with_batches (inside (home_part (geometry_of store)) c) batches ≡ volume
 
--- whatever a stop may leave of such a home half does: a lemma for what is said of a store
-pub home_leaves : {store : State} {volume : List ℕ} {batches : List Batch} {gives : List ℕ} {may_leave : List ℕ → Type 0} → IsHomeKept store volume batches gives may_leave → (c : List ℕ) → may_leave c → HoldsHome store volume batches c
-home_leaves {store} {volume} {batches} {gives} {may_leave} kept c left = record {
-  superblock = settled_leaves kept.superblock c left;
-  region = kept.region.left (inside (home_part (geometry_of store)) c) (left_inside (home_part (geometry_of store)) may_leave c left);
-}
+-- a commit that was journaled or refused: the log, the journal and the batch as they were, the log now, and what came of it
+pub record Done (L : Type 0) : Type 0 where
+  pub was : L
+  pub before : journal.State
+  pub batch : Batch
+  pub log : L
+  pub outcome : Result Receipt Refusal
+
+-- After Ok the log has the batches from before and the new one, and the receipt is of the batch; memory that ran out changed
+-- nothing; and a refusal of the device comes of a failure.
+pub record IsDone {L : Type 0} (keeps_model : Type 0) (gives : L → List ℕ) (may_leave_now : L → List ℕ → Type 0) (failures : L → ℕ) (done : Done L) : Type 0 where
+  pub told : IfErr done.outcome IsOfJournaling
+  pub receipt : IfOk done.outcome (λ receipt. receipt ≡ record { slot = done.before.slot; front = done.batch.front })
+  pub settled : keeps_model → (batches : List Batch) → IsSettled done.before batches (gives done.was) (may_leave_now done.was)
+      → OnOk done.outcome (IsSettled (appended done.before done.batch.front (length done.batch.images)) (batches ++ done.batch ∷ []) (gives done.log) (may_leave_now done.log))
+  pub unchanged : IsErrOf done.outcome Memory → done.log ≡ done.was
+  pub cause : HasCause (failures done.was) (failures done.log) done.outcome

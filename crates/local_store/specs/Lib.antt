@@ -3,6 +3,7 @@ pub mod Arming
 pub mod Away
 pub mod Installer
 pub mod Kept
+pub mod KeptAway
 pub mod Lending
 pub mod Meaning
 pub mod Overlay

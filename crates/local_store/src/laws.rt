@@ -3,9 +3,9 @@ ghost use Rattle.std.specs.Prelude.{◌≡◌, ◌⊎◌, ◌++◌, ◌≤◌, �
 ghost use Rattle.disk_model.specs.Part.{inside};
 ghost use Rattle.gate_journal.specs.Batch.{Batch, HoldsOldOrNew, last_front};
 ghost use Rattle.gate_journal.specs.Journal.{part_behind};
-ghost use Rattle.home_blocks.specs.Places.{disk_size_of};
+ghost use Rattle.home_blocks.specs.Places.{border_of, disk_size_of};
 ghost use Rattle.home_blocks.specs.declared.progress.Progress.TheVariants.{Whole};
-ghost use Rattle.local_store.specs.Lending.{HoldsHome, border_of};
+ghost use Rattle.local_store.specs.Lending.{HoldsHome};
 ghost use Rattle.local_store.specs.Meaning.{IsOpenable, Means, Meaning};
 ghost use Rattle.local_store.specs.Overlay.{BatchesCover, UncoveredBlocksStay};
 ghost use Rattle.local_store.specs.Store.{IsOfSuperblock, State, geometry_of, meaning_after, meaning_in};

@@ -1,17 +1,17 @@
 //! How a store lends its log out, with a commit that is to be journaled, and takes it back.
-ghost use Rattle.std.specs.Prelude.{◌≡◌, ◌≢◌, ◌⊎◌, ◌+◌, ◌<◌, ◌≤◌, ◌↔◌, ◌++◌, ◌∷◌, [], ℕ, List, true, false, length, max, Any, IfOk, IfErr, OnOk, OnErr, IsErrOf, IsNone, IsSome, IfSome, IsTrue, MatchResult, Ok, Err};
+ghost use Rattle.std.specs.Prelude.{◌≡◌, ◌≢◌, ◌⊎◌, ◌+◌, ◌<◌, ◌≤◌, ◌↔◌, ◌++◌, ◌∷◌, [], ℕ, List, None, Some, true, false, length, max, Any, IfOk, IfErr, OnOk, OnErr, IsErrOf, IsNone, IsSome, IfSome, IsTrue, MatchResult, Ok, Err};
 ghost use Rattle.std.specs.Option.{ForSome};
 ghost use Rattle.disk_model.specs.Disk.{LeavesOnly};
 ghost use Rattle.disk_model.specs.Halves.{IsPast, Rejoins};
 ghost use Rattle.flusher.specs.Plan.{IsPending};
 ghost use Rattle.gate_journal.specs.Batch.{AreImages, Batch};
 ghost use Rattle.gate_journal.specs.Journal.{IsSettled, appended, behind_border};
+ghost use Rattle.home_blocks.specs.Places.{border_of};
 ghost use Rattle.local_store.specs.About.{HasNoRoom, about_of, one_commit_more};
-ghost use Rattle.local_store.specs.Lending.{border_of};
-ghost use Rattle.local_store.specs.Away.{IsKeptOver, IsLogOf, batch_of};
+ghost use Rattle.local_store.specs.Away.{IsCommitOf, IsKeptOver, IsLogOf, batch_of};
 ghost use Rattle.local_store.specs.Meaning.{Means};
 ghost use Rattle.local_store.specs.Overlay.{with_images};
-ghost use Rattle.local_store.specs.Refusal.{HasCause, IsOfCommitting, IsOfDevice, by_journal};
+ghost use Rattle.local_store.specs.Refusal.{HasCause, IsCaused, IsOfCommitting, IsOfDevice, by_journal};
 ghost use Rattle.local_store.specs.Store.{IsStored, committed, geometry_of, meaning_after, meaning_in};
 
 use crate::lending::{CommitWork, Journaled};
@@ -23,6 +23,7 @@ use crate::store_like::StoreLike;
 use disk_model::{Disk, HalvedDisk};
 use gate_journal::{Image, MAX_NUMBER, Synced};
 use std::alloc::Global;
+use std::snapshot::Snapshot;
 
 impl<D: HalvedDisk + Drop> LendingStore<D> {
     /// Lends out the log, with a commit that is to be journaled on it: whole blocks are to be put into the volume, as by
@@ -47,10 +48,11 @@ impl<D: HalvedDisk + Drop> LendingStore<D> {
         ensures slot { IfOk result (λ work. work.journal.slot ≡ self.old.contents.home.superblock.slot) }
         ensures size { IfOk result (λ work. border_of (geometry_of self.old.contents) + D.Log.size work.log ≡ D.size self.old.disk) }
         ensures lent { OnOk result (IsSome self.new.lent) }
+        ensures was { IfOk result (λ work. IfSome self.new.lent (λ l. l.was.value ≡ work.log)) }
         ensures batch { OnOk result (batch_of self.new.lent ≡ record { front = front; images = images.now }) }
         ensures same { self.new.contents ≡ self.old.contents }
 
-        ensures about { OnOk result (⟦<LendingStore<D> as StoreLike>⟧.about self.new ≡ record (⟦<LendingStore<D> as StoreLike>⟧.about self.old) { lent = true }) }
+        ensures about { OnOk result (⟦<LendingStore<D> as StoreLike>⟧.about self.new ≡ record (⟦<LendingStore<D> as StoreLike>⟧.about self.old) { lent = Some (record { front = front; images = images.now }) }) }
         ensures kept { D.keeps_model → (volume : List ℕ) → ⟦<LendingStore<D> as StoreLike>⟧.keeps self.old volume → ⟦<LendingStore<D> as StoreLike>⟧.keeps self.new volume }
 
         // The journal is settled on the store's batches, and the store keeps its volume over them.
@@ -88,6 +90,7 @@ impl<D: HalvedDisk + Drop> LendingStore<D> {
             len,
             front,
             staged,
+            was: Snapshot::of(&log),
         });
         Ok(CommitWork {
             log,
@@ -123,23 +126,21 @@ impl<D: HalvedDisk + Drop> LendingStore<D> {
         ensures receipt { IfOk result (λ receipt. receipt ≡ record { slot = self.old.contents.home.superblock.slot; front = (batch_of self.old.lent).front }) }
         ensures ok { OnOk result (self.new.contents ≡ committed self.old.contents (batch_of self.old.lent).front (batch_of self.old.lent).images) }
         ensures about { OnOk result (⟦<LendingStore<D> as StoreLike>⟧.about self.new
-            ≡ record (one_commit_more (⟦<LendingStore<D> as StoreLike>⟧.about self.old) (batch_of self.old.lent).front (length (batch_of self.old.lent).images)) { lent = false }) }
+            ≡ record (one_commit_more (⟦<LendingStore<D> as StoreLike>⟧.about self.old) (batch_of self.old.lent).front (length (batch_of self.old.lent).images)) { lent = None }) }
         ensures pends { OnOk result ((b : ℕ) → IsPending self.new.contents.pending b ↔ (IsPending self.old.contents.pending b ⊎ Any (λ image. image.block ≡ b) (batch_of self.old.lent).images)) }
-        ensures kept { D.keeps_model → (batches : List Batch) (volume : List ℕ)
-            → ForSome self.old.lent (λ l. IsKeptOver self.old.contents volume batches (D.gives self.old.disk) (D.may_leave_now self.old.disk) (D.left_before l.past (D.until l.past)))
-            → IsSettled (appended (behind_border self.old.contents.journal (border_of (geometry_of self.old.contents))) (batch_of self.old.lent).front (length (batch_of self.old.lent).images))
-            (batches ++ batch_of self.old.lent ∷ []) (D.Log.gives done.log) (D.Log.may_leave_now done.log)
+
+        // Where it is the commit that was lent, the store keeps its volume with the images; where memory ran out, as it was.
+        ensures kept { D.keeps_model → (volume : List ℕ) → ⟦<LendingStore<D> as StoreLike>⟧.keeps self.old volume → ForSome self.old.lent (λ l. IsCommitOf self.old.contents l done)
             → OnOk result (⟦<LendingStore<D> as StoreLike>⟧.keeps self.new (with_images volume (batch_of self.old.lent).images)) }
+        ensures kept_old { D.keeps_model → (volume : List ℕ) → ⟦<LendingStore<D> as StoreLike>⟧.keeps self.old volume → ForSome self.old.lent (λ l. IsCommitOf self.old.contents l done)
+            → IsErrOf result Refusal.Memory → ⟦<LendingStore<D> as StoreLike>⟧.keeps self.new volume }
 
         ensures answer { self.old.contents.broken ≡ false → MatchResult done.outcome (λ receipt. result ≡ Ok receipt) (λ refusal. result ≡ Err (by_journal refusal)) }
         ensures broken { IsErrOf result Refusal.Broken ↔ (self.old.contents.broken ≡ true) }
         ensures memory { IsErrOf result Refusal.Memory → self.new.contents ≡ self.old.contents }
-        ensures kept_old { D.keeps_model → (batches : List Batch) (volume : List ℕ)
-            → ForSome self.old.lent (λ l. IsKeptOver self.old.contents volume batches (D.gives self.old.disk) (D.may_leave_now self.old.disk) (D.left_before l.past (D.until l.past)))
-            → IsSettled (behind_border self.old.contents.journal (border_of (geometry_of self.old.contents))) batches (D.Log.gives done.log) (D.Log.may_leave_now done.log)
-            → IsErrOf result Refusal.Memory → ⟦<LendingStore<D> as StoreLike>⟧.keeps self.new volume }
         ensures err { IfErr result (λ r. r ≢ Refusal.Memory → self.new.contents ≡ record self.old.contents { broken = true }) }
         ensures told { IfErr result IsOfCommitting }
+        ensures cause { IfErr result (IsCaused (D.Log.failures done.was) (D.failures self.new.disk)) }
         ensures time { D.keeps_model → ForSome self.old.lent (λ l. Rejoins (D.until l.past) (D.moment self.new.disk) (D.left_before l.past) (D.may_have_left_since self.new.disk)
             (D.cut_at l.past) (D.may_have_left_since self.old.disk 0) (D.Log.may_have_left_since done.log 0)) }
         ensures failures { D.failures self.new.disk ≡ max (D.failures self.old.disk) (D.Log.failures done.log) }
@@ -147,11 +148,7 @@ impl<D: HalvedDisk + Drop> LendingStore<D> {
         let Some(lent) = self.lent.take() else {
             return Err(Refusal::Broken);
         };
-        let Journaled {
-            log,
-            journal: _,
-            outcome,
-        } = done;
+        let (log, outcome) = done.taken();
         self.disk.return_log(log, lent.past);
         if self.contents.is_broken() {
             return Err(Refusal::Broken);
@@ -167,6 +164,26 @@ impl<D: HalvedDisk + Drop> LendingStore<D> {
                 Err(Refusal::from(refusal))
             }
         }
+    }
+
+    /// Takes the log back without its commit, as for a member that has stopped: the store is broken from then on, and the
+    /// disk means the old front or the new.
+    pub fn take_back(&mut self, done: Journaled<D::Log>)
+        requires lent { IsSome self.old.lent }
+        requires log { IfSome self.old.lent (λ l. IsLogOf self.old.contents l (D.Log.size done.log) done.outcome) }
+        ensures back { IsNone self.new.lent }
+        ensures contents { self.new.contents ≡ record self.old.contents { broken = true } }
+        ensures about { ⟦<LendingStore<D> as StoreLike>⟧.about self.new ≡ record (⟦<LendingStore<D> as StoreLike>⟧.about self.old) { broken = true; lent = None } }
+        ensures time { D.keeps_model → ForSome self.old.lent (λ l. Rejoins (D.until l.past) (D.moment self.new.disk) (D.left_before l.past) (D.may_have_left_since self.new.disk)
+            (D.cut_at l.past) (D.may_have_left_since self.old.disk 0) (D.Log.may_have_left_since done.log 0)) }
+        ensures failures { D.failures self.new.disk ≡ max (D.failures self.old.disk) (D.Log.failures done.log) }
+    {
+        let Some(lent) = self.lent.take() else {
+            return;
+        };
+        let (log, _) = done.taken();
+        self.disk.return_log(log, lent.past);
+        self.contents.give_up();
     }
 
     /// Commits by the three calls, one after another: it answers and keeps what `commit` does.

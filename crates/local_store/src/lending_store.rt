@@ -1,5 +1,5 @@
 //! A store that may lend out the log half of its disk.
-ghost use Rattle.std.specs.Prelude.{◌≡◌, ◌≤◌, IsNone};
+ghost use Rattle.std.specs.Prelude.{◌≡◌, ◌≤◌, ℕ, List, IsNone};
 ghost use Rattle.std.specs.Option.{ForSome};
 ghost use Rattle.home_blocks.specs.Places.{disk_size_of};
 ghost use Rattle.local_store.specs.About.{about_of};
@@ -23,7 +23,7 @@ pub struct LendingStore<D: HalvedDisk> {
     pub(crate) disk: D,
     pub(crate) contents: Contents,
     pub(crate) plan: Plan,
-    pub(crate) lent: Option<Lent<D::Past>>,
+    pub(crate) lent: Option<Lent<D::Past, D::Log>>,
     ghost here: { IsNone lent → disk_size_of (geometry_of contents) ≤ D.size disk },
     ghost away: { ForSome lent (λ l. IsLent contents (D.size disk) (D.cut_at l.past) (D.whole l.past) l.len (batch_in l)) },
 }
@@ -35,6 +35,8 @@ impl<D: HalvedDisk + Drop> LendingStore<D> {
         ensures contents { result.contents ≡ store.contents }
         ensures plan { result.plan ≡ store.plan }
         ensures here { IsNone result.lent }
+        ensures about { ⟦<LendingStore<D> as StoreLike>⟧.about result ≡ ⟦<Store<D> as StoreLike>⟧.about store }
+        ensures kept { D.keeps_model → (volume : List ℕ) → ⟦<Store<D> as StoreLike>⟧.keeps store volume → ⟦<LendingStore<D> as StoreLike>⟧.keeps result volume }
     {
         let Store {
             disk,
@@ -71,15 +73,17 @@ impl<D: HalvedDisk + Drop> LendingStore<D> {
 }
 
 impl<D: HalvedDisk + Drop> StoreLike for LendingStore<D> {
-    ghost use Rattle.std.specs.Prelude.{◌≡◌, ◌⊎◌, ◌+◌, ◌*◌, ◌<◌, ◌≤◌, ◌↔◌, ℕ, List, true, false, length, take, drop, is_some, Any, IfOk, IfErr, IfNone, IfSome, OnOk, OnErr, IsErrOf};
+    ghost use Rattle.std.specs.Prelude.{◌≡◌, ◌⊎◌, ◌+◌, ◌*◌, ◌<◌, ◌≤◌, ◌↔◌, ℕ, List, None, true, false, length, take, drop, is_some, Any, IfOk, IfErr, IfNone, IfSome, OnOk, OnErr, IsErrOf};
     ghost use Rattle.flusher.specs.Plan.{IsPending};
-    ghost use Rattle.local_store.specs.Away.{Keeps, LeftWith, left_more, means_either, one_either, size_either};
+    ghost use Rattle.gate_journal.specs.Journal.{IsSettled};
+    ghost use Rattle.local_store.specs.Away.{Keeps, LeftWith, lent_batch};
+    ghost use Rattle.local_store.specs.KeptAway.{left_more, means_either, one_either, size_either};
 
     ghost keeps_model = { D.keeps_model };
 
-    ghost about = { λ s. record (about_of s.contents) { lent = is_some s.lent } };
+    ghost about = { λ s. record (about_of s.contents) { lent = lent_batch s.lent } };
 
-    ghost keeps = { λ s volume. Keeps s.lent (λ l. D.left_before l.past (D.until l.past)) s.contents volume (D.gives s.disk) (D.may_leave_now s.disk) };
+    ghost keeps = { λ s volume. Keeps s.lent (λ l. D.left_before l.past (D.until l.past)) (λ l j batches. IsSettled j batches (D.Log.gives l.was.value) (D.Log.may_leave_now l.was.value)) s.contents volume (D.gives s.disk) (D.may_leave_now s.disk) };
 
     ghost is_pending = { λ s. IsPending s.contents.pending };
 
@@ -91,10 +95,10 @@ impl<D: HalvedDisk + Drop> StoreLike for LendingStore<D> {
 
     ghost failures = { λ s. D.failures s.disk };
 
-    ghost means_now = { λ keeps s volume c kept left. means_either s.lent (λ l. D.cut_at l.past) (λ l. D.left_before l.past (D.until l.past)) s.contents volume (D.gives s.disk) (D.may_leave_now s.disk)
+    ghost means_now = { λ keeps s volume c kept left. means_either s.lent (λ l. D.cut_at l.past) (λ l. D.left_before l.past (D.until l.past)) (λ l j batches. IsSettled j batches (D.Log.gives l.was.value) (D.Log.may_leave_now l.was.value)) s.contents volume (D.gives s.disk) (D.may_leave_now s.disk)
         (λ l is. (s.away l is).cut) kept c left };
 
-    ghost keeps_one = { λ keeps s one other kept too. one_either s.lent (λ l. D.left_before l.past (D.until l.past)) s.contents one other (D.gives s.disk) (D.may_leave_now s.disk) kept too };
+    ghost keeps_one = { λ keeps s one other kept too. one_either s.lent (λ l. D.left_before l.past (D.until l.past)) (λ l j batches. IsSettled j batches (D.Log.gives l.was.value) (D.Log.may_leave_now l.was.value)) s.contents one other (D.gives s.disk) (D.may_leave_now s.disk) kept too };
 
     ghost counts_now = { λ keeps s t c le left. left_more s.lent (λ l. D.cut_at l.past) (λ l. D.left_before l.past (D.until l.past)) (D.may_leave_now s.disk) (D.may_have_left_since s.disk t)
         (λ a may. D.counts_now keeps s.disk t a le may) c left };
@@ -102,7 +106,7 @@ impl<D: HalvedDisk + Drop> StoreLike for LendingStore<D> {
     ghost only_now = { λ keeps s c left. left_more s.lent (λ l. D.cut_at l.past) (λ l. D.left_before l.past (D.until l.past)) (D.may_have_left_since s.disk (D.moment s.disk)) (D.may_leave_now s.disk)
         (λ a may. D.only_now keeps s.disk a may) c left };
 
-    ghost keeps_size = { λ keeps s volume kept. size_either s.lent (λ l. D.left_before l.past (D.until l.past)) s.contents volume (D.gives s.disk) (D.may_leave_now s.disk) kept };
+    ghost keeps_size = { λ keeps s volume kept. size_either s.lent (λ l. D.left_before l.past (D.until l.past)) (λ l j batches. IsSettled j batches (D.Log.gives l.was.value) (D.Log.may_leave_now l.was.value)) s.contents volume (D.gives s.disk) (D.may_leave_now s.disk) kept };
 
     fn slot(&self) -> Slot {
         self.contents.slot()
@@ -128,11 +132,11 @@ impl<D: HalvedDisk + Drop> StoreLike for LendingStore<D> {
         self.contents.is_broken()
     }
 
+    fn is_lent(&self) -> bool {
+        self.lent.is_some()
+    }
+
     fn read_block(&mut self, block: u32, bytes: &mut [u8]) -> Result<(), Refusal> {
-        if self.lent.is_some() {
-            // The cache asks for a whole disk.
-            return self.contents.read_blocks(&mut self.disk, block, 1, bytes);
-        }
         self.contents.read_block(&mut self.disk, block, bytes)
     }
 

@@ -1,9 +1,10 @@
 //! What a store keeps while its log is lent out.
 use gate_journal::Image;
+use std::snapshot::Snapshot;
 
 /// What is needed to take the log back, and what is committed then.
 #[derive(Drop)]
-pub(crate) struct Lent<P> {
+pub(crate) struct Lent<P, L> {
     /// What the whole disk was until its log was lent.
     pub(crate) past: P,
     /// How many bytes the whole disk has.
@@ -12,4 +13,6 @@ pub(crate) struct Lent<P> {
     pub(crate) front: u64,
     /// Its images, which will be pending.
     pub(crate) staged: Vec<Box<Image>>,
+    /// The log as it was lent; contracts alone see it.
+    pub(crate) was: Snapshot<L>,
 }

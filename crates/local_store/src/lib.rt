@@ -10,6 +10,7 @@
 mod arming;
 mod contents;
 mod given;
+mod homing;
 mod installer;
 mod laws;
 mod lend;
@@ -19,7 +20,6 @@ mod lent;
 mod pending;
 mod plain;
 mod refusal;
-mod region;
 mod store;
 mod store_like;
 

@@ -1,5 +1,5 @@
 //! A store in memory, for tests, and as the plain program beside a store on a disk.
-ghost use Rattle.std.specs.Prelude.{◌≡◌, ◌⊎◌, ◌+◌, ◌*◌, ◌<◌, ◌≤◌, ◌↔◌, ℕ, false, replicate, length, Any, IfErr, IfOk};
+ghost use Rattle.std.specs.Prelude.{◌≡◌, ◌⊎◌, ◌+◌, ◌*◌, ◌<◌, ◌≤◌, ◌↔◌, ℕ, None, false, replicate, length, Any, IfErr, IfOk};
 ghost use Rattle.flusher.specs.Plan.{IsPending};
 ghost use Rattle.disk_model.specs.Memory.{failures_of, size_of};
 ghost use Rattle.gate_journal.specs.Batch.{AreImages};
@@ -45,21 +45,21 @@ pub struct PlainStore {
 }
 
 impl Model for PlainStore {
-    ghost use Rattle.std.specs.Prelude.{◌≤◌, false};
+    ghost use Rattle.std.specs.Prelude.{◌≤◌, None};
     ghost use Rattle.disk_model.specs.Memory.{failures_of, size_of};
     ghost use Rattle.local_store.specs.Plain.{IsPlain, Plain};
 
     ghost Value = { Plain };
 
     ghost view = { λ s. record {
-      about = record { slot = s.slot; incarnation = s.incarnation; geometry = s.geometry; front = s.front; used = s.used; stores = s.stores; broken = s.broken; lent = false };
+      about = record { slot = s.slot; incarnation = s.incarnation; geometry = s.geometry; front = s.front; used = s.used; stores = s.stores; broken = s.broken; lent = None };
       volume = s.volume.items;
       pending = s.pending.items;
       failures = failures_of s.stamps;
     } };
 
     ghost invariant = { λ s. IsPlain (record {
-      about = record { slot = s.slot; incarnation = s.incarnation; geometry = s.geometry; front = s.front; used = s.used; stores = s.stores; broken = s.broken; lent = false };
+      about = record { slot = s.slot; incarnation = s.incarnation; geometry = s.geometry; front = s.front; used = s.used; stores = s.stores; broken = s.broken; lent = None };
       volume = s.volume.items;
       pending = s.pending.items;
       failures = failures_of s.stamps;
@@ -75,7 +75,7 @@ impl PlainStore {
         geometry: Geometry,
     ) -> Result<PlainStore, AllocError>
         requires { incarnation ≤ MAX_NUMBER }
-        ensures about { IfOk result (λ s. s.about ≡ record { slot = slot; incarnation = incarnation; geometry = geometry; front = 0; used = 0; stores = 1; broken = false; lent = false }) }
+        ensures about { IfOk result (λ s. s.about ≡ record { slot = slot; incarnation = incarnation; geometry = geometry; front = 0; used = 0; stores = 1; broken = false; lent = None }) }
         ensures volume { IfOk result (λ s. s.volume ≡ replicate (4096 * geometry.blocks) 0) }
     {
         let blocks = geometry.blocks as usize;
@@ -147,7 +147,7 @@ fn stamp(
 }
 
 impl StoreLike for PlainStore {
-    ghost use Rattle.std.specs.Prelude.{◌≡◌, ◌⊎◌, ◌+◌, ◌*◌, ◌<◌, ◌≤◌, ◌↔◌, ℕ, List, true, false, length, take, drop, Any, IfOk, IfErr, IfNone, IfSome, OnOk, OnErr, IsErrOf, ⊤};
+    ghost use Rattle.std.specs.Prelude.{◌≡◌, ◌⊎◌, ◌+◌, ◌*◌, ◌<◌, ◌≤◌, ◌↔◌, ℕ, List, None, true, false, length, take, drop, is_some, Any, IfOk, IfErr, IfNone, IfSome, OnOk, OnErr, IsErrOf, ⊤};
     ghost use Rattle.flusher.specs.Plan.{IsPending};
     ghost use Rattle.local_store.specs.Plain.{KeepsPlain, MeansPlain, keeps_one_plain, means_plain};
 
@@ -199,6 +199,11 @@ impl StoreLike for PlainStore {
 
     fn is_broken(&self) -> bool {
         self.broken
+    }
+
+    fn is_lent(&self) -> bool {
+        let _ = &self.broken;
+        false
     }
 
     fn read_block(&mut self, block: u32, bytes: &mut [u8]) -> Result<(), Refusal> {

@@ -1,5 +1,5 @@
 //! A store that owns its disk.
-ghost use Rattle.std.specs.Prelude.{◌≡◌, ◌⊎◌, ◌*◌, ◌≤◌, ℕ, List, false, replicate, IfOk, IfErr};
+ghost use Rattle.std.specs.Prelude.{◌≡◌, ◌⊎◌, ◌*◌, ◌≤◌, ℕ, List, None, false, replicate, IfOk, IfErr};
 ghost use Rattle.home_blocks.specs.Home.{IsNoVolume, IsOtherVersion};
 ghost use Rattle.home_blocks.specs.Places.{disk_size_of};
 ghost use Rattle.gate_journal.specs.Runs.{OnlyReads};
@@ -41,7 +41,7 @@ impl<D: Disk + Drop> Store<D> {
     ) -> Result<Store<D>, (Refusal, D)>
         requires on_disk { disk_size_of geometry ≤ D.size disk }
         requires limit { incarnation ≤ MAX_NUMBER }
-        ensures about { IfOk result (λ s. about_of s.contents ≡ record { slot = slot; incarnation = incarnation; geometry = geometry; front = 0; used = 0; stores = 1; broken = false; lent = false }) }
+        ensures about { IfOk result (λ s. about_of s.contents ≡ record { slot = slot; incarnation = incarnation; geometry = geometry; front = 0; used = 0; stores = 1; broken = false; lent = None }) }
         ensures stored { D.keeps_model → IfOk result (λ s. IsStored s.contents (replicate (4096 * geometry.blocks) 0) (D.gives s.disk) (D.may_leave_now s.disk)) }
         ensures unchanged { IfErr result (λ e. e.0 ≡ Refusal.Memory → e.1 ≡ disk) }
         ensures size { IfErr result (λ e. D.size e.1 ≡ D.size disk) }
@@ -117,7 +117,7 @@ impl<D: Disk + Drop> Store<D> {
 }
 
 impl<D: Disk + Drop> StoreLike for Store<D> {
-    ghost use Rattle.std.specs.Prelude.{◌≡◌, ◌⊎◌, ◌+◌, ◌*◌, ◌<◌, ◌≤◌, ◌↔◌, ℕ, List, true, false, length, take, drop, Any, IfOk, IfErr, IfNone, IfSome, OnOk, OnErr, IsErrOf};
+    ghost use Rattle.std.specs.Prelude.{◌≡◌, ◌⊎◌, ◌+◌, ◌*◌, ◌<◌, ◌≤◌, ◌↔◌, ℕ, List, None, true, false, length, take, drop, is_some, Any, IfOk, IfErr, IfNone, IfSome, OnOk, OnErr, IsErrOf};
     ghost use Rattle.flusher.specs.Plan.{IsPending};
     ghost use Rattle.local_store.specs.Kept.{one_volume, stored_means};
 
@@ -169,6 +169,10 @@ impl<D: Disk + Drop> StoreLike for Store<D> {
 
     fn is_broken(&self) -> bool {
         self.contents.is_broken()
+    }
+
+    fn is_lent(&self) -> bool {
+        false
     }
 
     fn read_block(&mut self, block: u32, bytes: &mut [u8]) -> Result<(), Refusal> {

@@ -1,5 +1,5 @@
 //! A store, as the layers above see it.
-ghost use Rattle.std.specs.Prelude.{◌≡◌, ◌⊎◌, ◌+◌, ◌*◌, ◌<◌, ◌≤◌, ◌↔◌, ℕ, List, true, false, length, take, drop, Any, IfOk, IfErr, IfNone, IfSome, OnOk, OnErr, IsErrOf};
+ghost use Rattle.std.specs.Prelude.{◌≡◌, ◌⊎◌, ◌+◌, ◌*◌, ◌<◌, ◌≤◌, ◌↔◌, ℕ, List, None, true, false, length, take, drop, is_some, Any, IfOk, IfErr, IfNone, IfSome, OnOk, OnErr, IsErrOf};
 ghost use Rattle.disk_model.specs.Disk.{LeavesOnly};
 ghost use Rattle.gate_journal.specs.Batch.{AreImages};
 ghost use Rattle.local_store.specs.About.{About, HasNeighbours, HasNoRoom, HasRoom, IsOneLess, IsWithoutRun, meaning_then, meaning_with, one_checkpoint_more, one_commit_more};
@@ -64,9 +64,14 @@ pub trait StoreLike {
         ensures fits { (count : ℕ) → 0 < count → count ≤ result → HasRoom (about self.now) count }
         ensures too_much { (count : ℕ) → result < count → HasNoRoom (about self.now) count };
 
-    /// Whether a device call failed: then each call is refused with 122.
+    /// Whether a device call failed, or a commit was given up: then each call is refused with 122.
     fn is_broken(&self) -> bool
         ensures { result ≡ (about self.now).broken };
+
+    /// Whether the log is lent out: then nothing can be committed, and the area can't be emptied.
+    fn is_lent(&self) -> bool
+        ensures lent { result ≡ is_some (about self.now).lent }
+        ensures here { result ≡ false → (about self.now).lent ≡ None };
 
     /// Reads a block of the volume, of 4,096 bytes.
     ///
@@ -109,7 +114,7 @@ pub trait StoreLike {
     fn commit(&mut self, alloc: Global, front: u64, images: &[Image]) -> Result<Synced, Refusal>
         requires images { AreImages (about self.old).geometry.blocks images.now }
         requires limit { front ≤ MAX_NUMBER }
-        requires here { (about self.old).lent ≡ false }
+        requires here { (about self.old).lent ≡ None }
         ensures receipt { IfOk result (λ receipt. receipt ≡ record { slot = (about self.old).slot; front = front }) }
         ensures ok { OnOk result (about self.new ≡ one_commit_more (about self.old) front (length images.now)) }
         ensures pends { OnOk result ((b : ℕ) → is_pending self.new b ↔ (is_pending self.old b ⊎ Any (λ image. image.block ≡ b) images.now)) }
@@ -171,7 +176,7 @@ pub trait StoreLike {
     /// 122 `Broken` exactly where a device call failed before; else 121 `Full` exactly where no number is left for another
     /// superblock: these change nothing. After a refusal of the device the store is broken.
     fn checkpoint(&mut self) -> Result<(), Refusal>
-        requires here { (about self.old).lent ≡ false }
+        requires here { (about self.old).lent ≡ None }
         ensures ok { OnOk result (about self.new ≡ one_checkpoint_more (about self.old)) }
         ensures empty { OnOk result ((b : ℕ) → is_pending self.new b → ⊥) }
         ensures kept { keeps_model → (volume : List ℕ) → keeps self.old volume → OnOk result (keeps self.new volume) }

@@ -1,5 +1,5 @@
 use Rattle.std.proofs.Common.{◌≡◌, ◌+◌, ℕ, List, ◌++◌, [], length, map, replicate, ap, sym, ◌∙◌, arith, rules}
-use Rattle.std.specs.Prelude.{false}
+use Rattle.std.specs.Prelude.{None, false}
 use Rattle.std.proofs.lemmas.List.{nil_from_length}
 use Rattle.chain_core.specs.Node.{size_of}
 use Rattle.configurations.specs.Record.{Record}
@@ -36,7 +36,7 @@ loop-store-preserved g c =
           (c.new.ensures ∙ ap (λ (told : Record). beginning_of g.S.StoreLike.about c.args.board.now told c.in-Some.store) taken.1) split c.loop-store.invariant.members;
       copies = taken.0;
       runs = others_have (λ store. (g.S.StoreLike.about store).broken ≡ false) c.in-Some.store c.next.new.self.rest.items c.loop-store.store-iterator.rest.items split c.loop-store.invariant.runs;
-      here = others_have (λ store. (g.S.StoreLike.about store).lent ≡ false) c.in-Some.store c.next.new.self.rest.items c.loop-store.store-iterator.rest.items split c.loop-store.invariant.here;
+      here = others_have (λ store. (g.S.StoreLike.about store).lent ≡ None) c.in-Some.store c.next.new.self.rest.items c.loop-store.store-iterator.rest.items split c.loop-store.invariant.here;
       keeps = λ premise. others_have (λ store. (volume : List ℕ) × g.S.StoreLike.keeps store volume × (length volume ≡ size_of (g.S.StoreLike.about store))) c.in-Some.store c.next.new.self.rest.items
           c.loop-store.store-iterator.rest.items split (c.loop-store.invariant.keeps premise);
       room = omega (arith, c.loop-store.invariant.room, more, c.push_reserved.ensures.len);

@@ -8,8 +8,9 @@ use Rattle.gate_journal.specs.Batch.{Batch, HoldsOldOrNew}
 use Rattle.gate_journal.specs.Journal as journal
 use Rattle.gate_journal.specs.Journal.{IsSettled, appended, behind_border, part_behind}
 use Rattle.gate_journal.specs.Refusal as journals
-use Rattle.local_store.specs.Away.{Keeps, batch_of}
-use Rattle.local_store.specs.Lending.{HoldsHome, IsHomeKept, border_of}
+use Rattle.home_blocks.specs.Places.{border_of}
+use Rattle.local_store.specs.Away.{Keeps, batch_of, twin_of}
+use Rattle.local_store.specs.Lending.{HoldsHome, IsHomeKept}
 use Rattle.local_store.specs.Meaning.{Means}
 use Rattle.local_store.specs.Overlay.{with_images}
 use Rattle.local_store.specs.Store.{State, geometry_of, meaning_after, meaning_in}
@@ -21,30 +22,21 @@ use Rattle.local_store.proofs.lending_store.LendingStore.commit_in_three.Goals a
 
 pub returns-clause-kept : goal.returns-clause-kept
 returns-clause-kept g c = λ keeps v kept.
-    let s = c.args.self.now in
     let lent = c.lend_commit.new.self in
     let back = c.finish_commit.new.self in
     let work = c.in_ok-work.work in
     let done = c.journal-done.result in
-    let before = λ (l : Lent g.row.D-Past.Denot). g.D.HalvedDisk.left_before l.past (g.D.HalvedDisk.until l.past) in
-    let was = stored_here s.lent before s.contents v (g.D.Disk.gives s.disk) (g.D.Disk.may_leave_now s.disk) c.requires.here kept in
-    let log = c.in_ok-work.ensures.log keeps v was in
     let same = c.lend_commit.ensures.same in
-    let runs = subst (λ (t : State). t.broken ≡ false) (sym same) (runs_if s.contents.broken work Broken c.in_ok-work.ensures.broken.1) in
-    let answer = c.finish_commit.ensures.answer runs in
-    let wrote : Batch = record { front = work.front; images = work.images.items } in
-    let batch : wrote ≡ batch_of lent.lent = (λ i. record { front = c.in_ok-work.ensures.front i; images = c.in_ok-work.ensures.images i }) ∙ sym c.in_ok-work.ensures.batch in
-    let twin : work.journal ≡ behind_border lent.contents.journal (border_of (geometry_of lent.contents)) = c.in_ok-work.ensures.journal ∙ ap (λ (t : State). behind_border t.journal (border_of (geometry_of t))) (sym same) in
-    let gives = g.D.Log.Disk.gives done.log in
-    let left = g.D.Log.Disk.may_leave_now done.log in
-    let Kept : Batch → Type 0 = λ x. Keeps back.lent before back.contents (with_images v x.images) (g.D.Disk.gives back.disk) (g.D.Disk.may_leave_now back.disk) in
-    subst (λ (x : Batch). OnOk c.finish_commit.result (Kept x)) c.in_ok-work.ensures.batch
-    (answered done.outcome c.finish_commit.result (done.journal ≡ appended work.journal wrote.front (length wrote.images)) (Kept (batch_of lent.lent)) answer c.journal-done.ensures.ok (λ ok.
-    answered done.outcome c.finish_commit.result (IsSettled done.journal (was.batches ++ wrote ∷ []) gives left) (Kept (batch_of lent.lent)) answer (c.journal-done.ensures.settled (g.met.D.HalvedDisk.log_keeps keeps) was.batches log.0) (λ settled.
-    c.finish_commit.ensures.kept keeps was.batches v log.1
-    (subst (λ (j : journal.State). IsSettled (appended j (batch_of lent.lent).front (length (batch_of lent.lent).images)) (was.batches ++ batch_of lent.lent ∷ []) gives left) twin
-    (subst (λ (x : Batch). IsSettled (appended work.journal x.front (length x.images)) (was.batches ++ x ∷ []) gives left) batch
-    (subst (λ (j : journal.State). IsSettled j (was.batches ++ wrote ∷ []) gives left) ok settled))))))
+    let batch = c.in_ok-work.ensures.batch in
+    let wrote : record { front = work.front; images = work.images.items } ≡ batch_of lent.lent = (λ i. record { front = c.in_ok-work.ensures.front i; images = c.in_ok-work.ensures.images i }) ∙ sym batch in
+    let twin : work.journal ≡ twin_of lent.contents = c.in_ok-work.ensures.journal ∙ ap (λ (t : State). twin_of t) (sym same) in
+    let Kept : Batch → Type 0 = λ x. Keeps back.lent (λ l. g.D.HalvedDisk.left_before l.past (g.D.HalvedDisk.until l.past)) (λ l j bs. IsSettled j bs (g.D.Log.Disk.gives l.was.value) (g.D.Log.Disk.may_leave_now l.was.value)) back.contents (with_images v x.images) (g.D.Disk.gives back.disk) (g.D.Disk.may_leave_now back.disk) in
+    subst (λ (x : Batch). OnOk c.finish_commit.result (Kept x)) batch
+    (c.finish_commit.ensures.kept keeps v (c.lend_commit.ensures.kept keeps v kept) (λ l is. record {
+      was = c.journal-done.ensures.was ∙ sym (subst (λ (o : Option (Lent g.row.D-Past.Denot g.row.D-Log.Denot)). IfSome o (λ x. x.was.value ≡ work.log)) is c.in_ok-work.ensures.was);
+      before = c.journal-done.ensures.before ∙ twin;
+      batch = c.journal-done.ensures.batch ∙ wrote ∙ ap batch_of is;
+    }))
 
 pub returns-clause-cause : goal.returns-clause-cause
 returns-clause-cause g c =
@@ -58,7 +50,7 @@ returns-clause-cause g c =
 pub returns-in_err-work-clause-any_moment : goal.returns-in_err-work-clause-any_moment
 returns-in_err-work-clause-any_moment g c = λ keeps v kept.
     let s = c.args.self.now in
-    let was = stored_here s.lent (λ l. g.D.HalvedDisk.left_before l.past (g.D.HalvedDisk.until l.past)) s.contents v (g.D.Disk.gives s.disk) (g.D.Disk.may_leave_now s.disk) c.requires.here kept in
+    let was = stored_here s.lent (λ l. g.D.HalvedDisk.left_before l.past (g.D.HalvedDisk.until l.past)) (λ l j bs. IsSettled j bs (g.D.Log.Disk.gives l.was.value) (g.D.Log.Disk.may_leave_now l.was.value)) s.contents v (g.D.Disk.gives s.disk) (g.D.Disk.may_leave_now s.disk) c.requires.here kept in
     weaker g.D.Disk.moment g.D.Disk.may_have_left_since s.disk c.lend_commit.new.self.disk (Means (meaning_in s.contents v)) (λ d. Means (meaning_in s.contents v) d ⊎ Means (meaning_after s.contents v c.args.front c.args.images.now) d)
     (λ d means. inl means) (c.in_err-work.ensures.at_rest keeps v was)
 
@@ -72,7 +64,7 @@ returns-clause-any_moment g c = λ keeps v kept.
     let d = g.D.Disk in
     let border = border_of (geometry_of s.contents) in
     let batch : Batch = record { front = c.args.front; images = c.args.images.now } in
-    let was = stored_here s.lent (λ l. g.D.HalvedDisk.left_before l.past (g.D.HalvedDisk.until l.past)) s.contents v (d.gives s.disk) (d.may_leave_now s.disk) c.requires.here kept in
+    let was = stored_here s.lent (λ l. g.D.HalvedDisk.left_before l.past (g.D.HalvedDisk.until l.past)) (λ l j bs. IsSettled j bs (g.D.Log.Disk.gives l.was.value) (g.D.Log.Disk.may_leave_now l.was.value)) s.contents v (d.gives s.disk) (d.may_leave_now s.disk) c.requires.here kept in
     let log = c.in_ok-work.ensures.log keeps v was in
     let same = c.lend_commit.ensures.same in
     let some = some_of lent.lent c.in_ok-work.ensures.lent in
@@ -82,7 +74,7 @@ returns-clause-any_moment g c = λ keeps v kept.
     let log_run = subst (λ (j : journal.State). LeavesOnly g.D.Log.Disk.moment g.D.Log.Disk.may_have_left_since work.log done.log (Logged j batch)) c.in_ok-work.ensures.journal
     (subst (λ (b : Batch). LeavesOnly g.D.Log.Disk.moment g.D.Log.Disk.may_have_left_since work.log done.log (Logged work.journal b)) wrote (c.journal-done.ensures.any_moment (g.met.D.HalvedDisk.log_keeps keeps) was.batches log.0)) in
     let home_run = home_at_rest {moment = d.moment} {left_since = d.may_have_left_since} lent.disk (subst (λ (t : State). IsHomeKept t v was.batches (d.gives lent.disk) (d.may_leave_now lent.disk)) same (log.1 some.0 some.1).home) (g.met.D.Disk.only_now keeps lent.disk) in
-    let past = subst (λ (o : Option (Lent g.row.D-Past.Denot)). IfSome o (λ l. IsPast (g.D.HalvedDisk.until l.past) (d.moment s.disk) (g.D.HalvedDisk.left_before l.past) (d.may_have_left_since s.disk))) some.1 (c.in_ok-work.ensures.past keeps) in
+    let past = subst (λ (o : Option (Lent g.row.D-Past.Denot g.row.D-Log.Denot)). IfSome o (λ l. IsPast (g.D.HalvedDisk.until l.past) (d.moment s.disk) (g.D.HalvedDisk.left_before l.past) (d.may_have_left_since s.disk))) some.1 (c.in_ok-work.ensures.past keeps) in
     let run = rejoined border (HoldsHome s.contents v was.batches) (Logged twin batch) back.disk
     (λ e left. first_beside s.contents v (d.gives s.disk) (d.may_leave_now s.disk) was batch e (g.met.D.Disk.only_now keeps s.disk e left))
     past (c.in_ok-work.ensures.begins keeps).0 (c.in_ok-work.ensures.begins keeps).1 home_run log_run

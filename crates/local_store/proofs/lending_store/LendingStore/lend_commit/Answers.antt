@@ -1,14 +1,16 @@
 use Rattle.std.proofs.Common.{◌≤◌, ◌<◌, ℕ, List, ◌∙◌, ap, length, refl, subst, sym}
-use Rattle.std.specs.Prelude.{All}
+use Rattle.std.specs.Prelude.{All, Some}
 use Rattle.std.proofs.Math.Nat.{le_refl}
 use Rattle.std.proofs.lemmas.Bool.{both_ways}
 use Rattle.disk_model.specs.Halves.{AreHalves}
 use Rattle.disk_model.specs.Moments.{goes_on}
+use Rattle.gate_journal.specs.Batch.{Batch}
 use Rattle.gate_journal.specs.Journal as journal
 use Rattle.gate_journal.specs.Journal.{IsSettled}
 use Rattle.gate_journal.specs.declared.batch.Image.{Image}
 use Rattle.home_blocks.specs.Places.{disk_size_of}
-use Rattle.local_store.specs.Away.{IsKeptOver, IsLent, batch_in}
+use Rattle.local_store.specs.About.{about_of}
+use Rattle.local_store.specs.Away.{IsKeptOver, IsLent, batch_in, twin_of}
 use Rattle.local_store.specs.Kept.{stored_means}
 use Rattle.local_store.specs.Meaning.{Means}
 use Rattle.local_store.specs.Store.{geometry_of, meaning_in}
@@ -20,10 +22,11 @@ use Rattle.local_store.proofs.lending_store.LendingStore.lend_commit.Goals as go
 pub returns-in-Err-clause-kept : goal.returns-in-Err-clause-kept
 returns-in-Err-clause-kept g c = λ keeps v kept.
     let s = c.args.self.now in
-    let before = λ (l : Lent g.row.D-Past.Denot). g.D.HalvedDisk.left_before l.past (g.D.HalvedDisk.until l.past) in
+    let before = λ (l : Lent g.row.D-Past.Denot g.row.D-Log.Denot). g.D.HalvedDisk.left_before l.past (g.D.HalvedDisk.until l.past) in
+    let had = λ (l : Lent g.row.D-Past.Denot g.row.D-Log.Denot) (j : journal.State) (bs : List Batch). IsSettled j bs (g.D.Log.Disk.gives l.was.value) (g.D.Log.Disk.may_leave_now l.was.value) in
     let same = c.in-Err.ensures.unlent keeps in
-    kept_here s.lent before s.contents v (g.D.Disk.gives c.lend_log.new.self) (g.D.Disk.may_leave_now c.lend_log.new.self) c.requires.here
-    (stored_untouched same.shown same.leaves (stored_here s.lent before s.contents v (g.D.Disk.gives s.disk) (g.D.Disk.may_leave_now s.disk) c.requires.here kept))
+    kept_here s.lent before had s.contents v (g.D.Disk.gives c.lend_log.new.self) (g.D.Disk.may_leave_now c.lend_log.new.self) c.requires.here
+    (stored_untouched same.shown same.leaves (stored_here s.lent before had s.contents v (g.D.Disk.gives s.disk) (g.D.Disk.may_leave_now s.disk) c.requires.here kept))
 
 pub invariant_of-self-2 : goal.invariant_of-self-2
 invariant_of-self-2 g c =
@@ -64,8 +67,9 @@ returns-clause-log g c = λ keeps v was.
 pub returns-clause-kept : goal.returns-clause-kept
 returns-clause-kept g c = λ keeps v kept.
     let s = c.args.self.now in
-    let before = λ (l : Lent g.row.D-Past.Denot). g.D.HalvedDisk.left_before l.past (g.D.HalvedDisk.until l.past) in
-    let was = stored_here s.lent before s.contents v (g.D.Disk.gives s.disk) (g.D.Disk.may_leave_now s.disk) c.requires.here kept in
+    let before = λ (l : Lent g.row.D-Past.Denot g.row.D-Log.Denot). g.D.HalvedDisk.left_before l.past (g.D.HalvedDisk.until l.past) in
+    let had = λ (l : Lent g.row.D-Past.Denot g.row.D-Log.Denot) (j : journal.State) (bs : List Batch). IsSettled j bs (g.D.Log.Disk.gives l.was.value) (g.D.Log.Disk.may_leave_now l.was.value) in
+    let was = stored_here s.lent before had s.contents v (g.D.Disk.gives s.disk) (g.D.Disk.may_leave_now s.disk) c.requires.here kept in
     let home = c.lend_log.new.self in
     let log = c.in-Ok.lent.0 in
     let past = c.in-Ok.lent.1 in
@@ -78,6 +82,7 @@ returns-clause-kept g c = λ keeps v kept.
       lent_over s.contents v halves long (λ a left. g.met.D.Disk.leaves_size keeps home a left ∙ size) (g.met.D.Log.Disk.leaves_gives (g.met.D.HalvedDisk.log_keeps keeps) log)
           (g.D.HalvedDisk.left_before past (g.D.HalvedDisk.until past))
           (λ d may. g.met.D.Disk.only_now keeps s.disk d (earlier.nothing_else (g.D.Disk.moment s.disk) d (le_refl (g.D.Disk.moment s.disk)) (subst (λ (n : ℕ). g.D.HalvedDisk.left_before past n d) earlier.at may))) was,
+      subst (λ (x : g.row.D-Log.Denot). IsSettled (twin_of s.contents) was.batches (g.D.Log.Disk.gives x) (g.D.Log.Disk.may_leave_now x)) (sym c.of.ensures) (lent_settled s.contents v halves long (g.met.D.Disk.leaves_gives keeps home) was),
     )
 
 pub returns-in_err-may_commit-clause-at_rest : goal.returns-in_err-may_commit-clause-at_rest
@@ -96,3 +101,6 @@ returns-in-Err-clause-at_rest g c = λ keeps v was.
     let same = c.in-Err.ensures.unlent keeps in
     goes_on d.moment d.may_have_left_since s.disk s.disk c.lend_log.new.self (Means (meaning_in s.contents v)) (d.may_leave_now c.lend_log.new.self)
     (at_rest s.disk was.stands was (g.met.D.Disk.only_now keeps s.disk)) same.time (λ x left. stored_means was.stands was x (same.leaves x left))
+
+pub returns-clause-about : goal.returns-clause-about
+returns-clause-about g c = ap (λ (l : List Image). record (about_of c.args.self.now.contents) { lent = Some (record { front = c.args.front; images = l }) }) c.in_ok-staged.ensures

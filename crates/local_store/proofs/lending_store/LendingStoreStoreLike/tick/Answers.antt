@@ -1,4 +1,5 @@
 use Rattle.std.proofs.Common.{refl}
+use Rattle.gate_journal.specs.Journal.{IsSettled}
 use Rattle.local_store.proofs.Away.{has_border, keeps_still, leaves_still, still_away, still_here}
 use Rattle.local_store.proofs.lending_store.LendingStoreStoreLike.tick.Goals as goal
 
@@ -14,11 +15,11 @@ invariant_of-self-clause-away g c = let s = c.args.self.now in λ l is. still_aw
 pub returns-clause-kept : goal.returns-clause-kept
 returns-clause-kept g c = λ keeps v kept.
     let s = c.args.self.now in
-    keeps_still s.lent (λ l. g.D.HalvedDisk.left_before l.past (g.D.HalvedDisk.until l.past)) s.contents c.tick.new.self v (g.D.Disk.gives s.disk) (g.D.Disk.gives c.tick.new.disk) (g.D.Disk.may_leave_now s.disk) (g.D.Disk.may_leave_now c.tick.new.disk) c.tick.result
+    keeps_still s.lent (λ l. g.D.HalvedDisk.left_before l.past (g.D.HalvedDisk.until l.past)) (λ l j bs. IsSettled j bs (g.D.Log.Disk.gives l.was.value) (g.D.Log.Disk.may_leave_now l.was.value)) s.contents c.tick.new.self v (g.D.Disk.gives s.disk) (g.D.Disk.gives c.tick.new.disk) (g.D.Disk.may_leave_now s.disk) (g.D.Disk.may_leave_now c.tick.new.disk) c.tick.result
     c.tick.ensures.same (λ was. c.tick.ensures.stored keeps v was) (λ batches was. c.tick.ensures.home_kept keeps v batches was) kept
 
 pub returns-clause-any_moment : goal.returns-clause-any_moment
 returns-clause-any_moment g c = λ keeps v kept.
     let s = c.args.self.now in
-    leaves_still s.lent (λ l. g.D.HalvedDisk.cut_at l.past) (λ l. g.D.HalvedDisk.left_before l.past (g.D.HalvedDisk.until l.past)) (λ s. s.disk) (λ s. s.lent) _ _ refl refl s.contents v (g.D.Disk.gives s.disk) (g.D.Disk.may_leave_now s.disk)
+    leaves_still s.lent (λ l. g.D.HalvedDisk.cut_at l.past) (λ l. g.D.HalvedDisk.left_before l.past (g.D.HalvedDisk.until l.past)) (λ l j bs. IsSettled j bs (g.D.Log.Disk.gives l.was.value) (g.D.Log.Disk.may_leave_now l.was.value)) (λ s. s.disk) (λ s. s.lent) _ _ refl refl s.contents v (g.D.Disk.gives s.disk) (g.D.Disk.may_leave_now s.disk)
     (λ l is. (s.away l is).cut) (λ was. c.tick.ensures.any_moment keeps v was) (λ batches was. c.tick.ensures.home_moment keeps v batches was) kept

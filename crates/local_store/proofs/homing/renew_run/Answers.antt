@@ -3,7 +3,7 @@ use Rattle.std.proofs.lemmas.List.{take_all}
 use Rattle.block_cache.specs.Cache.{Agrees}
 use Rattle.disk_model.specs.Disk.{put}
 use Rattle.local_store.proofs.Joined.{length-put, put_block, put_none}
-use Rattle.local_store.proofs.contents.renew_run.Goals as goal
+use Rattle.local_store.proofs.homing.renew_run.Goals as goal
 
 pub loop-i-init : goal.loop-i-init
 loop-i-init c = λ home room agrees. subst (Agrees c.args.cache.now) (sym (put_none home (4096 * c.args.first))) agrees

@@ -1,7 +1,7 @@
 use Rattle.std.proofs.Common.{◌+◌, ◌*◌, ◌≤◌, ℕ, List, length, take}
 use Rattle.block_cache.specs.Cache.{Agrees}
 use Rattle.disk_model.specs.Disk.{put}
-use Rattle.local_store.proofs.contents.renew_run.Given as goal
+use Rattle.local_store.proofs.homing.renew_run.Given as goal
 
 -- the cache knows of the blocks that the loop has passed
 abbrev pub invariant-loop-i : goal.invariant-loop-i

@@ -3,7 +3,7 @@ use Rattle.disk_model.specs.Moments.{then_run}
 use Rattle.home_blocks.specs.Home as home
 use Rattle.local_store.proofs.Changing.{IsOtherPart, emptied_keeps, emptied_leaves, fresh_journal, mark_keeps, mark_leaves, next_is, other_part}
 use Rattle.local_store.proofs.Stored.{reads_leave}
-use Rattle.local_store.proofs.contents.other_area.Goals as goal
+use Rattle.local_store.proofs.homing.other_area.Goals as goal
 
 pub returns-in_err-sync_home-clause-any_moment : goal.returns-in_err-sync_home-clause-any_moment
 returns-in_err-sync_home-clause-any_moment g c = λ keeps store v front of empty was. reads_leave of was (c.sync_home.ensures.reads keeps)

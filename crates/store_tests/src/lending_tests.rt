@@ -1,0 +1,188 @@
+// A log that is lent out, runs of pending blocks, and an installer: each call once, with its device calls counted.
+ghost use Rattle.std.specs.Prelude.{◌≡◌, ◌≤◌, IsNone};
+ghost use Rattle.disk_model.specs.Memory.{size_of};
+ghost use Rattle.gate_journal.specs.Batch.{AreImages};
+ghost use Rattle.home_blocks.specs.Places.{disk_size_of};
+ghost use Rattle.local_store.specs.Store.{geometry_of};
+
+use crate::comparing::{same, same_at};
+use crate::disks::new_disk;
+use disk_model::{Cut, Disk, DiskError, Event, MemDisk};
+use flusher::Run;
+use gate_journal::{IMAGE_SIZE, Image, Slot};
+use home_blocks::disk_size;
+use local_store::{CommitWork, Installer, LendingStore, Refusal, Store, StoreLike};
+use std::alloc::Global;
+use std::process::Abort;
+use volume::Geometry;
+
+// The sizes of a volume of 8 blocks, with room for two batches of one block.
+fn sizes(rt: &impl Abort) -> Geometry
+    ensures { result.blocks ≡ 8 }
+{
+    let geometry = Geometry::new(8, 12_327, 4_096).expect(rt, "a geometry");
+    assert!(rt; geometry.blocks == 8);
+    geometry
+}
+
+// A new disk for it.
+fn disk(rt: &impl Abort, alloc: Global, geometry: Geometry) -> MemDisk
+    ensures { disk_size_of geometry ≤ size_of result }
+{
+    new_disk(rt, alloc, disk_size(geometry))
+}
+
+// A store of slot 0 on a new disk, which lends; some device call from now on may fail.
+fn lending(rt: &impl Abort, alloc: Global, fails: Option<u64>) -> LendingStore<MemDisk>
+    ensures here { IsNone result.lent }
+    ensures blocks { (geometry_of result.contents).blocks ≡ 8 }
+{
+    let geometry = sizes(rt);
+    let slot = Slot::new(0).expect(rt, "a slot");
+    let Ok(mut store) = Store::format(alloc, disk(rt, alloc, geometry), slot, 1, geometry) else {
+        panic!(rt; "no store")
+    };
+    if let Some(call) = fails {
+        store.arm(Event::FailAt { call }).expect(rt, "memory");
+    }
+    let store = LendingStore::of(store);
+    assert!(rt; store.geometry().blocks == 8);
+    store
+}
+
+// The blocks 2 and 3.
+fn two(byte: u8) -> [Image; 2]
+    ensures { AreImages 8 result }
+{
+    [
+        Image {
+            block: 2,
+            bytes: [byte; IMAGE_SIZE],
+        },
+        Image {
+            block: 3,
+            bytes: [byte; IMAGE_SIZE],
+        },
+    ]
+}
+
+// The byte of which the block consists.
+fn read(rt: &impl Abort, store: &mut LendingStore<MemDisk>, block: u32) -> u8 {
+    assert!(rt; block < store.geometry().blocks);
+    let mut bytes = [0xee; IMAGE_SIZE];
+    store.read_block(block, &mut bytes).expect(rt, "a block");
+    same_at(rt, bytes, [bytes[0]; IMAGE_SIZE], block);
+    bytes[0]
+}
+
+// Lends the log out, for the blocks 2 and 3 at front 1.
+fn lend(rt: &impl Abort, alloc: Global, store: &mut LendingStore<MemDisk>) -> CommitWork<MemDisk>
+    requires here { IsNone store.old.lent }
+    requires blocks { (geometry_of store.old.contents).blocks ≡ 8 }
+{
+    let work = store.lend_commit(alloc, 1, &two(7)).expect(rt, "a commit");
+    assert!(rt; store.is_lent());
+    work
+}
+
+#[test]
+fn a_lent_commit_is_finished(rt: HostRuntime) {
+    let alloc = rt.alloc();
+    let mut store = lending(&rt, alloc, None);
+    same(&rt, (store.disk().calls(), store.is_lent()), (22, false));
+    let work = lend(&rt, alloc, &mut store);
+    same(&rt, (read(&rt, &mut store, 2), store.front()), (0, 0));
+    same(&rt, store.tick(), Ok(None));
+    let done = work.journal(alloc);
+    assert!(rt; store.is_log_of(&done));
+    let receipt = store.finish_commit(done).expect(&rt, "a receipt");
+    same(&rt, (receipt.slot().number(), receipt.front()), (0, 1));
+    same(&rt, (store.is_lent(), store.front()), (false, 1));
+    same(&rt, store.disk().calls(), 27);
+    same(&rt, read(&rt, &mut store, 3), 7);
+    let run = Run { first: 2, count: 2 };
+    same(&rt, store.tick_run(alloc, 8), Ok(Some(run)));
+    same(&rt, store.disk().calls(), 28);
+    let mut disk = store.into_disk();
+    disk.cut(Cut::None);
+    let Ok(found) = Store::open(alloc, disk) else {
+        panic!(rt; "no store")
+    };
+    let mut found = LendingStore::of(found);
+    same(&rt, (found.front(), read(&rt, &mut found, 3)), (1, 7));
+}
+
+#[test]
+fn a_log_is_taken_back(rt: HostRuntime) {
+    let alloc = rt.alloc();
+    let mut store = lending(&rt, alloc, None);
+    let done = lend(&rt, alloc, &mut store).journal(alloc);
+    assert!(rt; store.is_log_of(&done));
+    store.take_back(done);
+    same(
+        &rt,
+        (store.is_lent(), store.is_broken(), store.front()),
+        (false, true, 0),
+    );
+    same(&rt, store.tick(), Err(Refusal::Broken));
+}
+
+// The second device call of the journaling fails.
+#[test]
+fn a_refused_journaling_breaks_the_store(rt: HostRuntime) {
+    let alloc = rt.alloc();
+    let mut store = lending(&rt, alloc, Some(2));
+    let done = lend(&rt, alloc, &mut store).journal(alloc);
+    assert!(rt; store.is_log_of(&done));
+    let fault = Refusal::Device(DiskError::SyncFault);
+    same(&rt, store.finish_commit(done).err(), Some(fault));
+    same(
+        &rt,
+        (store.is_lent(), store.is_broken(), store.front()),
+        (false, true, 0),
+    );
+}
+
+#[test]
+fn an_installation_is_finished(rt: HostRuntime) {
+    let alloc = rt.alloc();
+    let geometry = sizes(&rt);
+    let slot = Slot::new(1).expect(&rt, "a slot");
+    let Ok(mut installer) = Installer::start(alloc, disk(&rt, alloc, geometry), slot, 2, geometry)
+    else {
+        panic!(rt; "no installer")
+    };
+    for block in [7, 5, 3, 1, 0, 2, 4, 6, 3] {
+        installer
+            .block(block, &[1 + block as u8; IMAGE_SIZE])
+            .expect(&rt, "a block");
+    }
+    assert!(rt; installer.is_complete());
+    let Ok((receipt, disk)) = installer.finish(9) else {
+        panic!(rt; "no end")
+    };
+    same(&rt, (receipt.slot().number(), receipt.front()), (1, 9));
+    same(&rt, disk.calls(), 30);
+    let Ok(store) = Store::open(alloc, disk) else {
+        panic!(rt; "no store")
+    };
+    let mut store = LendingStore::of(store);
+    same(&rt, (store.front(), store.incarnation()), (9, 2));
+    for block in 0..8 {
+        same(&rt, read(&rt, &mut store, block), 1 + block as u8);
+    }
+}
+
+#[test]
+fn an_installation_that_is_broken_off_is_none(rt: HostRuntime) {
+    let alloc = rt.alloc();
+    let geometry = sizes(&rt);
+    let slot = Slot::new(1).expect(&rt, "a slot");
+    let Ok(installer) = Installer::start(alloc, disk(&rt, alloc, geometry), slot, 2, geometry)
+    else {
+        panic!(rt; "no installer")
+    };
+    same(&rt, installer.is_complete(), false);
+    let told = Store::open(alloc, installer.into_disk()).map_err(|(refusal, _)| refusal);
+    same(&rt, told.err(), Some(Refusal::Unfinished));
+}
