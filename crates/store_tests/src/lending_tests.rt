@@ -143,41 +143,6 @@ fn a_refused_journaling_breaks_the_store(rt: HostRuntime) {
     );
 }
 
-// Two blocks, the second one twice.
-#[test]
-fn an_installation_is_finished(rt: HostRuntime) {
-    let alloc = rt.alloc();
-    let geometry = Geometry::new(2, 8_214, 4_096).expect(&rt, "a geometry");
-    assert!(rt; geometry.blocks == 2);
-    let slot = Slot::new(1).expect(&rt, "a slot");
-    let Ok(mut installer) = Installer::start(alloc, disk(&rt, alloc, geometry), slot, 2, geometry)
-    else {
-        panic!(rt; "no installer")
-    };
-    let given = [
-        installer.block(1, &[7; IMAGE_SIZE]),
-        installer.block(0, &[8; IMAGE_SIZE]),
-        installer.block(1, &[9; IMAGE_SIZE]),
-    ];
-    same(&rt, given, [Ok(()); 3]);
-    assert!(rt; installer.is_complete());
-    let Ok((receipt, disk)) = installer.finish(9) else {
-        panic!(rt; "no end")
-    };
-    same(&rt, (receipt.slot().number(), receipt.front()), (1, 9));
-    same(&rt, disk.calls(), 24);
-    let Ok(store) = Store::open(alloc, disk) else {
-        panic!(rt; "no store")
-    };
-    let mut store = LendingStore::of(store);
-    same(&rt, (store.front(), store.incarnation()), (9, 2));
-    same(
-        &rt,
-        (read(&rt, &mut store, 0), read(&rt, &mut store, 1)),
-        (8, 9),
-    );
-}
-
 #[test]
 fn an_installation_that_is_broken_off_is_none(rt: HostRuntime) {
     let alloc = rt.alloc();
