@@ -125,14 +125,25 @@ fn talk<R: Net<Listener = TcpListener, Stream = TcpStream> + Clock + AllocGlobal
 }
 
 /// A new folder with a chain of one, of 8 blocks.
-fn formatted(rt: &HostRuntime, name: &str) -> String {
-    let id = process::id(rt.process());
-    let dir = format!(in rt.alloc(); "/tmp/nbdchain.{name}.{id}").expect(rt, "memory");
-    fs::create_dir(rt, dir.as_str()).expect(rt, "a new folder");
+fn format_folder<R>(rt: &R, dir: &str)
+where
+    R: Files<File = File>
+        + Net<Listener = TcpListener, Stream = TcpStream>
+        + AllocGlobal
+        + Abort
+        + Threads
+        + Wait
+        + Clock
+        + Log
+        + Copy
+        + Send
+        + 'static,
+{
+    fs::create_dir(rt, dir).expect(rt, "a new folder");
     let words = [
         "nbdchain",
         "format",
-        dir.as_str(),
+        dir,
         "--blocks",
         "8",
         "--max-payload",
@@ -144,12 +155,13 @@ fn formatted(rt: &HostRuntime, name: &str) -> String {
     ];
     let formatted = run_words(rt, &words);
     assert_eq!(rt; shown(&formatted.output), "formatted 1 members, 8 blocks\n");
-    dir
 }
 
 #[test]
 fn formatted_and_served(rt: HostRuntime) {
-    let dir = formatted(&rt, "served");
+    let id = process::id(rt.process());
+    let dir = format!(in rt.alloc(); "/tmp/nbdchain.{id}").expect(&rt, "memory");
+    format_folder(&rt, dir.as_str());
     for exchange in [FIRST_WRITE, FIRST_READ, PLAIN_WRITE, PLAIN_READ] {
         let (port, own_dir) = (free_port(&rt), dir.clone().expect(&rt, "memory"));
         let server = thread::spawn(&rt, move || serve_once(&rt, &own_dir, port));
@@ -162,7 +174,9 @@ fn formatted_and_served(rt: HostRuntime) {
 
 #[test]
 fn a_busy_port_changes_nothing(rt: HostRuntime) {
-    let dir = formatted(&rt, "busy");
+    let id = process::id(rt.process());
+    let dir = format!(in rt.alloc(); "/tmp/nbdchain.busy.{id}").expect(&rt, "memory");
+    format_folder(&rt, dir.as_str());
     let config = format!(in rt.alloc(); "{dir}/config.disk").expect(&rt, "memory");
     let before = fs::read(&rt, config.as_str()).expect(&rt, "the record");
     let busy = TcpListener::bind(&rt, (Ipv4Addr::LOCALHOST, 0)).expect(&rt, "a free port");
