@@ -1,5 +1,5 @@
 -- What holds of a member holds after its store worked.
-use Rattle.std.proofs.Common.{inl, inr, ⊎_elim, ◌≡◌, ◌≢◌, ◌∙◌, ℕ, ◌-◌, ◌<◌, ◌≤◌, Bool, List, ap, arith, length, refl, subst, sym}
+use Rattle.std.proofs.Common.{inl, inr, ⊎_elim, ◌≡◌, ◌≢◌, ◌∙◌, ℕ, ◌-◌, ◌<◌, ◌≤◌, List, ap, arith, length, refl, subst, sym}
 use Rattle.std.specs.Prelude.{All, ◌⊎◌, IsSomeAnd, None, Option, Some}
 use Rattle.std.specs.Option.{ForSome}
 use Rattle.std.proofs.lemmas.List.{length-drop}

@@ -343,11 +343,6 @@ pub some_of : {T : Type 0} (o : Option T) → IsSome o → (x : T) × (o ≡ Som
 some_of None is = absurd (both_ways false refl is)
 some_of (Some x) is = (x, refl)
 
--- a store answers what the journaling did
-pub answered : {R : Type 0} (outcome : Result R JournalRefusal) (result : Result R Refusal) (P Q : Type 0) → MatchResult outcome (λ x. result ≡ Ok x) (λ e. result ≡ Err (by_journal e)) → OnOk outcome P → (P → OnOk result Q) → OnOk result Q
-answered (Ok x) result P Q is has come = come has
-answered (Err e) result P Q is has come = subst (λ (r : Result _ Refusal). OnOk r Q) (sym is) tt
-
 caused_by : (before log now : ℕ) (e : JournalRefusal) → journals.IsCaused before log e → log ≤ now → IsCaused before now (by_journal e)
 caused_by before log now variants.Memory caused le = tt
 caused_by before log now variants.Full caused le = tt

@@ -1,11 +1,11 @@
 //! How a store lends its log out, with a commit that is to be journaled, and takes it back.
-ghost use Rattle.std.specs.Prelude.{◌≡◌, ◌≢◌, ◌⊎◌, ◌+◌, ◌<◌, ◌≤◌, ◌↔◌, ◌++◌, ◌∷◌, [], ℕ, List, None, Some, true, false, length, max, Any, IfOk, IfErr, OnOk, OnErr, IsErrOf, IsNone, IsSome, IfSome, IsTrue, MatchResult, Ok, Err};
+ghost use Rattle.std.specs.Prelude.{◌≡◌, ◌≢◌, ◌⊎◌, ◌+◌, ◌<◌, ◌≤◌, ◌↔◌, ℕ, List, None, Some, true, false, length, max, Any, IfOk, IfErr, OnOk, OnErr, IsErrOf, IsNone, IsSome, IfSome, IsTrue, MatchResult, Ok, Err};
 ghost use Rattle.std.specs.Option.{ForSome};
 ghost use Rattle.disk_model.specs.Disk.{LeavesOnly};
 ghost use Rattle.disk_model.specs.Halves.{IsPast, Rejoins};
 ghost use Rattle.flusher.specs.Plan.{IsPending};
-ghost use Rattle.gate_journal.specs.Batch.{AreImages, Batch};
-ghost use Rattle.gate_journal.specs.Journal.{IsSettled, appended, behind_border};
+ghost use Rattle.gate_journal.specs.Batch.{AreImages};
+ghost use Rattle.gate_journal.specs.Journal.{IsSettled, behind_border};
 ghost use Rattle.home_blocks.specs.Places.{border_of};
 ghost use Rattle.local_store.specs.About.{HasNoRoom, about_of, one_commit_more};
 ghost use Rattle.local_store.specs.Away.{IsCommitOf, IsKeptOver, IsLogOf, batch_of};

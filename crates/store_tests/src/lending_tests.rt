@@ -1,4 +1,4 @@
-// A log that is lent out, runs of pending blocks, and an installer: each call once, with its device calls counted.
+// A log that is lent out, a run of pending blocks, and an installation that is broken off, with their device calls.
 ghost use Rattle.std.specs.Prelude.{◌≡◌, ◌≤◌, IsNone};
 ghost use Rattle.disk_model.specs.Memory.{size_of};
 ghost use Rattle.gate_journal.specs.Batch.{AreImages};
@@ -7,7 +7,7 @@ ghost use Rattle.local_store.specs.Store.{geometry_of};
 
 use crate::comparing::{same, same_at};
 use crate::disks::new_disk;
-use disk_model::{Cut, Disk, DiskError, Event, MemDisk};
+use disk_model::{Cut, DiskError, Event, MemDisk};
 use flusher::Run;
 use gate_journal::{IMAGE_SIZE, Image, Slot};
 use home_blocks::disk_size;

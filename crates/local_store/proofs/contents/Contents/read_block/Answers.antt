@@ -1,6 +1,5 @@
 use Rattle.std.proofs.Common.{◌≡◌, ◌<◌, ◌∙◌, subst, sym}
-use Rattle.disk_model.specs.Disk.{LeavesOnly}
-use Rattle.local_store.specs.Lending.{HoldsHome, IsHomeKept}
+use Rattle.local_store.specs.Lending.{IsHomeKept}
 use Rattle.local_store.specs.Store.{IsStored, State, geometry_of}
 use Rattle.local_store.proofs.HomeHalf.{home_at_rest, home_reads_keep, home_reads_leave, home_with_cache}
 use Rattle.local_store.proofs.Stored.{reads_keep_store, with_cache}

@@ -1,4 +1,4 @@
-use Rattle.std.proofs.Common.{◌≡◌, ◌⊎◌, ◌∷◌, ◌++◌, [], ℕ, List, Option, OnOk, ◌∙◌, ap, false, inl, length, subst, sym}
+use Rattle.std.proofs.Common.{◌≡◌, ◌⊎◌, ℕ, List, Option, OnOk, ◌∙◌, ap, false, inl, subst, sym}
 use Rattle.std.specs.Prelude.{IfSome}
 use Rattle.disk_model.specs.Disk.{LeavesOnly}
 use Rattle.disk_model.specs.Halves.{Beside, IsPast, rejoined}
@@ -6,7 +6,7 @@ use Rattle.disk_model.specs.Moments.{weaker}
 use Rattle.disk_model.specs.Part.{inside}
 use Rattle.gate_journal.specs.Batch.{Batch, HoldsOldOrNew}
 use Rattle.gate_journal.specs.Journal as journal
-use Rattle.gate_journal.specs.Journal.{IsSettled, appended, behind_border, part_behind}
+use Rattle.gate_journal.specs.Journal.{IsSettled, behind_border}
 use Rattle.gate_journal.specs.Refusal as journals
 use Rattle.home_blocks.specs.Places.{border_of}
 use Rattle.local_store.specs.Away.{Keeps, batch_of, twin_of}
@@ -16,7 +16,7 @@ use Rattle.local_store.specs.Overlay.{with_images}
 use Rattle.local_store.specs.Store.{State, geometry_of, meaning_after, meaning_in}
 use Rattle.local_store.specs.declared.lent.Lent.{Lent}
 use Rattle.local_store.specs.declared.refusal.Refusal.TheVariants.{Broken}
-use Rattle.local_store.proofs.Away.{answered, caused_back, first_beside, halves_at, runs_if, some_of, stored_here}
+use Rattle.local_store.proofs.Away.{caused_back, first_beside, halves_at, runs_if, some_of, stored_here}
 use Rattle.local_store.proofs.HomeHalf.{home_at_rest}
 use Rattle.local_store.proofs.lending_store.LendingStore.commit_in_three.Goals as goal
 

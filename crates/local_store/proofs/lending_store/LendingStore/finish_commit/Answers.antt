@@ -1,4 +1,4 @@
-use Rattle.std.proofs.Common.{◌≡◌, ◌⊎◌, ℕ, List, Err, Ok, Result, ◌∙◌, ap, arith, subst, sym}
+use Rattle.std.proofs.Common.{◌≡◌, ◌⊎◌, ℕ, Err, Ok, Result, ◌∙◌, ap, arith, subst, sym}
 use Rattle.std.specs.Prelude.{Any, ◌↔◌, Option, Some, is_some}
 use Rattle.disk_model.specs.Halves.{AreHalves, Rejoins}
 use Rattle.flusher.specs.Plan.{IsPending}
