@@ -42,6 +42,8 @@ rtlib = rt.rtlib
 rtlib.VERDICT = re.compile(rtlib.VERDICT.pattern.replace(r"\n\Z", r"( incremental=trusted)?\n\Z"), re.M)
 KEPT = rtlib.KEPT
 ONE_JOB = ["--jobs", "1"]
+# How often the kit may meet a file that isn't there any more.
+TRIES = 20
 
 
 def crates(root=ROOT):
@@ -51,7 +53,21 @@ def crates(root=ROOT):
     rtlib.guarded()
     rt.Crate.allowed = rt.handles_of(root)
     rt.Crate.cuts_libraries = False
+    for _ in range(TRIES):
+        found = []
+        why = refusal_of(lambda: found.extend(rt.crates_of(root)))
+        if why is None:
+            return found
+        if not is_of_the_past(why, root):
+            break
     return rt.crates_of(root)
+
+
+def is_of_the_past(why, root):
+    """Whether all that the kit refuses was gone a moment later. It looks at every file of the crates, those too that other commands of the
+    same gate keep in out/ under a name for the time of writing."""
+    named = [re.fullmatch(r"(?:rt: )?(\S+) is no plain file or folder: remove it", it) for it in why.split("; ")]
+    return all(it and not os.path.lexists(f"{root}/{it[1]}") for it in named)
 
 
 def named(name, root=ROOT):
