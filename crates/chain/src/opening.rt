@@ -1,6 +1,7 @@
 //! How a chain begins, and how it is given up.
 ghost use Rattle.std.specs.Prelude.{◌≡◌, ◌<◌, ◌≤◌, ℕ, List, All, None, false, length, map, replicate, IfErr, IfOk, IfSome, slice_get};
 ghost use Rattle.chain_core.specs.Node.{size_of};
+ghost use Rattle.local_store.specs.About.{IsOfVersionTwo};
 ghost use Rattle.world_model.specs.Chain.{View};
 ghost use Rattle.world_model.specs.ChainLaws.{IsBeginning};
 ghost use Rattle.chain.specs.Chain.{Shows};
@@ -20,6 +21,7 @@ impl<S: StoreLike + Drop> Member<S> {
     /// The member whose store this is, in a chain that begins.
     fn new(alloc: Global, board: &Board, told: Record, store: S) -> Member<S>
         requires runs { (S.about store).broken ≡ false }
+        requires version { IsOfVersionTwo (S.about store) }
         requires here { (S.about store).lent ≡ None }
         requires keeps { S.keeps_model → (volume : List ℕ) × S.keeps store volume × (length volume ≡ size_of (S.about store)) }
         ensures { result ≡ beginning_of S.about board.now told store }
@@ -37,8 +39,8 @@ impl<S: StoreLike + Drop> Member<S> {
 }
 
 impl<S: StoreLike + Drop> Chain<S> {
-    /// A chain that begins over these stores: one of each recorded member, in the chain's order, none of them broken, all at one
-    /// front, with volumes of the same sizes.
+    /// A chain that begins over these stores: one of each recorded member, in the chain's order, none of them broken, their disks
+    /// of version 2, all at one front, with volumes of the same sizes.
     ///
     /// Where memory runs out, it hands the stores back.
     pub fn new(alloc: Global, told: Record, stores: Vec<S>) -> Result<Chain<S>, Vec<S>>
@@ -46,6 +48,7 @@ impl<S: StoreLike + Drop> Chain<S> {
         requires incarnations { All (λ m. 0 < m.incarnation) told.members }
         requires even { AreEven S.about stores.items }
         requires runs { All (λ store. (S.about store).broken ≡ false) stores.items }
+        requires version { All (λ store. IsOfVersionTwo (S.about store)) stores.items }
         requires here { All (λ store. (S.about store).lent ≡ None) stores.items }
         requires keeps { S.keeps_model → All (λ store. (volume : List ℕ) × S.keeps store volume × (length volume ≡ size_of (S.about store))) stores.items }
         ensures told { IfOk result (λ chain. chain.chain ≡ told) }
@@ -119,6 +122,7 @@ fn begin_all<S: StoreLike + Drop>(
 ) -> Result<Vec<Member<S>>, Vec<S>>
     requires copies { copies.items ≡ replicate (length stores.items) told.now }
     requires runs { All (λ store. (S.about store).broken ≡ false) stores.items }
+    requires version { All (λ store. IsOfVersionTwo (S.about store)) stores.items }
     requires here { All (λ store. (S.about store).lent ≡ None) stores.items }
     requires keeps { S.keeps_model → All (λ store. (volume : List ℕ) × S.keeps store volume × (length volume ≡ size_of (S.about store))) stores.items }
     ensures members { IfOk result (λ members. members.items ≡ map (beginning_of S.about board.now told.now) stores.items) }

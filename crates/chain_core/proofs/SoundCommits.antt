@@ -52,7 +52,7 @@ module _ (about : About) (keeping : Keeping) (node : NodeState) (is : IsSound ab
     asked = is.asked;
     found = is.found;
     under_way = λ c here. let way = is.under_way c here in record { above = way.above; known = way.known; images = way.images; room = omega (arith, way.room) };
-    running = λ still. let was = is.running still in record { whole = was.whole; here = was.here; keeps = λ premise. let (volume, keep, long) = was.keeps premise in (volume, kept premise volume keep, long) };
+    running = λ still. let was = is.running still in record { whole = was.whole; version = was.version; here = was.here; keeps = λ premise. let (volume, keep, long) = was.keeps premise in (volume, kept premise volume keep, long) };
     resting = is.resting;
     journals = λ premise volume keep.
         let (was, kept_was, long) = (is.running runs).keeps premise in
@@ -140,6 +140,7 @@ module _ (about : About) (keeping : Keeping) (node : NodeState) (is : IsSound ab
           under_way = λ c none. absurd (cc);
           running = λ still. let was = is.running still in record {
             whole = was.whole;
+            version = was.version;
             here = was.here;
             keeps = λ premise.
                 let (volume, keep, long) = was.keeps premise in (

@@ -5,7 +5,7 @@ use Rattle.board.specs.Seats.{BoardId, FoundFront}
 use Rattle.flush_barrier.specs.Reply.{GivenReply}
 use Rattle.gate_journal.specs.declared.batch.TheConstants.{MAX_NUMBER}
 use Rattle.gate_journal.specs.Batch.{AreImages}
-use Rattle.local_store.specs.About.{About, HasRoom}
+use Rattle.local_store.specs.About.{About, HasRoom, IsOfVersionTwo}
 use Rattle.version_table.specs.Held.{writes_upto}
 use Rattle.volume.specs.Writes.{Fits}
 use Rattle.chain_steps.specs.Node.{Commit, Delivery, NodeState, Out, Refused, Stepped, Taken, durable_of, is_stopped, last_of}
@@ -55,9 +55,10 @@ pub record Keeping : Type 1 where
   pub premise : Type 0
   pub keeps : List ℕ → Type 0
 
--- a store that runs: no device call failed, its log is there, and it keeps a volume of its size
+-- a store that runs: no device call failed, its disk is of version 2, its log is there, and it keeps a volume of its size
 pub record IsRunning (about : About) (keeping : Keeping) : Type 0 where
   pub whole : about.broken ≡ false
+  pub version : IsOfVersionTwo about
   pub here : about.lent ≡ None
   pub keeps : keeping.premise → (volume : List ℕ) × keeping.keeps volume × (length volume ≡ size_of about)
 

@@ -1,6 +1,7 @@
 ghost use Rattle.std.specs.Prelude.{◌≡◌, ◌≤◌, ◌+◌, [], List, ℕ, length, true, false, None, IfSome};
 ghost use Rattle.chain_steps.specs.Node.{NodeState, durable_of, last_of};
 ghost use Rattle.chain_steps.specs.Steps.{stop};
+ghost use Rattle.local_store.specs.About.{IsOfVersionTwo};
 ghost use Rattle.chain_core.specs.Node.{IsSound, IsStep, Seen, size_of};
 
 use crate::commit::Commit;
@@ -72,9 +73,10 @@ impl<S: StoreLike> Model for Node<S> {
 
 impl<S: StoreLike + Drop> Node<S> {
     /// The member whose store this is, in a chain that starts: all that the store holds is known, and no token waits. The
-    /// store isn't broken, its log is there, and it keeps a volume of its size.
+    /// store isn't broken, its disk is of version 2, its log is there, and it keeps a volume of its size.
     pub fn new(alloc: Global, board: &Board, chain: Record, store: S) -> Node<S>
         requires runs { (S.about store).broken ≡ false }
+        requires version { IsOfVersionTwo (S.about store) }
         requires here { (S.about store).lent ≡ None }
         requires keeps { S.keeps_model → (volume : List ℕ) × S.keeps store volume × (length volume ≡ size_of (S.about store)) }
         ensures store { result.store ≡ store }

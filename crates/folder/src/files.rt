@@ -8,10 +8,11 @@ ghost use Rattle.folder.specs.Files.{AreAscendingFrom, AreOpenings, IsFailureAmo
 ghost use Rattle.folder.specs.Refusal.{IsOfFiles, IsOfFormatting};
 
 use crate::formatting::{format_disks, slot_of};
-use crate::restarting::Refused;
+use crate::restarting::{Opened, Refused};
 use crate::{Failure, FileName, Layout, Refusal};
 use disk_model::FileDisk;
 use gate_journal::{PAIR_SIZE, Slot};
+use local_store::{Store, StoreLike};
 use std::alloc::{AllocError, Global};
 use std::fs::{self, File, Files};
 use std::io::{self, ErrorKind};
@@ -271,6 +272,19 @@ impl FolderDisks<FileDisk> {
         ensures config { IfNone fault (result.file ≡ FileName.Config) }
     {
         blamed(&self.slots, refusal, fault, &self.config, &self.disks)
+    }
+}
+
+impl Opened<FileDisk> {
+    ghost use Rattle.std.specs.Prelude.{◌≡◌};
+
+    /// What a refusal of the source's store tells of its file.
+    pub fn failure(&self, refusal: local_store::Refusal) -> Failure
+        ensures refusal { result.refusal ≡ Refusal.Store refusal }
+        ensures source { result.file ≡ FileName.Slot (⟦<Store<FileDisk> as StoreLike>⟧.about self.now.store).slot }
+    {
+        let file = FileName::Slot(self.source());
+        Failure::of_disk(file, Refusal::Store(refusal), self.store.disk())
     }
 }
 

@@ -22,6 +22,7 @@ use crate::found::{all_disks, find_all};
 use configurations::{ConfigStore, Epoch, Member, Record, records_are_one};
 use disk_model::Disk;
 use gate_journal::{MAX_NUMBER, PAIR_SIZE, Slot};
+use home_blocks::Version;
 use local_store::{Store, StoreLike, disks_mean_one};
 use std::alloc::Global;
 
@@ -249,7 +250,37 @@ fn alone_behind(
 }
 
 impl<D: Disk + Drop> Opened<D> {
-    ghost use Rattle.std.specs.Prelude.{◌≡◌};
+    ghost use Rattle.std.specs.Prelude.{◌≡◌, ◌⊎◌, ℕ, List, IfErr, OnOk};
+    ghost use Rattle.disk_model.specs.Disk.{LeavesOnly};
+    ghost use Rattle.folder.specs.Found.{IsRunning};
+    ghost use Rattle.local_store.specs.About.{IsOfVersionTwo, meaning_with, migrated};
+    ghost use Rattle.local_store.specs.Meaning.{Means};
+    ghost use Rattle.local_store.specs.Refusal as store;
+
+    /// Brings the source's disk to version 2, if it is one of version 1: its record is durable by then. Nothing else changes.
+    ///
+    /// What the device refuses: then the store is broken, and its disk means what it meant.
+    pub fn migrate(&mut self) -> Result<(), local_store::Refusal>
+        requires running { IsRunning ⟦<Store<D> as StoreLike>⟧.about self.old.store }
+        requires keeps { D.keeps_model → (volume : List ℕ) × ⟦<Store<D> as StoreLike>⟧.keeps self.old.store volume }
+        ensures same { self.new ≡ record self.old { store = self.new.store } }
+        ensures version { OnOk result (IsOfVersionTwo (⟦<Store<D> as StoreLike>⟧.about self.new.store)) }
+        ensures about { OnOk result ((⟦<Store<D> as StoreLike>⟧.about self.new.store ≡ ⟦<Store<D> as StoreLike>⟧.about self.old.store)
+            ⊎ (⟦<Store<D> as StoreLike>⟧.about self.new.store ≡ migrated (⟦<Store<D> as StoreLike>⟧.about self.old.store))) }
+        ensures untouched { IsOfVersionTwo (⟦<Store<D> as StoreLike>⟧.about self.old.store) → self.new ≡ self.old }
+        ensures kept { D.keeps_model → (volume : List ℕ) → ⟦<Store<D> as StoreLike>⟧.keeps self.old.store volume → OnOk result (⟦<Store<D> as StoreLike>⟧.keeps self.new.store volume) }
+
+        // A stop at any moment of the call leaves what means what it meant.
+        ensures any_moment { D.keeps_model → (volume : List ℕ) → ⟦<Store<D> as StoreLike>⟧.keeps self.old.store volume
+            → LeavesOnly D.moment D.may_have_left_since self.old.store.disk self.new.store.disk (Means (meaning_with (⟦<Store<D> as StoreLike>⟧.about self.old.store) volume)) }
+        ensures told { D.keeps_model → IfErr result store.IsOfDevice }
+        ensures cause { IfErr result (store.IsCaused (D.failures self.old.store.disk) (D.failures self.new.store.disk)) }
+    {
+        match self.store.version() {
+            Version::One => self.store.migrate(),
+            Version::Two => Ok(()),
+        }
+    }
 
     /// The slot of the source.
     pub fn source(&self) -> Slot

@@ -12,12 +12,15 @@ use Rattle.volume.specs.declared.geometry.Geometry.{Geometry}
 use Rattle.home_blocks.specs.Area.{area_number}
 use Rattle.home_blocks.specs.Fields.{numbers_of, numbers_encoding}
 use Rattle.home_blocks.specs.Progress.{progress_number}
+use Rattle.home_blocks.specs.Version.{version_number}
 use Rattle.home_blocks.specs.Superblock.{HasOtherVersion, IsEncoding, IsSuperblock, Superblock, fields_encoding, header_encoding, superblock_encoding}
 use Rattle.home_blocks.specs.declared.area.Area.{Area}
 use Rattle.home_blocks.specs.declared.area.Area.TheVariants.{First, Second}
 use Rattle.home_blocks.specs.declared.fields.Fields.{Fields}
 use Rattle.home_blocks.specs.declared.progress.Progress.{Progress}
 use Rattle.home_blocks.specs.declared.progress.Progress.TheVariants.{Installing, Whole}
+use Rattle.home_blocks.specs.declared.version.Version.{Version}
+use Rattle.home_blocks.specs.declared.version.Version.TheVariants.{One, Two}
 
 -- two ways to cut one list behind as many elements are one
 same_halves : (a b c d : List ℕ) → length a ≡ length c → a ++ b ≡ c ++ d → (a ≡ c) × (b ≡ d)
@@ -117,7 +120,13 @@ fields_fit sb is = record {
   front = omega (arith, is.front);
 }
 
--- two numbers are of one progress, or of one area
+-- two numbers are of one version, of one progress, or of one area
+pub same_version : (v w : Version) → version_number v ≡ version_number w → v ≡ w
+same_version One One e = refl
+same_version One Two e = absurd (omega arith)
+same_version Two One e = absurd (omega arith)
+same_version Two Two e = refl
+
 same_progress : (p q : Progress) → progress_number p ≡ progress_number q → p ≡ q
 same_progress Installing Installing e = refl
 same_progress Installing Whole e = absurd (omega arith)
@@ -158,16 +167,16 @@ module _ (g : Geometry) where
   pub same_geometry : (h : Geometry) → g.blocks ≡ h.blocks → g.area ≡ h.area → g.max_payload ≡ h.max_payload → g ≡ h
   same_geometry h blocks area max_payload = subst₃ Same blocks area max_payload same_here h.some_blocks h.payload_in_range h.area_fits
 
--- a superblock is its numbers
-pub same_superblock : (sb other : Superblock) → numbers_of sb ≡ numbers_of other → sb ≡ other
-same_superblock sb other e =
+-- a superblock is its version and its numbers
+pub same_superblock : (sb other : Superblock) → sb.version ≡ other.version → numbers_of sb ≡ numbers_of other → sb ≡ other
+same_superblock sb other version e =
     let progress = same_progress sb.progress other.progress (ap (λ (n : Fields). n.progress) e) in
     let slot = ap (λ (n : Fields). n.slot) e in
     let incarnation = ap (λ (n : Fields). n.incarnation) e in
     let geometry = same_geometry sb.geometry other.geometry (ap (λ (n : Fields). n.blocks) e) (ap (λ (n : Fields). n.area) e) (ap (λ (n : Fields). n.max_payload) e) in
     let front = ap (λ (n : Fields). n.front) e in
     let current = same_area sb.current other.current (ap (λ (n : Fields). n.current) e) in
-    λ i. record { progress = progress i; slot = slot i; incarnation = incarnation i; geometry = geometry i; front = front i; current = current i }
+    λ i. record { version = version i; progress = progress i; slot = slot i; incarnation = incarnation i; geometry = geometry i; front = front i; current = current i }
 
 -- numbers with the encoding of a superblock's fields are those of that superblock
 pub fields_are : (fields : Fields) (sb : Superblock) → HaveRoom 8 4 fields → IsSuperblock sb → numbers_encoding fields ≡ fields_encoding sb → fields ≡ numbers_of sb
@@ -176,38 +185,58 @@ fields_are fields sb fits is e = texts_apart 8 4 fields (numbers_of sb) fits (fi
 pub length-fields : (sb : Superblock) → length (fields_encoding sb) ≡ 31
 length-fields sb = length-text 8 4 (numbers_of sb)
 
+-- the number of a version has four bytes
+version_fits : (v : Version) → version_number v < 256 ^ 4
+version_fits One = omega arith
+version_fits Two = omega arith
+
 -- no two superblocks have one encoding
-pub fields_apart : (sb other : Superblock) → IsSuperblock sb → IsSuperblock other → fields_encoding sb ≡ fields_encoding other → sb ≡ other
-fields_apart sb other is is' e = same_superblock sb other (fields_are (numbers_of sb) other (fields_fit sb is) is' e)
+pub fields_apart : (sb other : Superblock) → IsSuperblock sb → IsSuperblock other → sb.version ≡ other.version → fields_encoding sb ≡ fields_encoding other → sb ≡ other
+fields_apart sb other is is' version e = same_superblock sb other version (fields_are (numbers_of sb) other (fields_fit sb is) is' e)
 
 pub superblocks_apart : (sb other : Superblock) → IsSuperblock sb → IsSuperblock other → superblock_encoding sb ≡ superblock_encoding other → sb ≡ other
 unfolding superblock_encoding
-superblocks_apart sb other is is' e = fields_apart sb other is is' (headers_apart 8 4 (codes "CRAQDISK") 1 1 (fields_encoding sb) (fields_encoding other) (omega arith) (omega arith) e).1
+superblocks_apart sb other is is' e =
+    let (version, fields) = headers_apart 8 4 (codes "CRAQDISK") (version_number sb.version) (version_number other.version) (fields_encoding sb) (fields_encoding other) (version_fits sb.version) (version_fits other.version) e in
+    fields_apart sb other is is' (same_version sb.version other.version version) fields
 
 -- nor has one the header of another version
 pub other_version_apart : (sb : Superblock) (bytes : List ℕ) → bytes ≡ superblock_encoding sb → HasOtherVersion bytes → ⊥
 unfolding superblock_encoding
 other_version_apart sb bytes is has =
-    has.other (headers_apart 8 4 (codes "CRAQDISK") has.version 1 has.rest (fields_encoding sb) (omega (arith, has.fits)) (omega arith) (sym has.begins ∙ is)).0
+    has.other sb.version (headers_apart 8 4 (codes "CRAQDISK") has.version (version_number sb.version) has.rest (fields_encoding sb) (omega (arith, has.fits)) (version_fits sb.version) (sym has.begins ∙ is)).0
 
--- bytes behind a header of version 1
-module _ (bytes fields : List ℕ) (begins : bytes ≡ header_encoding 1 ++ fields) where
-  pub encodes : (sb : Superblock) → IsSuperblock sb → fields ≡ fields_encoding sb → IsEncoding bytes sb
+-- bytes behind a header of version 1 or 2
+module _ (version : Version) (bytes fields : List ℕ) (begins : bytes ≡ header_encoding (version_number version) ++ fields) where
+  pub encodes : (sb : Superblock) → IsSuperblock sb → sb.version ≡ version → fields ≡ fields_encoding sb → IsEncoding bytes sb
   unfolding superblock_encoding
-  encodes sb is e = record { is = is; encoded = begins ∙ ap (λ (l : List ℕ). header_encoding 1 ++ l) e }
+  encodes sb is same e = record {
+    is = is;
+    encoded = begins ∙ ap (λ (l : List ℕ). header_encoding (version_number version) ++ l) e ∙ ap (λ (v : Version). header_encoding (version_number v) ++ fields_encoding sb) (sym same);
+  }
+
+  halves : (sb : Superblock) → IsEncoding bytes sb → (version_number version ≡ version_number sb.version) × (fields ≡ fields_encoding sb)
+  unfolding superblock_encoding
+  halves sb encoded =
+      headers_apart 8 4 (codes "CRAQDISK") (version_number version) (version_number sb.version) fields (fields_encoding sb) (version_fits version) (version_fits sb.version) (sym begins ∙ encoded.encoded)
+
+  pub version_of : (sb : Superblock) → IsEncoding bytes sb → version ≡ sb.version
+  version_of sb encoded = same_version version sb.version (halves sb encoded).0
 
   pub fields_of : (sb : Superblock) → IsEncoding bytes sb → fields ≡ fields_encoding sb
-  unfolding superblock_encoding
-  fields_of sb encoded = (headers_apart 8 4 (codes "CRAQDISK") 1 1 fields (fields_encoding sb) (omega arith) (omega arith) (sym begins ∙ encoded.encoded)).1
+  fields_of sb encoded = (halves sb encoded).1
 
   pub no_other : HasOtherVersion bytes → ⊥
-  no_other has = has.other (headers_apart 8 4 (codes "CRAQDISK") has.version 1 has.rest fields (omega (arith, has.fits)) (omega arith) (sym has.begins ∙ begins)).0
+  no_other has =
+      has.other version (headers_apart 8 4 (codes "CRAQDISK") has.version (version_number version) has.rest fields (omega (arith, has.fits)) (version_fits version) (sym has.begins ∙ begins)).0
 
 -- bytes without the magic
 module _ (bytes : List ℕ) (none : (rest : List ℕ) → bytes ≢ codes "CRAQDISK" ++ rest) where
   pub unmarked : (sb : Superblock) → IsEncoding bytes sb → ⊥
   unfolding superblock_encoding
-  unmarked sb encoded = none (big_bytes 4 1 ++ fields_encoding sb) (encoded.encoded ∙ append_assoc (codes "CRAQDISK") (big_bytes 4 1) (fields_encoding sb))
+  unmarked sb encoded =
+      let version = big_bytes 4 (version_number sb.version) in
+      none (version ++ fields_encoding sb) (encoded.encoded ∙ append_assoc (codes "CRAQDISK") version (fields_encoding sb))
 
   pub unversioned : HasOtherVersion bytes → ⊥
   unversioned has = none (big_bytes 4 has.version ++ has.rest) (has.begins ∙ append_assoc (codes "CRAQDISK") (big_bytes 4 has.version) has.rest)
@@ -216,7 +245,7 @@ module _ (bytes : List ℕ) (none : (rest : List ℕ) → bytes ≢ codes "CRAQD
 module _ (bytes : List ℕ) (short : length bytes < 12) where
   pub too_short : (sb : Superblock) → IsEncoding bytes sb → ⊥
   unfolding superblock_encoding
-  too_short sb encoded = omega (arith, short, ap (λ (l : List ℕ). length l) encoded.encoded, length-header 8 4 (codes "CRAQDISK") 1 (fields_encoding sb))
+  too_short sb encoded = omega (arith, short, ap (λ (l : List ℕ). length l) encoded.encoded, length-header 8 4 (codes "CRAQDISK") (version_number sb.version) (fields_encoding sb))
 
   pub too_short_for_another : HasOtherVersion bytes → ⊥
   too_short_for_another has = omega (arith, short, ap (λ (l : List ℕ). length l) has.begins, length-header 8 4 (codes "CRAQDISK") has.version has.rest)
@@ -251,8 +280,8 @@ assembled magic version incarnation blocks area max_payload front progress slot 
     ∙ sym (append_assoc magic version (progress ∷ slot ∷ incarnation ++ (blocks ++ area ++ max_payload) ++ front ++ current ∷ []))
 
 pub encoding_is : (sb : Superblock)
-    → ((((((((codes "CRAQDISK" ++ big_bytes 4 1) ++ progress_number sb.progress ∷ []) ++ sb.slot ∷ []) ++ big_bytes 8 sb.incarnation) ++ big_bytes 4 sb.geometry.blocks) ++ big_bytes 4 sb.geometry.area) ++ big_bytes 4 sb.geometry.max_payload) ++ big_bytes 8 sb.front) ++ area_number sb.current ∷ []
+    → ((((((((codes "CRAQDISK" ++ big_bytes 4 (version_number sb.version)) ++ progress_number sb.progress ∷ []) ++ sb.slot ∷ []) ++ big_bytes 8 sb.incarnation) ++ big_bytes 4 sb.geometry.blocks) ++ big_bytes 4 sb.geometry.area) ++ big_bytes 4 sb.geometry.max_payload) ++ big_bytes 8 sb.front) ++ area_number sb.current ∷ []
     ≡ superblock_encoding sb
 unfolding superblock_encoding
 encoding_is sb =
-    assembled (codes "CRAQDISK") (big_bytes 4 1) (big_bytes 8 sb.incarnation) (big_bytes 4 sb.geometry.blocks) (big_bytes 4 sb.geometry.area) (big_bytes 4 sb.geometry.max_payload) (big_bytes 8 sb.front) (progress_number sb.progress) sb.slot (area_number sb.current)
+    assembled (codes "CRAQDISK") (big_bytes 4 (version_number sb.version)) (big_bytes 8 sb.incarnation) (big_bytes 4 sb.geometry.blocks) (big_bytes 4 sb.geometry.area) (big_bytes 4 sb.geometry.max_payload) (big_bytes 8 sb.front) (progress_number sb.progress) sb.slot (area_number sb.current)

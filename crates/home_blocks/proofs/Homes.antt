@@ -10,6 +10,8 @@ use Rattle.gate_journal.specs.Pair.{Entry, HoldsPair, HoldsStored, IsSettledPair
 use Rattle.home_blocks.specs.Home.{HoldsSuperblock, IsSettledHome, State}
 use Rattle.home_blocks.specs.Superblock.{IsSuperblock, Superblock, marked, superblock_encoding}
 use Rattle.home_blocks.specs.declared.area.Area.{Area}
+use Rattle.home_blocks.specs.declared.version.Version.TheVariants.{Two}
+use Rattle.home_blocks.proofs.Payloads.{never_old}
 
 -- a block is what is read at its place
 pub block_read : (bytes : List ℕ) (b n at : ℕ) → n ≡ 4096 → at ≡ 4096 * b → slice_range bytes at (at + n) ≡ block_of bytes b
@@ -31,7 +33,7 @@ LeavesOld = (slots : Slots) → newest (with_entry (next_slot slots) None slots)
 abbrev pub LeavesNew : Type 0
 LeavesNew = (slots : Slots) (new : Entry) → new.number ≡ last_number (newest slots) + 1 → newest (with_entry (next_slot slots) (Some new) slots) ≡ Some new
 
-module _ (home : State) (gives : List ℕ) (left : List ℕ → Type 0) (settled : IsSettledHome home gives left) (sb : Superblock) (is : IsSuperblock sb) (payload : List ℕ) (encoded : payload ≡ superblock_encoding sb) (old : LeavesOld) (new : LeavesNew) where
+module _ (home : State) (gives : List ℕ) (left : List ℕ → Type 0) (settled : IsSettledHome home gives left) (sb : Superblock) (is : IsSuperblock sb) (two : sb.version ≡ Two) (payload : List ℕ) (encoded : payload ≡ superblock_encoding sb) (old : LeavesOld) (new : LeavesNew) where
   abbrev entry : Entry
   entry = record { number = home.pair.number + 1; payload = payload }
 
@@ -53,6 +55,7 @@ module _ (home : State) (gives : List ℕ) (left : List ℕ → Type 0) (settled
       number = home.pair.number;
       is_newest = same ∙ settled.is_newest;
     };
+    migrates = settled.migrates;
   }
 
   -- a stop in a mark leaves the old superblock or the new
@@ -68,6 +71,7 @@ module _ (home : State) (gives : List ℕ) (left : List ℕ → Type 0) (settled
       number = home.pair.number + 1;
       is_newest = newer;
     };
+    migrates = never_old sb (home.pair.number + 1) two;
   })
 
   -- and after it the new one is settled
@@ -78,6 +82,7 @@ module _ (home : State) (gives : List ℕ) (left : List ℕ → Type 0) (settled
     slots = marked_slots;
     pair = stands;
     is_newest = newer ∙ (λ i. Some (record { number = sym (ap (λ (p : Pair). p.number) same) i; payload = superblock_encoding sb }));
+    migrates = never_old sb pair.number two;
   }
 
 -- a whole mark, of a home that is seen as another
@@ -93,5 +98,5 @@ mark_run {D} {moment} {left_since} {before} {after} home now same gives left set
     (weaker moment left_since before after
     (λ c. HoldsStored here.slots home.pair.into (record { number = home.pair.number + 1; payload = payload }) (inside home.pair.part c))
     (λ c. HoldsSuperblock home.superblock c ⊎ HoldsSuperblock sb c)
-    (mark_leaves home gives left here sb is payload encoded old new)
+    (mark_leaves home gives left here sb is (ap (λ (s : Superblock). s.version) made) payload encoded old new)
     (run here.slots here.pair)))

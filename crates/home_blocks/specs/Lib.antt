@@ -5,3 +5,4 @@ pub mod Places
 pub mod Progress
 pub mod Refusal
 pub mod Superblock
+pub mod Version

@@ -3,7 +3,7 @@ ghost use Rattle.std.specs.Prelude.{◌≡◌, ◌+◌, ◌^◌, ◌<◌, ◌≤
 ghost use Rattle.byteorder.specs.Endian.{big_bytes};
 ghost use Rattle.home_blocks.specs.Superblock.{IsSuperblock, Superblock as Said, fields_encoding};
 
-use crate::{Area, Progress, Superblock};
+use crate::{Area, Progress, Superblock, Version};
 use gate_journal::{MAX_NUMBER, Slot};
 use volume::Geometry;
 
@@ -79,9 +79,10 @@ impl Fields {
         })
     }
 
-    /// The superblock of these numbers, where each is one of its place.
-    fn superblock(self) -> Option<Superblock>
+    /// The superblock of these numbers, of this version, where each is one of its place.
+    fn superblock(self, version: Version) -> Option<Superblock>
         ensures found { IfSome result (IsOf self) }
+        ensures version { IfSome result (λ sb. sb.version ≡ version) }
         ensures none { IfNone result ((sb : Said) → IsOf self sb → ⊥) }
     {
         let progress = Progress::from_number(self.progress)?;
@@ -91,22 +92,24 @@ impl Fields {
         if self.incarnation > MAX_NUMBER || self.front > MAX_NUMBER {
             return None;
         }
-        Some(Superblock::new(
+        let superblock = Superblock::new(
             progress,
             slot,
             self.incarnation,
             geometry,
             self.front,
             current,
-        ))
+        );
+        Some(superblock.of_version(version))
     }
 }
 
-/// The superblock whose fields these bytes are.
-pub(crate) fn read_fields(bytes: &[u8]) -> Option<Superblock>
+/// The superblock of this version whose fields these bytes are.
+pub(crate) fn read_fields(version: Version, bytes: &[u8]) -> Option<Superblock>
+    ensures version { IfSome result (λ sb. sb.version ≡ version) }
     ensures found { IfSome result (λ sb. bytes.now ≡ fields_encoding sb) }
     ensures is { IfSome result IsSuperblock }
     ensures none { IfNone result ((sb : Said) → IsSuperblock sb → bytes.now ≡ fields_encoding sb → ⊥) }
 {
-    Fields::read(bytes)?.superblock()
+    Fields::read(bytes)?.superblock(version)
 }

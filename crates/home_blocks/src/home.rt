@@ -5,13 +5,13 @@ ghost use Rattle.disk_model.specs.Error as disk_error;
 ghost use Rattle.disk_model.specs.Part.{inside, LeftInside, TouchesOnly};
 ghost use Rattle.gate_journal.specs.Pair.{IsBeingMade, stored};
 ghost use Rattle.gate_journal.specs.Runs.{OnlyReads};
-ghost use Rattle.home_blocks.specs.Home.{HoldsSuperblock, IsNoVolume, IsOtherVersion, IsSettledHome, IsVolume, State};
+ghost use Rattle.home_blocks.specs.Home.{CanMigrate, HoldsSuperblock, IsNoVolume, IsOtherVersion, IsSettledHome, IsVolume, State};
 ghost use Rattle.home_blocks.specs.Places as places;
 ghost use Rattle.home_blocks.specs.Places.{border_of, disk_size_of, home_block};
 ghost use Rattle.home_blocks.specs.Refusal.{HasCause, IsOfDevice, IsOfMarking, IsOfOpening, IsOfWriting};
 ghost use Rattle.home_blocks.specs.Superblock.{marked, superblock_encoding};
 
-use crate::{Area, Refusal, Superblock, disk_size, home_part, superblock_part};
+use crate::{Area, Refusal, Superblock, Version, disk_size, home_part, superblock_part};
 use disk_model::{Disk, DiskError};
 use gate_journal::{GatedPair, MAX_NUMBER, PAIR_SIZE, Synced, stores_leave_old_or_new};
 use std::alloc::Global;
@@ -74,8 +74,9 @@ impl Home {
     /// durable.
     ///
     /// 131 `NotAVolume` where the disk has no room for a superblock, no slot is open, the payload of the newer one is no
-    /// superblock's, or the disk is too short for it; 132 `OtherVersion` where that payload begins with the number of
-    /// another version; 100 `Memory`, and what the device refuses. All leave the disk as it was.
+    /// superblock's, it is one of version 1 with the greatest number, or the disk is too short for it; 132 `OtherVersion`
+    /// where that payload begins with the number of a version that isn't 1 or 2; 100 `Memory`, and what the device refuses.
+    /// All leave the disk as it was.
     pub fn open<D: Disk>(alloc: Global, disk: &mut D) -> Result<Home, Refusal>
         ensures volume { D.keeps_model → IfOk result (λ home. IsVolume home.superblock (D.gives disk.old)) }
         ensures other_version { D.keeps_model → IsErrOf result Refusal.OtherVersion → IsOtherVersion (D.gives disk.old) }
@@ -100,6 +101,9 @@ impl Home {
             return Err(Refusal::NotAVolume);
         };
         let superblock = Superblock::read(&payload)?;
+        if !can_migrate(superblock, &pair) {
+            return Err(Refusal::NotAVolume);
+        }
         if disk.len() < disk_size(superblock.geometry()) {
             return Err(Refusal::NotAVolume);
         }
@@ -196,6 +200,7 @@ impl Home {
             (D.may_have_left_since disk.old) (D.may_have_left_since disk.new) (D.may_leave_now disk.new) }
         ensures size { D.size disk.new ≡ D.size disk.old }
         ensures cause { disk_error.HasCause DiskError.WriteFault (D.failures disk.old) (D.failures disk.new) result }
+        ensures most { D.most_failures disk.new ≤ D.most_failures disk.old }
         ensures calls { D.calls_made disk.new ≤ D.calls_made disk.old + 1 }
     {
         self.write_run(disk, block, bytes)
@@ -229,6 +234,7 @@ impl Home {
             (D.may_have_left_since disk.old) (D.may_have_left_since disk.new) (D.may_leave_now disk.new) }
         ensures size { D.size disk.new ≡ D.size disk.old }
         ensures cause { disk_error.HasCause DiskError.WriteFault (D.failures disk.old) (D.failures disk.new) result }
+        ensures most { D.most_failures disk.new ≤ D.most_failures disk.old }
         ensures calls { D.calls_made disk.new ≤ D.calls_made disk.old + 1 }
     {
         let part = home_part(self.superblock.geometry());
@@ -245,13 +251,15 @@ impl Home {
             (D.may_have_left_since disk.old) (D.may_have_left_since disk.new) (D.may_leave_now disk.new) }
         ensures size { D.size disk.new ≡ D.size disk.old }
         ensures cause { disk_error.HasCause DiskError.SyncFault (D.failures disk.old) (D.failures disk.new) result }
+        ensures most { D.most_failures disk.new ≤ D.most_failures disk.old }
         ensures calls { D.calls_made disk.new ≤ D.calls_made disk.old + 1 }
     {
         home_part(self.superblock.geometry()).sync(disk)
     }
 
     /// Stores the superblock of the whole disk with this front, of at most 2^63 - 1, and this area, by the six device calls
-    /// of a store, and gives the receipt of the superblock's slot and this front. After it the whole disk is durable.
+    /// of a store, and gives the receipt of the superblock's slot and this front. It is of version 2, whichever the old one
+    /// is of. After it the whole disk is durable.
     ///
     /// 122 `Broken` exactly where a device call of `mark` failed before; else 121 `Full` exactly where no number is left
     /// for another superblock: these change nothing. After a refusal of the device the home is broken, and the disk holds
@@ -278,6 +286,7 @@ impl Home {
         ensures unchanged { IfErr result (λ r. ¬ IsOfDevice r → (self.new ≡ self.old) × (disk.new ≡ disk.old)) }
         ensures device { IfErr result (λ r. IsOfDevice r → self.new ≡ record self.old { pair = record self.old.pair { is_closed = self.new.pair.is_closed; broken = true } }) }
         ensures cause { HasCause (D.failures disk.old) (D.failures disk.new) result }
+        ensures most { D.most_failures disk.new ≤ D.most_failures disk.old }
         ensures calls { D.calls_made disk.new ≤ D.calls_made disk.old + 6 }
     {
         let superblock = self.superblock.marked(front, area);
@@ -287,5 +296,15 @@ impl Home {
         let receipt = self.pair.store(disk, &payload, superblock.slot(), front)?;
         self.superblock = superblock;
         Ok(receipt)
+    }
+}
+
+/// Whether a number is left for a superblock of version 2, where this one, the pair's last, is of version 1.
+fn can_migrate(superblock: Superblock, pair: &GatedPair) -> bool
+    ensures { IsTrue result ↔ CanMigrate superblock pair.now.number }
+{
+    match superblock.version() {
+        Version::One => pair.number() != MAX_NUMBER,
+        Version::Two => true,
     }
 }

@@ -15,6 +15,7 @@ mod places;
 mod progress;
 mod refusal;
 mod superblock;
+mod version;
 
 pub use area::Area;
 pub use home::Home;
@@ -23,3 +24,4 @@ pub use places::{area_part, disk_size, home_part, superblock_part};
 pub use progress::Progress;
 pub use refusal::Refusal;
 pub use superblock::Superblock;
+pub use version::Version;

@@ -1,7 +1,7 @@
 ghost use Rattle.std.specs.Prelude.{◌≡◌, ◌≤◌};
 
 use crate::fields::{put, read_fields, read_u32};
-use crate::{Area, Progress, Refusal};
+use crate::{Area, Progress, Refusal, Version};
 use gate_journal::{MAX_NUMBER, Slot};
 use std::marker::Model;
 use volume::Geometry;
@@ -9,12 +9,10 @@ use volume::Geometry;
 /// What a superblock begins with.
 const MAGIC: [u8; 8] = *b"CRAQDISK";
 
-/// The version of the encoding.
-const VERSION: u32 = 1;
-
 /// What a member's disk says of itself.
 #[derive(Clone, Copy, Debug, PartialEq, Eq)]
 pub struct Superblock {
+    version: Version,
     progress: Progress,
     slot: Slot,
     incarnation: u64,
@@ -30,22 +28,23 @@ impl Model for Superblock {
 
     ghost Value = { Said };
 
-    ghost view = { λ s. record { progress = s.progress; slot = s.slot; incarnation = s.incarnation; geometry = s.geometry; front = s.front; current = s.current } };
+    ghost view = { λ s. record { version = s.version; progress = s.progress; slot = s.slot; incarnation = s.incarnation; geometry = s.geometry; front = s.front; current = s.current } };
 
     ghost invariant = { λ s. (s.incarnation ≤ MAX_NUMBER) × (s.front ≤ MAX_NUMBER) };
 
-    ghost inverse = { λ v. record { progress = v.progress; slot = v.slot; incarnation = v.incarnation; geometry = v.geometry; front = v.front; current = v.current } };
+    ghost inverse = { λ v. record { version = v.version; progress = v.progress; slot = v.slot; incarnation = v.incarnation; geometry = v.geometry; front = v.front; current = v.current } };
 }
 
 impl Superblock {
     ghost use Rattle.std.specs.Prelude.{◌≡◌, ◌≤◌, ◌↔◌, Ok, IfOk, IfErr, IsErrOf, length};
     ghost use Rattle.home_blocks.specs.Refusal.{IsOfReading};
     ghost use Rattle.home_blocks.specs.Superblock.{HasOtherVersion, IsNoSuperblock, IsEncoding, IsSuperblock, Superblock as Said, marked, superblock_encoding};
+    ghost use Rattle.home_blocks.specs.declared.version.Version.TheVariants.{Two};
 
     /// The bytes of its encoding.
     pub const SIZE: usize = 43;
 
-    /// The superblock that says this. The incarnation and the front are at most 2^63 - 1.
+    /// The superblock that says this, of version 2. The incarnation and the front are at most 2^63 - 1.
     pub fn new(
         progress: Progress,
         slot: Slot,
@@ -56,9 +55,10 @@ impl Superblock {
     ) -> Superblock
         requires incarnation { incarnation ≤ MAX_NUMBER }
         requires front { front ≤ MAX_NUMBER }
-        ensures { result ≡ record { progress = progress; slot = slot; incarnation = incarnation; geometry = geometry; front = front; current = current } }
+        ensures { result ≡ record { version = Two; progress = progress; slot = slot; incarnation = incarnation; geometry = geometry; front = front; current = current } }
     {
         Superblock {
+            version: Version::Two,
             progress,
             slot,
             incarnation,
@@ -66,6 +66,20 @@ impl Superblock {
             front,
             current,
         }
+    }
+
+    /// The same, of this version.
+    pub(crate) fn of_version(self, version: Version) -> Superblock
+        ensures { result ≡ record self { version = version } }
+    {
+        Superblock { version, ..self }
+    }
+
+    /// The version of the disk's encoding.
+    pub fn version(&self) -> Version
+        ensures { result ≡ self.now.version }
+    {
+        self.version
     }
 
     /// How far the disk is installed.
@@ -112,12 +126,13 @@ impl Superblock {
         self.current
     }
 
-    /// The superblock of the whole disk at this front, of at most 2^63 - 1, and this area.
+    /// The superblock of the whole disk at this front, of at most 2^63 - 1, and this area, of version 2.
     pub(crate) fn marked(&self, front: u64, area: Area) -> Superblock
         requires { front ≤ MAX_NUMBER }
         ensures { result ≡ marked self.now front area }
     {
         Superblock {
+            version: Version::Two,
             progress: Progress::Whole,
             slot: self.slot,
             incarnation: self.incarnation,
@@ -134,7 +149,7 @@ impl Superblock {
     {
         let mut bytes = [0; Superblock::SIZE];
         put(&mut bytes, 0, &MAGIC);
-        put(&mut bytes, 8, &VERSION.to_be_bytes());
+        put(&mut bytes, 8, &self.version.number().to_be_bytes());
         put(&mut bytes, 12, &[self.progress.number()]);
         put(&mut bytes, 13, &[self.slot.number()]);
         put(&mut bytes, 14, &self.incarnation.to_be_bytes());
@@ -146,8 +161,8 @@ impl Superblock {
         bytes
     }
 
-    /// The superblock that these bytes encode: else 132 `OtherVersion` where the magic and the number of another version
-    /// stand in front, and 131 `NotAVolume` for all others.
+    /// The superblock that these bytes encode, of version 1 or 2: else 132 `OtherVersion` where the magic and the number of
+    /// another version stand in front, and 131 `NotAVolume` for all others.
     pub fn read(bytes: &[u8]) -> Result<Superblock, Refusal>
         ensures found { IfOk result (IsEncoding bytes.now) }
         ensures exact { (sb : Said) → IsEncoding bytes.now sb → result ≡ Ok sb }
@@ -158,12 +173,12 @@ impl Superblock {
         let Some(behind) = bytes.strip_prefix(&MAGIC) else {
             return Err(Refusal::NotAVolume);
         };
-        let Some((version, fields)) = read_u32(behind) else {
+        let Some((number, fields)) = read_u32(behind) else {
             return Err(Refusal::NotAVolume);
         };
-        if version != VERSION {
+        let Some(version) = Version::from_number(number) else {
             return Err(Refusal::OtherVersion);
-        }
-        read_fields(fields).ok_or(Refusal::NotAVolume)
+        };
+        read_fields(version, fields).ok_or(Refusal::NotAVolume)
     }
 }

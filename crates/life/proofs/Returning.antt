@@ -79,15 +79,6 @@ cut_of_member old v at m disk shows here kind cut on =
     let own = all_at (λ n. (0 < (about_of_store n.node.store).incarnation) × ((about_of_store n.node.store).geometry ≡ old.chain.geometry)) old.chain.members at m on here in
     (record { meaning = _; means = is; given = own.0; long = omega (arith, m.node.store.room, cut.left.size) }, own.1)
 
--- one that gives the same is the same member's
-pub member_as : (one other : MemDisk) → given_of other ≡ given_of one → IsOfMember one → IsOfMember other
-member_as one other same is = record {
-  meaning = is.meaning;
-  means = subst (Means is.meaning) (sym same) is.means;
-  given = is.given;
-  long = subst (λ (l : List ℕ). disk_size_of is.meaning.geometry ≤ length l) (sym same) is.long;
-}
-
 -- ---- why it may be refused
 
 pub reopened : (bytes : List ℕ) (refusal : store.Refusal) → IsOfOpening refusal → (refusal ≡ stores.NotAVolume → IsNoVolume bytes ⊎ HasDamagedArea bytes) → (refusal ≡ stores.OtherVersion → IsOtherVersion bytes)
@@ -96,7 +87,7 @@ reopened bytes stores.Memory told none other unfinished openable = tt
 reopened bytes stores.NotAVolume told none other unfinished openable = elim (none refl) [ inl is ↦ absurd (openable.volume is) | inr is ↦ absurd (openable.area is) ]
 reopened bytes stores.OtherVersion told none other unfinished openable = absurd (openable.version (other refl))
 reopened bytes stores.Unfinished told none other unfinished openable = absurd (openable.finished (unfinished refl))
-reopened bytes (stores.Device error) told none other unfinished openable = told
+reopened bytes (stores.Device error) told none other unfinished openable = tt
 reopened bytes stores.Full told none other unfinished openable = absurd told
 reopened bytes stores.Broken told none other unfinished openable = absurd told
 reopened bytes stores.Backwards told none other unfinished openable = absurd told

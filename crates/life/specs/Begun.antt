@@ -5,7 +5,10 @@ use Rattle.disk_model.specs.Content.{left_by}
 use Rattle.disk_model.specs.Memory.{bytes_of, given_of, has_stopped, may_be_left, unsynced_of}
 use Rattle.disk_model.specs.declared.content.Cut.{Cut}
 use Rattle.disk_model.specs.declared.memory.MemDisk.{MemDisk}
+use Rattle.home_blocks.specs.Home.{HoldsSuperblock}
 use Rattle.home_blocks.specs.Places.{disk_size_of}
+use Rattle.home_blocks.specs.Superblock.{Superblock}
+use Rattle.home_blocks.specs.declared.version.Version.TheVariants.{Two}
 use Rattle.local_store.specs.About.{About}
 use Rattle.local_store.specs.Meaning.{Meaning, Means}
 use Rattle.volume.specs.declared.geometry.Geometry.{Geometry}
@@ -20,7 +23,7 @@ export_of geometry = record { size = 4096 * geometry.blocks; max_payload = geome
 
 -- what the store of a member tells whose disk was formatted
 abbrev pub first_about : Geometry → ℕ → About
-first_about geometry slot = record { slot = slot; incarnation = 1; geometry = geometry; front = 0; used = 0; stores = 1; broken = false; lent = None }
+first_about geometry slot = record { version = Two; slot = slot; incarnation = 1; geometry = geometry; front = 0; used = 0; stores = 1; broken = false; lent = None }
 
 -- the stores of its members, from the head's on
 abbrev pub stores_of : {S : Type 0} → Seen S → List S
@@ -58,6 +61,14 @@ AreOnDisks about w = All (λ m. (0 < (about m.node.store).incarnation) × ((abou
 -- each is the store of the member whose disk this means, of its slot and incarnation
 abbrev pub AreOfMember : {S : Type 0} → (S → About) → Meaning → List S → Type 0
 AreOfMember about meaning stores = All (λ s. ((about s).slot ≡ meaning.slot) × ((about s).incarnation ≡ meaning.incarnation)) stores
+
+-- the superblock that the disk holds is of version 2
+abbrev pub HasVersionTwo : MemDisk → Type 0
+HasVersionTwo disk = (sb : Superblock) × HoldsSuperblock sb (given_of disk) × (sb.version ≡ Two)
+
+-- Whatever a stop may leave of the disk that came back means what the first one gave, if nothing else could be left of that.
+abbrev pub MeansStill : MemDisk → MemDisk → Type 0
+MeansStill disk back = (meaning : Meaning) → Means meaning (given_of disk) → Only (given_of disk) (may_be_left disk) → (c : List ℕ) → may_be_left back c → Means meaning c
 
 -- The disk is some member's: it means something, of an incarnation counted from 1, and is as long as it has to be.
 pub record IsOfMember (disk : MemDisk) : Type 0 where

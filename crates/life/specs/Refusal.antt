@@ -21,6 +21,7 @@ IsOfMemory _ = ⊥
 abbrev pub IsOfRecovering : Refusal → Type 0
 IsOfRecovering Memory = Unit {0}
 IsOfRecovering NotInChain = ⊥
+IsOfRecovering (Store (stores.Device error)) = Unit {0}
 IsOfRecovering (Store refusal) = IsOfOpening refusal
 
 -- where the refusal is the device's, the disk has failed since, unless it had no memory
@@ -36,7 +37,7 @@ IsStopOf disk refusal = (refusal ≡ Store (stores.Device faults.Stopped)) × (h
 -- what the store of a member's disk may be refused with: its device's error, or memory that runs out
 abbrev pub IsOfReopening : store.Refusal → Type 0
 IsOfReopening stores.Memory = Unit {0}
-IsOfReopening (stores.Device error) = error ≢ faults.WriteFault
+IsOfReopening (stores.Device error) = Unit {0}
 IsOfReopening _ = ⊥
 
 -- what the return of a member's disk may be refused with

@@ -6,6 +6,7 @@ ghost use Rattle.chain_core.specs.Node.{size_of};
 ghost use Rattle.disk_model.specs.Memory.{has_stopped};
 ghost use Rattle.life.specs.Begun.{AllGo, AreOnDisks, BeginsWith, first_about, stores_of};
 ghost use Rattle.life.specs.Refusal.{IsOfMemory};
+ghost use Rattle.local_store.specs.About.{IsOfVersionTwo};
 ghost use Rattle.volume.specs.Writes.{volume_of};
 
 use crate::refusal::Refusal;
@@ -83,7 +84,7 @@ fn first_store(alloc: Global, geometry: Geometry, number: u8) -> Result<Store<Me
 }
 
 /// The world of the chain of these stores' members, in this order, without clients. The stores are one to eight, not broken, of
-/// slots of their own, at one front, with volumes of the same sizes.
+/// slots of their own, at one front, with volumes of the same sizes, on disks of version 2.
 pub(crate) fn world_of<S: StoreLike + Drop>(
     alloc: Global,
     stores: Vec<S>,
@@ -94,6 +95,7 @@ pub(crate) fn world_of<S: StoreLike + Drop>(
     requires given { All (λ s. 0 < (S.about s).incarnation) stores.items }
     requires even { AreEven S.about stores.items }
     requires runs { All (λ s. (S.about s).broken ≡ false) stores.items }
+    requires version { All (λ s. IsOfVersionTwo (S.about s)) stores.items }
     requires here { All (λ s. (S.about s).lent ≡ None) stores.items }
     requires keeps { S.keeps_model → All (λ s. (volume : List ℕ) × S.keeps s volume × (length volume ≡ size_of (S.about s))) stores.items }
     ensures many { IfOk result (λ world. length world.chain.members ≡ length stores.items) }

@@ -218,6 +218,7 @@ fn go_on_from(alloc: Global, disk: MemDisk, cut: Cut) -> Result<World<Store<MemD
         meaning.geometry meaning.front meaning.volume world) }
     ensures refused { IfErr result IsOfMemory }
 {
+    disks_mean_one();
     let Refused { refusal, disk } = match recover(alloc, disk) {
         Ok(world) => return Ok(world),
         Err(refused) => refused,

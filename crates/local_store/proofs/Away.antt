@@ -324,6 +324,7 @@ first_beside store v gives left was batch d may =
             number = holds.payload.number;
             is_newest = holds.payload.is_newest;
           };
+          migrates = holds.migrates;
         };
         region = ap (λ (l : List ℕ). with_batches l was.batches) (inside_below border (home_part (geometry_of store)) d (omega arith)) ∙ was.region.left (inside (home_part (geometry_of store)) d) (d, may, refl);
       },

@@ -39,6 +39,7 @@ held_by {h} {gives} {left} was c same = record {
     number = h.pair.number;
     is_newest = was.is_newest;
   };
+  migrates = was.migrates;
 }
 
 pub first_part : {h : home.State} {gives : List ℕ} {left : List ℕ → Type 0} → IsSettledHome h gives left → Only (inside superblock_part gives) (LeftInside superblock_part left)

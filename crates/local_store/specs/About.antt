@@ -1,17 +1,20 @@
 -- What a store tells of itself, whatever it is kept on.
-use Rattle.std.specs.Prelude.{◌≢◌, ◌↔◌, ℕ, ◌+◌, ◌<◌, ◌≤◌, Bool, List, None, Option}
+use Rattle.std.specs.Prelude.{◌≡◌, ◌≢◌, ◌↔◌, ℕ, ◌+◌, ◌<◌, ◌≤◌, Bool, List, None, Option}
 use Rattle.flusher.specs.Plan.{IsRun, IsWithin}
 use Rattle.flusher.specs.declared.plan.Run.{Run}
 use Rattle.gate_journal.specs.Batch.{Batch, batch_size}
 use Rattle.gate_journal.specs.declared.batch.Image.{Image}
+use Rattle.home_blocks.specs.declared.version.Version.{Version}
+use Rattle.home_blocks.specs.declared.version.Version.TheVariants.{Two}
 use Rattle.local_store.specs.Meaning.{Meaning}
 use Rattle.local_store.specs.Overlay.{with_images}
 use Rattle.local_store.specs.Store.{State, geometry_of}
 use Rattle.volume.specs.declared.geometry.Geometry.{Geometry}
 
--- whose disk it is, the sizes, the front, the bytes of the current area that batches have, how many superblocks were
--- stored, whether a device call failed, and the batch for which the log is lent out, if it is
+-- the version of the disk, whose it is, the sizes, the front, the bytes of the current area that batches have, how many
+-- superblocks were stored, whether a device call failed, and the batch for which the log is lent out, if it is
 pub record About : Type 0 where
+  pub version : Version
   pub slot : ℕ
   pub incarnation : ℕ
   pub geometry : Geometry
@@ -20,6 +23,10 @@ pub record About : Type 0 where
   pub stores : ℕ
   pub broken : Bool
   pub lent : Option Batch
+
+-- its disk is of version 2: one of version 1 is migrated before anything else is written
+abbrev pub IsOfVersionTwo : About → Type 0
+IsOfVersionTwo about = about.version ≡ Two
 
 -- what a store means that tells this of itself and keeps the volume
 abbrev pub meaning_with : About → List ℕ → Meaning
@@ -44,9 +51,14 @@ meaning_then about volume front images = meaning_with (record about { front = fr
 abbrev pub one_checkpoint_more : About → About
 one_checkpoint_more about = record about { used = 0; stores = about.stores + 1 }
 
+-- after the disk was brought to version 2
+abbrev pub migrated : About → About
+migrated about = record (one_checkpoint_more about) { version = Two }
+
 -- what the contents of a disk tell
 abbrev pub about_of : State → About
 about_of store = record {
+  version = store.home.superblock.version;
   slot = store.home.superblock.slot;
   incarnation = store.home.superblock.incarnation;
   geometry = geometry_of store;

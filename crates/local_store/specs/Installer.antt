@@ -8,6 +8,7 @@ use Rattle.home_blocks.specs.Places.{home_block, superblock_part}
 use Rattle.home_blocks.specs.Superblock.{IsEncoding, Superblock}
 use Rattle.home_blocks.specs.declared.area.Area.TheVariants.{First}
 use Rattle.home_blocks.specs.declared.progress.Progress.TheVariants.{Installing}
+use Rattle.home_blocks.specs.declared.version.Version.TheVariants.{Two}
 use Rattle.local_store.specs.Meaning.{Meaning, Means}
 use Rattle.volume.specs.Writes.{block_of, patched}
 use Rattle.volume.specs.declared.geometry.Geometry.{Geometry}
@@ -32,7 +33,7 @@ MeansNothing bytes = (m : Meaning) → Means m bytes → ⊥
 
 -- the superblock of a disk that is being installed
 abbrev pub unfinished : ℕ → ℕ → Geometry → Superblock
-unfinished slot incarnation geometry = record { progress = Installing; slot = slot; incarnation = incarnation; geometry = geometry; front = 0; current = First }
+unfinished slot incarnation geometry = record { version = Two; progress = Installing; slot = slot; incarnation = incarnation; geometry = geometry; front = 0; current = First }
 
 -- The disk's superblock is settled, and says that the installation isn't finished: whatever a stop leaves means nothing.
 pub record IsInstalling (h : home.State) (gives : List ℕ) (may_leave : List ℕ → Type 0) : Type 0 where

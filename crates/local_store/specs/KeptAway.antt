@@ -52,6 +52,7 @@ holds_below border c within holds = record {
     number = holds.payload.number;
     is_newest = holds.payload.is_newest;
   };
+  migrates = holds.migrates;
 }
 
 -- the journal stands behind the border

@@ -12,6 +12,7 @@ ghost use Rattle.home_blocks.specs.Places.{border_of, disk_size_of};
 ghost use Rattle.gate_journal.specs.Runs.{OnlyReads};
 ghost use Rattle.disk_model.specs.Part.{inside};
 ghost use Rattle.volume.specs.Writes.{block_of};
+ghost use Rattle.home_blocks.specs.declared.version.Version.TheVariants.{Two};
 ghost use Rattle.local_store.specs.About.{HasNoRoom, HasRoom, about_of};
 ghost use Rattle.local_store.specs.Lending.{HoldsHome, IsHomeKept};
 ghost use Rattle.local_store.specs.Away.{images_of};
@@ -26,7 +27,7 @@ use crate::refusal::Refusal;
 use block_cache::Cache;
 use disk_model::Disk;
 use gate_journal::{Image, Journal, MAX_NUMBER, Slot, Synced};
-use home_blocks::{Area, Home, Progress, Superblock, area_part, home_part};
+use home_blocks::{Area, Home, Progress, Superblock, Version, area_part, home_part};
 use std::alloc::Global;
 use std::marker::Model;
 use volume::{BLOCK_SIZE, Geometry};
@@ -69,7 +70,7 @@ impl Contents {
         requires on_disk { disk_size_of geometry ≤ D.size disk.old }
         requires limit { incarnation ≤ MAX_NUMBER }
 
-        ensures about { IfOk result (λ s. about_of s ≡ record { slot = slot; incarnation = incarnation; geometry = geometry; front = 0; used = 0; stores = 1; broken = false; lent = None }) }
+        ensures about { IfOk result (λ s. about_of s ≡ record { version = Two; slot = slot; incarnation = incarnation; geometry = geometry; front = 0; used = 0; stores = 1; broken = false; lent = None }) }
         ensures stored { D.keeps_model → IfOk result (λ s. IsStored s (replicate (4096 * geometry.blocks) 0) (D.gives disk.new) (D.may_leave_now disk.new)) }
         ensures size { D.size disk.new ≡ D.size disk.old }
         ensures calls { D.calls_made disk.new ≤ D.calls_made disk.old + geometry.blocks + 14 }
@@ -103,9 +104,9 @@ impl Contents {
 
     /// What a disk of any length holds, which may be anything. It syncs, and then reads; after it the whole disk is durable.
     ///
-    /// 131 `NotAVolume` where the disk holds no superblock of this version or another, is too short for it, or its current
-    /// area is damaged; 132 `OtherVersion`; 133 `Unfinished` where its installation was not finished; 100 `Memory`, and what
-    /// the device refuses. All leave the disk as it was.
+    /// 131 `NotAVolume` where the disk holds no superblock, or one of version 1 with the greatest number, is too short for it,
+    /// or its current area is damaged; 132 `OtherVersion` where its version isn't 1 or 2; 133 `Unfinished` where its
+    /// installation was not finished; 100 `Memory`, and what the device refuses. All leave the disk as it was.
     #[tactic(auto, using(crate::proofs::Refusals::home_other_version))]
     pub fn open<D: Disk>(alloc: Global, disk: &mut D) -> Result<Contents, Refusal>
         ensures stored { D.keeps_model → IfOk result (λ s. (volume : List ℕ) × IsStored s volume (D.gives disk.new) (D.may_leave_now disk.new) × Means (meaning_in s volume) (D.gives disk.old)) }
@@ -268,6 +269,13 @@ impl Contents {
         ensures { result ≡ self.now.home.superblock.slot }
     {
         self.home.superblock().slot()
+    }
+
+    /// The version of the disk.
+    pub fn version(&self) -> Version
+        ensures { result ≡ (about_of self.now).version }
+    {
+        self.home.superblock().version()
     }
 
     /// Which of the disks that had the slot in turn it is, at most 2^63 - 1.

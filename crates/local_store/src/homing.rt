@@ -100,6 +100,7 @@ impl Contents {
         ensures own { IfErr result IsOfDevice }
         ensures err { OnErr result (self.new ≡ record self.old { cache = self.new.cache; broken = true }) }
         ensures cause { HasCause (D.failures disk.old) (D.failures disk.new) result }
+        ensures most { D.most_failures disk.new ≤ D.most_failures disk.old }
     {
         let Some(image) = self.pending.get(block) else {
             return Ok(());
@@ -284,6 +285,7 @@ impl Contents {
         ensures unchanged { IfErr result (λ r. ¬ IsOfDevice r → (self.new ≡ self.old) × (disk.new ≡ disk.old)) }
         ensures device { IfErr result (λ r. IsOfDevice r → (self.new.broken ≡ true) × IsSameButForPending self.old self.new) }
         ensures cause { HasCause (D.failures disk.old) (D.failures disk.new) result }
+        ensures most { D.most_failures disk.new ≤ D.most_failures disk.old }
     {
         if self.broken {
             return Err(Refusal::Broken);
@@ -312,6 +314,7 @@ impl Contents {
         ensures own { IfErr result IsOfDevice }
         ensures err { OnErr result (self.new ≡ record self.old { pending = self.new.pending; cache = self.new.cache; broken = true }) }
         ensures cause { HasCause (D.failures disk.old) (D.failures disk.new) result }
+        ensures most { D.most_failures disk.new ≤ D.most_failures disk.old }
     {
         let geometry = self.home.superblock().geometry();
         for block in 0..geometry.blocks {
@@ -338,6 +341,7 @@ impl Contents {
         ensures own { IfErr result IsOfDevice }
         ensures err { OnErr result ((self.new.broken ≡ true) × IsSameButForPending self.old self.new) }
         ensures cause { HasCause (D.failures disk.old) (D.failures disk.new) result }
+        ensures most { D.most_failures disk.new ≤ D.most_failures disk.old }
     {
         match other_area(&mut self.home, disk, self.journal.front()) {
             Ok(journal) => {
@@ -384,6 +388,7 @@ fn other_area<D: Disk>(home: &mut Home, disk: &mut D, front: u64) -> Result<Jour
     ensures told { IfErr result IsOfCheckpoint }
     ensures own { IfErr result IsOfDevice }
     ensures cause { HasCause (D.failures disk.old) (D.failures disk.new) result }
+    ensures most { D.most_failures disk.new ≤ D.most_failures disk.old }
 {
     let superblock = home.superblock();
     let geometry = superblock.geometry();

@@ -7,7 +7,7 @@ ghost use Rattle.flusher.specs.Plan.{IsPending};
 ghost use Rattle.gate_journal.specs.Batch.{AreImages};
 ghost use Rattle.gate_journal.specs.Journal.{IsSettled, behind_border};
 ghost use Rattle.home_blocks.specs.Places.{border_of};
-ghost use Rattle.local_store.specs.About.{HasNoRoom, about_of, one_commit_more};
+ghost use Rattle.local_store.specs.About.{HasNoRoom, IsOfVersionTwo, about_of, one_commit_more};
 ghost use Rattle.local_store.specs.Away.{IsCommitOf, IsKeptOver, IsLogOf, batch_of};
 ghost use Rattle.local_store.specs.Meaning.{Means};
 ghost use Rattle.local_store.specs.Overlay.{with_images};
@@ -40,6 +40,7 @@ impl<D: HalvedDisk + Drop> LendingStore<D> {
     ) -> Result<CommitWork<D::Log>, Refusal>
         requires images { AreImages (geometry_of self.old.contents).blocks images.now }
         requires limit { front ≤ MAX_NUMBER }
+        requires version { IsOfVersionTwo (about_of self.old.contents) }
         requires here { IsNone self.old.lent }
 
         ensures front { IfOk result (λ work. work.front ≡ front) }
@@ -195,6 +196,7 @@ impl<D: HalvedDisk + Drop> LendingStore<D> {
     ) -> Result<Synced, Refusal>
         requires images { AreImages (geometry_of self.old.contents).blocks images.now }
         requires limit { front ≤ MAX_NUMBER }
+        requires version { IsOfVersionTwo (about_of self.old.contents) }
         requires here { IsNone self.old.lent }
         ensures receipt { IfOk result (λ receipt. receipt ≡ record { slot = self.old.contents.home.superblock.slot; front = front }) }
         ensures ok { OnOk result (self.new.contents ≡ committed self.old.contents front images.now) }

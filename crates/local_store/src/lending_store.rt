@@ -14,6 +14,7 @@ use crate::store_like::StoreLike;
 use disk_model::HalvedDisk;
 use flusher::{Plan, Run};
 use gate_journal::{Image, Slot, Synced};
+use home_blocks::Version;
 use std::alloc::Global;
 use volume::Geometry;
 
@@ -107,6 +108,10 @@ impl<D: HalvedDisk + Drop> StoreLike for LendingStore<D> {
         (λ a may. D.only_now keeps s.disk a may) c left };
 
     ghost keeps_size = { λ keeps s volume kept. size_either s.lent (λ l. D.left_before l.past (D.until l.past)) (λ l j batches. IsSettled j batches (D.Log.gives l.was.value) (D.Log.may_leave_now l.was.value)) s.contents volume (D.gives s.disk) (D.may_leave_now s.disk) kept };
+
+    fn version(&self) -> Version {
+        self.contents.version()
+    }
 
     fn slot(&self) -> Slot {
         self.contents.slot()

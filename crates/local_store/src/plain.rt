@@ -4,6 +4,7 @@ ghost use Rattle.flusher.specs.Plan.{IsPending};
 ghost use Rattle.disk_model.specs.Memory.{failures_of, size_of};
 ghost use Rattle.gate_journal.specs.Batch.{AreImages};
 ghost use Rattle.gate_journal.specs.declared.batch.TheConstants.{MAX_NUMBER};
+ghost use Rattle.home_blocks.specs.declared.version.Version.TheVariants.{Two};
 ghost use Rattle.local_store.specs.Overlay.{with_images};
 ghost use Rattle.local_store.specs.Pending.{AreCleared};
 ghost use Rattle.local_store.specs.Refusal.{HasCause, IsOfStamping};
@@ -13,6 +14,7 @@ use crate::store_like::StoreLike;
 use disk_model::{MemDisk, Part, Script};
 use flusher::{Plan, Run};
 use gate_journal::{Image, Journal, MAX_NUMBER, Slot, Synced};
+use home_blocks::Version;
 use std::alloc::{AllocError, Global};
 use std::marker::Model;
 use volume::{BLOCK_SIZE, Geometry};
@@ -47,19 +49,20 @@ pub struct PlainStore {
 impl Model for PlainStore {
     ghost use Rattle.std.specs.Prelude.{◌≤◌, None};
     ghost use Rattle.disk_model.specs.Memory.{failures_of, size_of};
+    ghost use Rattle.home_blocks.specs.declared.version.Version.TheVariants.{Two};
     ghost use Rattle.local_store.specs.Plain.{IsPlain, Plain};
 
     ghost Value = { Plain };
 
     ghost view = { λ s. record {
-      about = record { slot = s.slot; incarnation = s.incarnation; geometry = s.geometry; front = s.front; used = s.used; stores = s.stores; broken = s.broken; lent = None };
+      about = record { version = Two; slot = s.slot; incarnation = s.incarnation; geometry = s.geometry; front = s.front; used = s.used; stores = s.stores; broken = s.broken; lent = None };
       volume = s.volume.items;
       pending = s.pending.items;
       failures = failures_of s.stamps;
     } };
 
     ghost invariant = { λ s. IsPlain (record {
-      about = record { slot = s.slot; incarnation = s.incarnation; geometry = s.geometry; front = s.front; used = s.used; stores = s.stores; broken = s.broken; lent = None };
+      about = record { version = Two; slot = s.slot; incarnation = s.incarnation; geometry = s.geometry; front = s.front; used = s.used; stores = s.stores; broken = s.broken; lent = None };
       volume = s.volume.items;
       pending = s.pending.items;
       failures = failures_of s.stamps;
@@ -75,7 +78,7 @@ impl PlainStore {
         geometry: Geometry,
     ) -> Result<PlainStore, AllocError>
         requires { incarnation ≤ MAX_NUMBER }
-        ensures about { IfOk result (λ s. s.about ≡ record { slot = slot; incarnation = incarnation; geometry = geometry; front = 0; used = 0; stores = 1; broken = false; lent = None }) }
+        ensures about { IfOk result (λ s. s.about ≡ record { version = Two; slot = slot; incarnation = incarnation; geometry = geometry; front = 0; used = 0; stores = 1; broken = false; lent = None }) }
         ensures volume { IfOk result (λ s. s.volume ≡ replicate (4096 * geometry.blocks) 0) }
     {
         let blocks = geometry.blocks as usize;
@@ -176,6 +179,11 @@ impl StoreLike for PlainStore {
     ghost only_now = { λ keeps s c left. left };
 
     ghost keeps_size = { λ keeps s volume kept. kept.size };
+
+    fn version(&self) -> Version {
+        let _ = &self.broken;
+        Version::Two
+    }
 
     fn slot(&self) -> Slot {
         self.slot

@@ -2,7 +2,7 @@
 ghost use Rattle.std.specs.Prelude.{◌≡◌, ◌⊎◌, ◌+◌, ◌*◌, ◌<◌, ◌≤◌, ◌↔◌, ℕ, List, None, true, false, length, take, drop, is_some, Any, IfOk, IfErr, IfNone, IfSome, OnOk, OnErr, IsErrOf};
 ghost use Rattle.disk_model.specs.Disk.{LeavesOnly};
 ghost use Rattle.gate_journal.specs.Batch.{AreImages};
-ghost use Rattle.local_store.specs.About.{About, HasNeighbours, HasNoRoom, HasRoom, IsOneLess, IsWithoutRun, meaning_then, meaning_with, one_checkpoint_more, one_commit_more};
+ghost use Rattle.local_store.specs.About.{About, HasNeighbours, HasNoRoom, HasRoom, IsOfVersionTwo, IsOneLess, IsWithoutRun, meaning_then, meaning_with, one_checkpoint_more, one_commit_more};
 ghost use Rattle.local_store.specs.Meaning.{Means};
 ghost use Rattle.local_store.specs.Overlay.{with_images};
 ghost use Rattle.local_store.specs.Refusal.{HasCause, IsOfCheckpoint, IsOfCommitting, IsOfDevice, IsOfReading, IsOfTicking, IsOfTickingRun};
@@ -11,11 +11,12 @@ ghost use Rattle.volume.specs.Writes.{block_of};
 use crate::refusal::Refusal;
 use flusher::Run;
 use gate_journal::{Image, MAX_NUMBER, Slot, Synced};
+use home_blocks::Version;
 use std::alloc::Global;
 use volume::{BLOCK_SIZE, Geometry};
 
 /// A store of one volume, for a member. What is said of its volume, and of what a stop leaves, stands under the premise
-/// `keeps_model`; what it tells of itself stands outside it.
+/// `keeps_model`; what it tells of itself stands outside it. Whatever writes asks for a disk of version 2.
 pub trait StoreLike {
     /// The premise: what such a store is kept on keeps the disk model.
     ghost keeps_model: { Type 0 };
@@ -40,6 +41,10 @@ pub trait StoreLike {
 
     /// How often the device has failed.
     ghost failures: { Self → ℕ };
+
+    /// The version of its disk.
+    fn version(&self) -> Version
+        ensures { result ≡ (about self.now).version };
 
     /// The slot of the member whose store it is.
     fn slot(&self) -> Slot
@@ -114,6 +119,7 @@ pub trait StoreLike {
     fn commit(&mut self, alloc: Global, front: u64, images: &[Image]) -> Result<Synced, Refusal>
         requires images { AreImages (about self.old).geometry.blocks images.now }
         requires limit { front ≤ MAX_NUMBER }
+        requires version { IsOfVersionTwo (about self.old) }
         requires here { (about self.old).lent ≡ None }
         ensures receipt { IfOk result (λ receipt. receipt ≡ record { slot = (about self.old).slot; front = front }) }
         ensures ok { OnOk result (about self.new ≡ one_commit_more (about self.old) front (length images.now)) }
@@ -136,6 +142,7 @@ pub trait StoreLike {
     ///
     /// 122 `Broken` exactly where a device call failed before; and what the device refuses: then the store is broken.
     fn tick(&mut self) -> Result<Option<u32>, Refusal>
+        requires version { IsOfVersionTwo (about self.old) }
         ensures home { IfOk result (λ given. IfSome given (λ block. IsOneLess block (is_pending self.old) (is_pending self.new))) }
         ensures none { IfOk result (λ given. IfNone given ((b : ℕ) → is_pending self.old b → ⊥)) }
         ensures ok { OnOk result (about self.new ≡ about self.old) }
@@ -155,7 +162,8 @@ pub trait StoreLike {
     /// 122 `Broken` exactly where a device call failed before; 100 `Memory` where there is no room for the run's bytes, of
     /// which one block needs none: nothing changed; and what the device refuses: then the store is broken.
     fn tick_run(&mut self, alloc: Global, most: u32) -> Result<Option<Run>, Refusal>
-        requires { 0 < most }
+        requires most { 0 < most }
+        requires version { IsOfVersionTwo (about self.old) }
         ensures home { IfOk result (λ given. IfSome given (λ run. IsWithoutRun most run (is_pending self.old) (is_pending self.new))) }
         ensures none { IfOk result (λ given. IfNone given ((b : ℕ) → is_pending self.old b → ⊥)) }
         ensures ok { OnOk result (about self.new ≡ about self.old) }
@@ -176,6 +184,7 @@ pub trait StoreLike {
     /// 122 `Broken` exactly where a device call failed before; else 121 `Full` exactly where no number is left for another
     /// superblock: these change nothing. After a refusal of the device the store is broken.
     fn checkpoint(&mut self) -> Result<(), Refusal>
+        requires version { IsOfVersionTwo (about self.old) }
         requires here { (about self.old).lent ≡ None }
         ensures ok { OnOk result (about self.new ≡ one_checkpoint_more (about self.old)) }
         ensures empty { OnOk result ((b : ℕ) → is_pending self.new b → ⊥) }

@@ -1,10 +1,12 @@
 //! `serve DIR`: the disk of a folder, for clients of the Network Block Device protocol.
 //!
 //! A chain of one goes on from the folder: where more members are recorded, the source of the recovery goes on alone.
-ghost use Rattle.std.specs.Prelude.{◌≡◌, [], ◌∷◌, ℕ, List, All, map, slice_get, IfOk, IfSome};
-ghost use Rattle.gate_journal.specs.Runs.{OnlyReads};
+ghost use Rattle.std.specs.Prelude.{◌≡◌, ◌⊎◌, [], ◌∷◌, ℕ, List, All, map, slice_get, IfOk, IfSome};
+ghost use Rattle.disk_model.specs.Disk.{LeavesOnly};
 ghost use Rattle.folder.specs.Found.{IsRunning, member_in};
 ghost use Rattle.life.specs.Begun.{BeginsWith};
+ghost use Rattle.local_store.specs.About.{IsOfVersionTwo};
+ghost use Rattle.local_store.specs.Meaning.{Meaning, Means};
 ghost use Rattle.nbdchain.specs.Serving.{GoesOnFrom};
 
 use crate::fault::Fault;
@@ -14,7 +16,7 @@ use configurations::{Epoch, Record};
 use disk_model::{Disk, FileDisk};
 use folder::{FolderDisks, Opened, Refused, restart};
 use gate_journal::Slot;
-use local_store::{Store, StoreLike};
+use local_store::{Store, StoreLike, disks_mean_one};
 use log::{Log, info};
 use server::{listen, serve};
 use service::{HasError, Service};
@@ -89,9 +91,16 @@ struct Serving {
 
 /// Why no world goes on.
 #[derive(Drop)]
-enum Unbegun<D> {
+enum Unbegun<D: Disk> {
     /// The chain doesn't.
     Refused(Refused<D>),
+    /// The source's disk, which is of version 1, doesn't become one of version 2.
+    Unmigrated {
+        /// What its store refuses.
+        refusal: local_store::Refusal,
+        /// The chain, which is recorded.
+        opened: Opened<D>,
+    },
     /// Memory ran out behind it.
     Memory,
 }
@@ -135,6 +144,10 @@ where
         Ok(begun) => begun,
         Err(Unbegun::Refused(refused)) => {
             let failure = refused.failure(&slots);
+            return Err(Fault::Folder { dir, failure });
+        }
+        Err(Unbegun::Unmigrated { refusal, opened }) => {
+            let failure = opened.failure(refusal);
             return Err(Fault::Folder { dir, failure });
         }
         Err(Unbegun::Memory) => return Err(Fault::Own(Refusal::Memory)),
@@ -186,7 +199,8 @@ where
 }
 
 /// A world of one goes on from the configuration's disk and the members' disks that returned, as `restart` has it: it
-/// begins with what the source among them means, and has no clients.
+/// begins with what the source among them means, and has no clients. Once the source is recorded, its disk is brought to
+/// version 2; of the others nothing is written.
 fn begin_from<D: Disk + Drop>(
     alloc: Global,
     config: D,
@@ -194,13 +208,18 @@ fn begin_from<D: Disk + Drop>(
 ) -> Result<Begun<D>, Unbegun<D>>
     ensures goes_on { D.keeps_model → IfOk result (λ b. GoesOnFrom ⟦<Store<D> as StoreLike>⟧.about ⟦<Store<D> as StoreLike>⟧.keeps ⟦<Store<D> as StoreLike>⟧.may_leave_now
         (D.gives config) (map D.gives disks.items) b.place b.world) }
-    ensures reads { D.keeps_model → IfOk result (λ b. IfSome (slice_get disks.items b.place) (λ disk. All (λ member.
-        OnlyReads D.gives D.may_leave_now D.moment D.may_have_left_since disk member.node.store.disk) b.world.chain.members)) }
+    // What a stop at any moment of the call leaves of the source's disk, it might have left before, or it means the same.
+    ensures any_moment { D.keeps_model → IfOk result (λ b. IfSome (slice_get disks.items b.place) (λ disk. All (λ member. (meaning : Meaning) → Means meaning (D.gives disk)
+        → LeavesOnly D.moment D.may_have_left_since disk member.node.store.disk (λ c. D.may_leave_now disk c ⊎ Means meaning c)) b.world.chain.members)) }
 {
-    let opened = match restart(alloc, config, disks) {
+    disks_mean_one();
+    let mut opened = match restart(alloc, config, disks) {
         Ok(opened) => opened,
         Err(refused) => return Err(Unbegun::Refused(refused)),
     };
+    if let Err(refusal) = opened.migrate() {
+        return Err(Unbegun::Unmigrated { refusal, opened });
+    }
     let (source, front, epoch) = (opened.source(), opened.front(), opened.epoch());
     let Opened {
         config,
@@ -244,6 +263,7 @@ fn world_of_one<S: StoreLike + Drop>(
 ) -> Result<World<S>, AllocError>
     requires alone { recorded.members ≡ member_in (S.about store) ∷ [] }
     requires running { IsRunning S.about store }
+    requires version { IsOfVersionTwo (S.about store) }
     requires keeps { S.keeps_model → (volume : List ℕ) × S.keeps store volume }
     ensures begins { S.keeps_model → IfOk result (λ world. (volume : List ℕ) → S.keeps store volume
         → BeginsWith S.about S.keeps S.may_leave_now (S.about store).geometry (S.about store).front volume world) }

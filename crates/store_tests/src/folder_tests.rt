@@ -6,6 +6,7 @@ use crate::folders::{new_folder, path};
 use disk_model::{Cut, Disk, DiskError, Event, FileDisk, MemDisk, Script};
 use folder::{Failure, FileName, FolderDisks, Layout, Opened, Refusal, format, open, restart};
 use gate_journal::{Image, PAIR_SIZE, Slot};
+use home_blocks::Version;
 use local_store::{Store, StoreLike};
 use std::alloc::Global;
 use std::fs::{self, File, Files};
@@ -125,6 +126,37 @@ fn what_is_refused(rt: HostRuntime) {
     let path = path(&rt, dir, "slot0.disk");
     fs::remove_file(&rt, path.as_str()).expect(&rt, "the file is removed");
     same(&rt, failure(&rt, dir).refusal.number(), Some(191));
+    fs::remove_dir_all(&rt, dir).expect(&rt, "the folder is removed");
+}
+
+// The place of the version's last byte in the first superblock of a file.
+const VERSION: usize = 24;
+
+#[test]
+fn a_disk_of_version_one_goes_on(rt: HostRuntime) {
+    let folder = new_folder(&rt, process::id(rt.process()), "one");
+    let dir = folder.as_str();
+    let layout = Layout::new(8, 4_096, 8_214, 1).expect(&rt, "a layout");
+    format(&rt, dir, layout).expect(&rt, "the folder is formatted");
+    let path = path(&rt, dir, "slot0.disk");
+    let mut bytes = fs::read(&rt, path.as_str()).expect(&rt, "the file's bytes");
+    same(&rt, bytes.get(VERSION).copied(), Some(2));
+    if let Some(version) = bytes.get_mut(VERSION) {
+        *version = 1;
+    }
+    fs::write(&rt, path.as_str(), &bytes).expect(&rt, "the file is written");
+    let FolderDisks { config, disks, .. } = open(&rt, dir).expect(&rt, "the folder's disks");
+    let Ok(mut opened) = restart(rt.alloc(), config, disks) else {
+        panic!(&rt; "no chain")
+    };
+    same(&rt, opened.store.version(), Version::One);
+    opened.migrate().expect(&rt, "the disk is migrated");
+    same(&rt, opened.store.version(), Version::Two);
+    drop(opened);
+    let again = gone_on(&rt, dir).expect(&rt, "the folder opens");
+    same(&rt, again.store.version(), Version::Two);
+    same(&rt, (again.front(), again.epoch().number()), (0, 3));
+    drop(again);
     fs::remove_dir_all(&rt, dir).expect(&rt, "the folder is removed");
 }
 

@@ -3,14 +3,15 @@ use crate::comparing::{prints, same};
 use crate::disks::new_disk;
 use gate_journal::{GatedPair, PAIR_SIZE, Slot};
 use home_blocks::{
-    Area, Home, Progress, Refusal, Superblock, area_part, disk_size, home_part, superblock_part,
+    Area, Home, Progress, Refusal, Superblock, Version, area_part, disk_size, home_part,
+    superblock_part,
 };
 use std::process::Abort;
 use volume::Geometry;
 
-// The superblock of slot 2, incarnation 1, 8 blocks, areas of 8,214 bytes and payloads of 4,096, at front 0 and area 0.
+// The superblock of version 2, slot 2, incarnation 1, 8 blocks, areas of 8,214 bytes and payloads of 4,096, at front 0 and area 0.
 const ROW: [u8; Superblock::SIZE] =
-    *b"CRAQDISK\0\0\0\x01\x01\x02\0\0\0\0\0\0\0\x01\0\0\0\x08\0\0\x20\x16\0\0\x10\0\0\0\0\0\0\0\0\0\0";
+    *b"CRAQDISK\0\0\0\x02\x01\x02\0\0\0\0\0\0\0\x01\0\0\0\x08\0\0\x20\x16\0\0\x10\0\0\0\0\0\0\0\0\0\0";
 
 // The same superblock, and one of a disk that is being installed.
 fn superblock(rt: &impl Abort, progress: Progress) -> Superblock {
@@ -29,13 +30,20 @@ fn a_superblock(rt: HostRuntime) {
         (row.progress(), row.slot().number(), row.incarnation()),
         (Progress::Whole, 2, 1),
     );
+    same(&rt, row.version(), Version::Two);
     same(
         &rt,
         (row.front(), row.current(), row.current().other()),
         (0, Area::First, Area::Second),
     );
     let mut other = ROW;
-    other[11] = 2;
+    other[11] = 1;
+    same(
+        &rt,
+        Superblock::read(&other).map(|first| first.version()),
+        Ok(Version::One),
+    );
+    other[11] = 3;
     same(
         &rt,
         Superblock::read(&other).err(),
@@ -147,7 +155,7 @@ fn no_homes(rt: HostRuntime) {
         Some(Refusal::NotAVolume),
     );
     let _receipt = pair
-        .store(&mut short, b"CRAQDISK\0\0\0\x02", slot, 0)
+        .store(&mut short, b"CRAQDISK\0\0\0\x03", slot, 0)
         .expect(&rt, "the pair stores");
     same(
         &rt,

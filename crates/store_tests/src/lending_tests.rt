@@ -3,6 +3,7 @@ ghost use Rattle.std.specs.Prelude.{◌≡◌, ◌≤◌, IsNone};
 ghost use Rattle.disk_model.specs.Memory.{size_of};
 ghost use Rattle.gate_journal.specs.Batch.{AreImages};
 ghost use Rattle.home_blocks.specs.Places.{disk_size_of};
+ghost use Rattle.local_store.specs.About.{IsOfVersionTwo};
 ghost use Rattle.local_store.specs.Store.{geometry_of};
 
 use crate::comparing::{same, same_at};
@@ -10,7 +11,7 @@ use crate::disks::new_disk;
 use disk_model::{Cut, DiskError, Event, MemDisk};
 use flusher::Run;
 use gate_journal::{IMAGE_SIZE, Image, Slot};
-use home_blocks::disk_size;
+use home_blocks::{Version, disk_size};
 use local_store::{CommitWork, Installer, LendingStore, Refusal, Store, StoreLike};
 use std::alloc::Global;
 use std::process::Abort;
@@ -75,11 +76,22 @@ fn read(rt: &impl Abort, store: &mut LendingStore<MemDisk>, block: u32) -> u8 {
     bytes[0]
 }
 
+// The store's disk is of version 2.
+fn of_version_two(rt: &impl Abort, store: &LendingStore<MemDisk>)
+    ensures { IsOfVersionTwo (⟦<LendingStore<MemDisk> as StoreLike>⟧.about store.now) }
+{
+    match store.version() {
+        Version::Two => {}
+        Version::One => panic!(rt; "version 1"),
+    }
+}
+
 // Lends the log out, for the blocks 2 and 3 at front 1.
 fn lend(rt: &impl Abort, alloc: Global, store: &mut LendingStore<MemDisk>) -> CommitWork<MemDisk>
     requires here { IsNone store.old.lent }
     requires blocks { (geometry_of store.old.contents).blocks ≡ 8 }
 {
+    of_version_two(rt, store);
     let work = store.lend_commit(alloc, 1, &two(7)).expect(rt, "a commit");
     assert!(rt; store.is_lent());
     work
@@ -92,6 +104,7 @@ fn a_lent_commit_is_finished(rt: HostRuntime) {
     same(&rt, (store.disk().calls(), store.is_lent()), (22, false));
     let work = lend(&rt, alloc, &mut store);
     same(&rt, (read(&rt, &mut store, 2), store.front()), (0, 0));
+    of_version_two(&rt, &store);
     same(&rt, store.tick(), Ok(None));
     let done = work.journal(alloc);
     assert!(rt; store.is_log_of(&done));
@@ -101,6 +114,7 @@ fn a_lent_commit_is_finished(rt: HostRuntime) {
     same(&rt, store.disk().calls(), 27);
     same(&rt, read(&rt, &mut store, 3), 7);
     let run = Run { first: 2, count: 2 };
+    of_version_two(&rt, &store);
     same(&rt, store.tick_run(alloc, 8), Ok(Some(run)));
     same(&rt, store.disk().calls(), 28);
     let mut disk = store.into_disk();
@@ -124,6 +138,7 @@ fn a_log_is_taken_back(rt: HostRuntime) {
         (store.is_lent(), store.is_broken(), store.front()),
         (false, true, 0),
     );
+    of_version_two(&rt, &store);
     same(&rt, store.tick(), Err(Refusal::Broken));
 }
 

@@ -31,6 +31,8 @@ mod lending_tests;
 #[cfg(test)]
 mod local_store_tests;
 #[cfg(test)]
+mod migrating_tests;
+#[cfg(test)]
 mod pair_tests;
 #[cfg(test)]
 mod recovery_tests;

@@ -21,13 +21,13 @@ const LEAST: u32 = 8_214;
 
 const ROOMY: u32 = 12_327;
 
-// Two superblocks of slot 0 and incarnation 1, of 8 blocks, areas of 8,214 bytes and payloads of 4,096: the first one,
+// Two superblocks of version 2, slot 0 and incarnation 1, of 8 blocks, areas of 8,214 bytes and payloads of 4,096: the first one,
 // of front 0 and area 0, and a second one, of front 1 and area 1.
 const FIRST: [u8; 56] =
-    *b"\x01\0\0\0\0\0\0\0\x01\0\0\0\x2bCRAQDISK\0\0\0\x01\x01\0\0\0\0\0\0\0\0\x01\0\0\0\x08\0\0\x20\x16\0\0\x10\0\0\0\0\0\0\0\0\0\0";
+    *b"\x01\0\0\0\0\0\0\0\x01\0\0\0\x2bCRAQDISK\0\0\0\x02\x01\0\0\0\0\0\0\0\0\x01\0\0\0\x08\0\0\x20\x16\0\0\x10\0\0\0\0\0\0\0\0\0\0";
 
-const SECOND: [u8; 56] =
-    *b"\x01\0\0\0\0\0\0\0\x02\0\0\0\x2bCRAQDISK\0\0\0\x01\x01\0\0\0\0\0\0\0\0\x01\0\0\0\x08\0\0\x20\x16\0\0\x10\0\0\0\0\0\0\0\0\x01\x01";
+pub(crate) const SECOND: [u8; 56] =
+    *b"\x01\0\0\0\0\0\0\0\x02\0\0\0\x2bCRAQDISK\0\0\0\x02\x01\0\0\0\0\0\0\0\0\x01\0\0\0\x08\0\0\x20\x16\0\0\x10\0\0\0\0\0\0\0\0\x01\x01";
 
 // A store and its disk.
 #[derive(Drop)]
@@ -65,7 +65,7 @@ fn formatted(rt: &impl Abort, alloc: Global, area: u32) -> Rig {
 }
 
 // The blocks 0 and 1.
-fn two(first: u8, second: u8) -> [Image; 2]
+pub(crate) fn two(first: u8, second: u8) -> [Image; 2]
     ensures { AreImages 8 result }
 {
     [
@@ -298,12 +298,14 @@ fn ticks_are_counted(rt: HostRuntime) {
 
 // What is put over the bytes of a new disk with the first superblock, at which place; and the front that the disk means,
 // or what `open` says of it.
-const DISKS: [(u64, &[u8], Result<u64, Refusal>); 12] = [
+const DISKS: [(u64, &[u8], Result<u64, Refusal>); 14] = [
     (56, b"", Ok(0)),
     (0, &[0; 56], Err(Refusal::NotAVolume)),
     (0, b"\0", Err(Refusal::NotAVolume)),
     (13, b"K", Err(Refusal::NotAVolume)),
-    (24, b"\x02", Err(Refusal::OtherVersion)),
+    (24, b"\0", Err(Refusal::OtherVersion)),
+    (24, b"\x01", Ok(0)),
+    (24, b"\x03", Err(Refusal::OtherVersion)),
     (25, b"\0", Err(Refusal::Unfinished)),
     (25, b"\x02", Err(Refusal::NotAVolume)),
     (54, b"\x06\x01", Ok(6)),

@@ -2,6 +2,7 @@ use Rattle.std.proofs.Common.{◌≡◌, ◌+◌, ℕ, List, ◌++◌, [], lengt
 use Rattle.std.specs.Prelude.{None, false}
 use Rattle.std.proofs.lemmas.List.{nil_from_length}
 use Rattle.chain_core.specs.Node.{size_of}
+use Rattle.local_store.specs.About.{IsOfVersionTwo}
 use Rattle.configurations.specs.Record.{Record}
 use Rattle.chain.specs.Opening.{beginning_of}
 use Rattle.chain.proofs.OpeningSteps.{all_made, copy_taken, first_has, one_made, others_have}
@@ -13,6 +14,7 @@ loop-store-init g c = let given = c.into_iter-store-iterator.ensures.into_iter_g
       ∙ ap (map (beginning_of g.S.StoreLike.about c.args.board.now c.args.told.now)) given;
   copies = rw given c.requires.copies;
   runs = rw given c.requires.runs;
+  version = rw given c.requires.version;
   here = rw given c.requires.here;
   keeps = rw given c.requires.keeps;
   room = rw given (search rules);
@@ -36,6 +38,7 @@ loop-store-preserved g c =
           (c.new.ensures ∙ ap (λ (told : Record). beginning_of g.S.StoreLike.about c.args.board.now told c.in-Some.store) taken.1) split c.loop-store.invariant.members;
       copies = taken.0;
       runs = others_have (λ store. (g.S.StoreLike.about store).broken ≡ false) c.in-Some.store c.next.new.self.rest.items c.loop-store.store-iterator.rest.items split c.loop-store.invariant.runs;
+      version = others_have (λ store. IsOfVersionTwo (g.S.StoreLike.about store)) c.in-Some.store c.next.new.self.rest.items c.loop-store.store-iterator.rest.items split c.loop-store.invariant.version;
       here = others_have (λ store. (g.S.StoreLike.about store).lent ≡ None) c.in-Some.store c.next.new.self.rest.items c.loop-store.store-iterator.rest.items split c.loop-store.invariant.here;
       keeps = λ premise. others_have (λ store. (volume : List ℕ) × g.S.StoreLike.keeps store volume × (length volume ≡ size_of (g.S.StoreLike.about store))) c.in-Some.store c.next.new.self.rest.items
           c.loop-store.store-iterator.rest.items split (c.loop-store.invariant.keeps premise);

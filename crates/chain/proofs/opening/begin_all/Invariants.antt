@@ -1,5 +1,6 @@
 use Rattle.std.proofs.Common.{◌≡◌, ◌+◌, ℕ, List, ◌++◌, All, None, false, length, map, replicate, vec_len, vec_capacity}
 use Rattle.chain_core.specs.Node.{size_of}
+use Rattle.local_store.specs.About.{IsOfVersionTwo}
 use Rattle.chain.specs.Opening.{beginning_of}
 use Rattle.chain.proofs.opening.begin_all.Given as goal
 
@@ -9,6 +10,7 @@ invariant-loop-store g l = record {
   members : l.members.items ++ map (beginning_of g.S.StoreLike.about l.fn.board l.fn.told) l.store-iterator.rest.items ≡ map (beginning_of g.S.StoreLike.about l.fn.board l.fn.told) l.fn.stores.items;
   copies : l.copies.items ≡ replicate (length l.store-iterator.rest.items) l.fn.told;
   runs : All (λ store. (g.S.StoreLike.about store).broken ≡ false) l.store-iterator.rest.items;
+  version : All (λ store. IsOfVersionTwo (g.S.StoreLike.about store)) l.store-iterator.rest.items;
   here : All (λ store. (g.S.StoreLike.about store).lent ≡ None) l.store-iterator.rest.items;
   keeps : g.S.StoreLike.keeps_model → All (λ store. (volume : List ℕ) × g.S.StoreLike.keeps store volume × (length volume ≡ size_of (g.S.StoreLike.about store))) l.store-iterator.rest.items;
   room : vec_len l.members + length l.store-iterator.rest.items ≡ length l.fn.stores.items;

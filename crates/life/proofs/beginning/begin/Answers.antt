@@ -1,7 +1,7 @@
-use Rattle.std.proofs.Common.{◌≡◌, ◌<◌, ◌*◌, All, false, map, replicate, ap, subst, sym, ◌∙◌, arith}
+use Rattle.std.proofs.Common.{◌≡◌, ◌<◌, ◌*◌, All, false, map, replicate, ap, refl, subst, sym, ◌∙◌, arith}
 use Rattle.disk_model.specs.Memory.{has_stopped}
 use Rattle.std.proofs.lemmas.List.{length-replicate}
-use Rattle.local_store.specs.About.{About}
+use Rattle.local_store.specs.About.{About, IsOfVersionTwo}
 use Rattle.life.proofs.Starting.{IsStore, about_of_store, disk_in, first_all, first_at, first_even, first_long, first_slots, first_begins}
 use Rattle.life.proofs.beginning.begin.Goals as goal
 
@@ -13,6 +13,9 @@ world_of-requires-clause-slots c = first_slots about_of_store c.args.geometry c.
 
 pub world_of-requires-clause-given : goal.world_of-requires-clause-given
 world_of-requires-clause-given c = first_all about_of_store c.args.geometry c.args.members (λ (a : About). 0 < a.incarnation) c.in_ok-stores.stores.items c.in_ok-stores.ensures.about (λ k. omega arith)
+
+pub world_of-requires-clause-version : goal.world_of-requires-clause-version
+world_of-requires-clause-version c = first_all about_of_store c.args.geometry c.args.members IsOfVersionTwo c.in_ok-stores.stores.items c.in_ok-stores.ensures.about (λ k. refl)
 
 pub world_of-requires-clause-even : goal.world_of-requires-clause-even
 world_of-requires-clause-even c = first_even about_of_store c.args.geometry c.args.members c.in_ok-stores.stores.items c.in_ok-stores.ensures.about

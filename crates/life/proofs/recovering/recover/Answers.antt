@@ -1,34 +1,109 @@
-use Rattle.std.proofs.Common.{◌≡◌, true, false, All, [], ◌∷◌, ap, inr, refl, subst, sym, ◌∙◌, arith}
+use Rattle.std.proofs.Common.{◌≡◌, ◌⊎◌, ℕ, List, true, false, All, [], ◌∷◌, ap, inl, inr, refl, subst, sym, ◌∙◌, arith}
 use Rattle.std.proofs.lemmas.List.Elements.{All-cons, All-nil}
 use Rattle.disk_model.specs.Disk.{NothingNew, Only}
-use Rattle.disk_model.specs.Calm.{calm_runs}
-use Rattle.disk_model.specs.Memory.{failures_of, given_of, has_stopped, may_be_left}
+use Rattle.disk_model.specs.Memory.{given_of, has_stopped, may_be_left}
 use Rattle.disk_model.specs.declared.memory.MemDisk.{MemDisk}
-use Rattle.local_store.specs.Meaning.{Meaning}
+use Rattle.home_blocks.specs.Home.{HoldsSuperblock, settled_holds}
+use Rattle.home_blocks.specs.Superblock.{Superblock}
+use Rattle.local_store.specs.About.{About, migrated}
+use Rattle.local_store.specs.Meaning.{Meaning, Means}
+use Rattle.local_store.specs.Refusal.{IsOfDevice}
 use Rattle.local_store.specs.Store.{meaning_in}
-use Rattle.life.specs.Begun.{AreOfMember}
-use Rattle.life.proofs.Starting.{IsStore, about_of_store}
+use Rattle.local_store.specs.declared.refusal.Refusal as store
+use Rattle.local_store.specs.declared.refusal.Refusal.TheVariants as stores
+use Rattle.volume.specs.declared.geometry.Geometry.{Geometry}
+use Rattle.life.specs.Begun.{AreOfMember, BeginsWith, MeansStill}
+use Rattle.life.specs.Refusal.{IsOfReopening}
+use Rattle.life.proofs.Starting.{IsStore, about_of_store, keeps_volume, leaves_now}
 use Rattle.life.proofs.Returning.{reopened, reopening_of_memory}
 use Rattle.life.proofs.recovering.recover.Goals as goal
+
+-- a store that is ready is of the member that it was of, with the sizes and the front that it had
+ready_as : (a b : About) → (a ≡ b) ⊎ (a ≡ migrated b) → (P : ℕ → ℕ → Geometry → ℕ → Type 0) → P a.slot a.incarnation a.geometry a.front → P b.slot b.incarnation b.geometry b.front
+ready_as a b (inl same) P is = subst (λ (x : About). P x.slot x.incarnation x.geometry x.front) same is
+ready_as a b (inr moved) P is = subst (λ (x : About). P x.slot x.incarnation x.geometry x.front) moved is
+
+-- the device's refusals may come of a return
+device_reopens : (r : store.Refusal) → IsOfDevice r → IsOfReopening r
+device_reopens (stores.Device error) is = tt
+device_reopens stores.Memory is = absurd is
+device_reopens stores.Full is = absurd is
+device_reopens stores.Broken is = absurd is
+device_reopens stores.NotAVolume is = absurd is
+device_reopens stores.OtherVersion is = absurd is
+device_reopens stores.Unfinished is = absurd is
+device_reopens stores.Backwards is = absurd is
+
+-- what is left of a disk that was only read is what it gave
+read_still : (disk back : MemDisk) → NothingNew (may_be_left disk) (may_be_left back) → MeansStill disk back
+read_still disk back nothing = λ meaning means only x left. subst (Means meaning) (sym (only x (nothing x left))) means
+
+pub alone-requires-clause-keeps : goal.alone-requires-clause-keeps
+alone-requires-clause-keeps c = λ premise. let was = c.in-Ok.ensures.stored tt in (was.0, c.in-Ok-ready.ensures.kept was.0 was.1)
 
 pub returns-in-Ok-alone-clause-goes_on : goal.returns-in-Ok-alone-clause-goes_on
 returns-in-Ok-alone-clause-goes_on c =
     let was = c.in-Ok.ensures.stored tt in
-    let meaning = meaning_in c.in-Ok.store.contents was.0 in (
+    let meaning = meaning_in c.in-Ok.store.contents was.0 in
+    let now = about_of_store c.in-Ok-ready.store in
+    let before = about_of_store c.in-Ok.store in (
       meaning,
       was.2,
-      subst (AreOfMember about_of_store meaning) (sym c.in-Ok-alone.ensures.store) (own c.in-Ok.store meaning refl refl),
-      c.in-Ok-alone.ensures.begins tt was.0 was.1,
+      subst (AreOfMember about_of_store meaning) (sym c.in-Ok-alone.ensures.store)
+          (own c.in-Ok-ready.store meaning (ready_as now before c.in-Ok-ready.ensures.about (λ slot incarnation geometry front. (now.slot ≡ slot) × (now.incarnation ≡ incarnation)) (refl, refl))),
+      ready_as now before c.in-Ok-ready.ensures.about (λ slot incarnation geometry front. BeginsWith about_of_store keeps_volume leaves_now geometry front was.0 c.in-Ok-alone.world) (c.in-Ok-alone.ensures.begins tt was.0 (c.in-Ok-ready.ensures.kept was.0 was.1)),
     )
   where
-    own : (s : IsStore) (meaning : Meaning) → (about_of_store s).slot ≡ meaning.slot → (about_of_store s).incarnation ≡ meaning.incarnation → AreOfMember about_of_store meaning (s ∷ [])
-    own s meaning slot incarnation = All-cons (λ x. ((about_of_store x).slot ≡ meaning.slot) × ((about_of_store x).incarnation ≡ meaning.incarnation)) s [] (slot, incarnation) (All-nil (λ x. ((about_of_store x).slot ≡ meaning.slot) × ((about_of_store x).incarnation ≡ meaning.incarnation)))
+    own : (s : IsStore) (meaning : Meaning) → ((about_of_store s).slot ≡ meaning.slot) × ((about_of_store s).incarnation ≡ meaning.incarnation) → AreOfMember about_of_store meaning (s ∷ [])
+    own s meaning is = All-cons (λ x. ((about_of_store x).slot ≡ meaning.slot) × ((about_of_store x).incarnation ≡ meaning.incarnation)) s [] is (All-nil (λ x. ((about_of_store x).slot ≡ meaning.slot) × ((about_of_store x).incarnation ≡ meaning.incarnation)))
+
+pub returns-in-Ok-alone-clause-go : goal.returns-in-Ok-alone-clause-go
+returns-in-Ok-alone-clause-go c =
+    let runs : IsStore → Type 0 = λ s. has_stopped s.disk ≡ false in
+    subst (All runs) (sym c.in-Ok-alone.ensures.store) (All-cons runs c.in-Ok-ready.store [] c.in-Ok-ready.ensures.go (All-nil runs))
+
+pub returns-in-Err-ready-clause-returning : goal.returns-in-Err-ready-clause-returning
+returns-in-Err-ready-clause-returning c = λ member. device_reopens c.in-Err-ready.refusal c.in-Err-ready.ensures.device
+
+pub returns-in-Err-ready-clause-calm : goal.returns-in-Err-ready-clause-calm
+returns-in-Err-ready-clause-calm c = λ member calm.
+    reopening_of_memory c.in-Err-ready.refusal (device_reopens c.in-Err-ready.refusal c.in-Err-ready.ensures.device) (c.in-Err-ready.ensures.calm (omega (arith, calm, c.in-Ok.ensures.done, c.in-Ok.ensures.most)))
+
+pub returns-in-Err-ready-clause-back : goal.returns-in-Err-ready-clause-back
+returns-in-Err-ready-clause-back c = λ (sb, holds, two).
+    let was = c.in-Ok.ensures.stored tt in
+    let read = c.in-Ok.ensures.reads tt in
+    let own = c.in-Ok.store.contents.home.superblock in
+    let here : HoldsSuperblock own (given_of c.args.disk) = subst (HoldsSuperblock own) read.same (settled_holds was.1.superblock) in
+    let same : sb ≡ own = c.superblocks_are_one.ensures sb own (given_of c.args.disk) holds here in
+    rw (c.in-Err-ready.ensures.untouched (sym (ap (λ (s : Superblock). s.version) same) ∙ two)) (read.same, read.leaves)
+
+pub returns-then-incarnation-eq0-clause-back : goal.returns-then-incarnation-eq0-clause-back
+returns-then-incarnation-eq0-clause-back c = λ two. let read = c.in-Ok.ensures.reads tt in rw c.into_disk.ensures (read.same, read.leaves)
+
+pub returns-in-Err-clause-back : goal.returns-in-Err-clause-back
+returns-in-Err-clause-back c = λ two. let back = c.in-Err.ensures.back tt in (back.same, back.leaves)
+
+pub returns-in-Err-ready-clause-again : goal.returns-in-Err-ready-clause-again
+returns-in-Err-ready-clause-again c = λ meaning means only x left.
+    let was = c.in-Ok.ensures.stored tt in
+    let same : meaning_in c.in-Ok.store.contents was.0 ≡ meaning = c.disks_mean_one.ensures (meaning_in c.in-Ok.store.contents was.0) meaning (given_of c.args.disk) was.2 means in
+    subst (λ (m : Meaning). Means m x) same (c.in-Err-ready.ensures.means was.0 was.1 x left)
 
 pub returns-then-incarnation-eq0-clause-returning : goal.returns-then-incarnation-eq0-clause-returning
 returns-then-incarnation-eq0-clause-returning c = λ member.
     let was = c.in-Ok.ensures.stored tt in
     let same = ap (λ (x : Meaning). x.incarnation) (c.disks_mean_one.ensures member.meaning (meaning_in c.in-Ok.store.contents was.0) (given_of c.args.disk) member.means was.2) in
     absurd (omega (arith, member.given, same, c.incarnation.ensures.incarnation, c.if-incarnation-eq0.true))
+
+pub returns-then-incarnation-eq0-clause-calm : goal.returns-then-incarnation-eq0-clause-calm
+returns-then-incarnation-eq0-clause-calm c = λ member calm.
+    let was = c.in-Ok.ensures.stored tt in
+    let same = ap (λ (x : Meaning). x.incarnation) (c.disks_mean_one.ensures member.meaning (meaning_in c.in-Ok.store.contents was.0) (given_of c.args.disk) member.means was.2) in
+    absurd (omega (arith, member.given, same, c.incarnation.ensures.incarnation, c.if-incarnation-eq0.true))
+
+pub returns-then-incarnation-eq0-clause-again : goal.returns-then-incarnation-eq0-clause-again
+returns-then-incarnation-eq0-clause-again c = let read = c.in-Ok.ensures.reads tt in rw c.into_disk.ensures (read_still c.args.disk c.in-Ok.store.disk read.leaves)
 
 pub returns-in-Err-clause-returning : goal.returns-in-Err-clause-returning
 returns-in-Err-clause-returning c = λ member.
@@ -42,44 +117,5 @@ returns-in-Err-clause-calm c = λ member calm.
     (c.meanings_are_opened.ensures member.meaning (given_of c.args.disk) member.means member.long))
     (c.in-Err.ensures.calm calm)
 
-pub returns-in-Err-clause-back : goal.returns-in-Err-clause-back
-returns-in-Err-clause-back c = let back = c.in-Err.ensures.back tt in (back.same, back.leaves)
-
-pub returns-then-incarnation-eq0-clause-calm : goal.returns-then-incarnation-eq0-clause-calm
-returns-then-incarnation-eq0-clause-calm c = λ member calm.
-    let was = c.in-Ok.ensures.stored tt in
-    let same = ap (λ (x : Meaning). x.incarnation) (c.disks_mean_one.ensures member.meaning (meaning_in c.in-Ok.store.contents was.0) (given_of c.args.disk) member.means was.2) in
-    absurd (omega (arith, member.given, same, c.incarnation.ensures.incarnation, c.if-incarnation-eq0.true))
-
-pub returns-then-incarnation-eq0-clause-back : goal.returns-then-incarnation-eq0-clause-back
-returns-then-incarnation-eq0-clause-back c = let read = c.in-Ok.ensures.reads tt in rw c.into_disk-then-incarnation-eq0.ensures (read.same, read.leaves)
-
--- nothing else is left of a disk that was only read
-only_again : (disk back : MemDisk) → given_of back ≡ given_of disk → NothingNew (may_be_left disk) (may_be_left back) → Only (given_of disk) (may_be_left disk) → Only (given_of back) (may_be_left back)
-only_again disk back same leaves only = λ bytes left. only bytes (leaves bytes left) ∙ sym same
-
 pub returns-in-Err-clause-again : goal.returns-in-Err-clause-again
-returns-in-Err-clause-again c = let back = c.in-Err.ensures.back tt in only_again c.args.disk c.in-Err.disk back.same back.leaves
-
-pub returns-then-incarnation-eq0-clause-again : goal.returns-then-incarnation-eq0-clause-again
-returns-then-incarnation-eq0-clause-again c = let read = c.in-Ok.ensures.reads tt in rw c.into_disk-then-incarnation-eq0.ensures (only_again c.args.disk c.in-Ok.store.disk read.same read.leaves)
-
-pub returns-in-Ok-alone-clause-go : goal.returns-in-Ok-alone-clause-go
-returns-in-Ok-alone-clause-go c =
-    let runs : IsStore → Type 0 = λ s. has_stopped s.disk ≡ false in
-    subst (All runs) (sym c.in-Ok-alone.ensures.store) (All-cons runs c.in-Ok.store [] (rw (← c.disk.ensures) (sym c.is_stopped.ensures ∙ c.if-is_stopped.false)) (All-nil runs))
-
-pub returns-then-is_stopped-clause-back : goal.returns-then-is_stopped-clause-back
-returns-then-is_stopped-clause-back c = let read = c.in-Ok.ensures.reads tt in rw c.into_disk.ensures (read.same, read.leaves)
-
-pub returns-then-is_stopped-clause-again : goal.returns-then-is_stopped-clause-again
-returns-then-is_stopped-clause-again c = let read = c.in-Ok.ensures.reads tt in rw c.into_disk.ensures (only_again c.args.disk c.in-Ok.store.disk read.same read.leaves)
-
-pub returns-then-is_stopped-clause-calm : goal.returns-then-is_stopped-clause-calm
-returns-then-is_stopped-clause-calm c = λ member calm.
-    let runs : has_stopped c.in-Ok.store.disk ≡ false = calm_runs c.in-Ok.store.disk (failures_of c.args.disk) c.in-Ok.ensures.done (rw calm c.in-Ok.ensures.most) in
-    let no : false ≡ true = sym runs ∙ rw (← c.disk.ensures) (sym c.is_stopped.ensures ∙ c.if-is_stopped.true) in
-    absurd (cc)
-
-pub returns-then-is_stopped-clause-cause : goal.returns-then-is_stopped-clause-cause
-returns-then-is_stopped-clause-cause c = inr (refl, rw c.into_disk.ensures (rw (← c.disk.ensures) (sym c.is_stopped.ensures ∙ c.if-is_stopped.true)))
+returns-in-Err-clause-again c = let back = c.in-Err.ensures.back tt in read_still c.args.disk c.in-Err.disk back.leaves

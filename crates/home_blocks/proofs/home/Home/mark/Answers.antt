@@ -1,5 +1,6 @@
-use Rattle.std.proofs.Common.{sym, subst}
+use Rattle.std.proofs.Common.{ap, sym, subst}
 use Rattle.home_blocks.specs.Home.{IsSettledHome, State}
+use Rattle.home_blocks.specs.Superblock.{Superblock}
 use Rattle.home_blocks.proofs.Homes.{mark_run, mark_settled}
 use Rattle.home_blocks.proofs.home.Home.mark.Goals as goal
 
@@ -23,6 +24,6 @@ returns-clause-settled g c = λ keeps settled.
     let gives = g.D.Disk.gives c.args.disk.now in
     let left = g.D.Disk.may_leave_now c.args.disk.now in
     let here : IsSettledHome home gives left = subst (λ (h : State). IsSettledHome h gives left) (sym c.self.view_is) settled in
-    mark_settled home gives left here c.marked-superblock.result c.encoded-payload.ensures.is c.encoded-payload.result c.encoded-payload.ensures.encoding
+    mark_settled home gives left here c.marked-superblock.result c.encoded-payload.ensures.is (ap (λ (s : Superblock). s.version) c.marked-superblock.ensures) c.encoded-payload.result c.encoded-payload.ensures.encoding
     c.stores_leave_old_or_new.ensures.old c.stores_leave_old_or_new.ensures.new c.store.new.self (g.D.Disk.gives c.store.new.disk) (g.D.Disk.may_leave_now c.store.new.disk)
     c.in_ok-receipt.ensures.ok (c.in_ok-receipt.ensures.settled keeps here.slots here.pair)

@@ -1,5 +1,6 @@
 use Rattle.std.proofs.Common.{◌≡◌, ◌+◌, ◌<◌, ◌∙◌, ◌++◌, ℕ, length, refl, subst, sym, ap, arith}
 use Rattle.std.specs.Prelude.{Result, IfOk, IsErrOf, ◌↔◌}
+use Rattle.home_blocks.specs.Version.{version_number}
 use Rattle.home_blocks.specs.Superblock.{IsNoSuperblock, IsEncoding, Superblock, header_encoding}
 use Rattle.home_blocks.specs.declared.refusal.Refusal.{Refusal}
 use Rattle.home_blocks.specs.declared.refusal.Refusal.TheVariants.{NotAVolume}
@@ -26,47 +27,50 @@ returns-in_default-read_u32-clause-not_a_volume c =
     let (same, behind_is, longer) = c.in-Some.ensures.cases in
     (λ _. no_version c.args.bytes.now (short_of (length c.in-Some.behind.now) (length c.args.bytes.now) longer c.in_default-read_u32.ensures.short), λ _. refl)
 
-pub returns-then-version-ne-VERSION-clause-exact : goal.returns-then-version-ne-VERSION-clause-exact
-returns-then-version-ne-VERSION-clause-exact c = λ sb encoded.
+pub returns-in_default-from_number-clause-exact : goal.returns-in_default-from_number-clause-exact
+returns-in_default-from_number-clause-exact c = λ sb encoded.
     let (same, behind_is, longer) = c.in-Some.ensures.cases in
-    let has = other_version c.args.bytes.now c.in-Some.behind.now c.in-Some-read_u32.fields.now c.in-Some-read_u32.version same behind_is c.in-Some-read_u32.ensures.read c.in-Some-read_u32.ensures.fits c.if-version-ne-VERSION.true in
+    let has = other_version c.args.bytes.now c.in-Some.behind.now c.in-Some-read_u32.fields.now c.in-Some-read_u32.number same behind_is c.in-Some-read_u32.ensures.read c.in-Some-read_u32.ensures.fits c.in_default-from_number.ensures.none in
     absurd (other_version_apart sb c.args.bytes.now encoded.encoded has)
 
-pub returns-then-version-ne-VERSION-clause-other_version : goal.returns-then-version-ne-VERSION-clause-other_version
-returns-then-version-ne-VERSION-clause-other_version c =
+pub returns-in_default-from_number-clause-other_version : goal.returns-in_default-from_number-clause-other_version
+returns-in_default-from_number-clause-other_version c =
     let (same, behind_is, longer) = c.in-Some.ensures.cases in
-    let has = other_version c.args.bytes.now c.in-Some.behind.now c.in-Some-read_u32.fields.now c.in-Some-read_u32.version same behind_is c.in-Some-read_u32.ensures.read c.in-Some-read_u32.ensures.fits c.if-version-ne-VERSION.true in
+    let has = other_version c.args.bytes.now c.in-Some.behind.now c.in-Some-read_u32.fields.now c.in-Some-read_u32.number same behind_is c.in-Some-read_u32.ensures.read c.in-Some-read_u32.ensures.fits c.in_default-from_number.ensures.none in
     (λ _. has, λ _. refl)
 
-pub returns-then-version-ne-VERSION-clause-not_a_volume : goal.returns-then-version-ne-VERSION-clause-not_a_volume
-returns-then-version-ne-VERSION-clause-not_a_volume c =
+pub returns-in_default-from_number-clause-not_a_volume : goal.returns-in_default-from_number-clause-not_a_volume
+returns-in_default-from_number-clause-not_a_volume c =
     let (same, behind_is, longer) = c.in-Some.ensures.cases in
-    let has = other_version c.args.bytes.now c.in-Some.behind.now c.in-Some-read_u32.fields.now c.in-Some-read_u32.version same behind_is c.in-Some-read_u32.ensures.read c.in-Some-read_u32.ensures.fits c.if-version-ne-VERSION.true in
+    let has = other_version c.args.bytes.now c.in-Some.behind.now c.in-Some-read_u32.fields.now c.in-Some-read_u32.number same behind_is c.in-Some-read_u32.ensures.read c.in-Some-read_u32.ensures.fits c.in_default-from_number.ensures.none in
     (λ e. absurd (cc e), λ no. absurd (no.same has))
 
 pub returns-clause-found : goal.returns-clause-found
 returns-clause-found c =
     let fields = c.in-Some-read_u32.fields.now in
     let (same, behind_is, longer) = c.in-Some.ensures.cases in
-    let is = header_is c.args.bytes.now c.in-Some.behind.now fields c.in-Some-read_u32.version same behind_is c.in-Some-read_u32.ensures.read in
-    let begins : c.args.bytes.now ≡ header_encoding 1 ++ fields = is ∙ ap (λ (n : ℕ). header_encoding n ++ fields) c.if-version-ne-VERSION.false in
+    let is = header_is c.args.bytes.now c.in-Some.behind.now fields c.in-Some-read_u32.number same behind_is c.in-Some-read_u32.ensures.read in
+    let version = c.in-Some-from_number.version in
+    let begins : c.args.bytes.now ≡ header_encoding (version_number version) ++ fields = is ∙ ap (λ (n : ℕ). header_encoding n ++ fields) c.in-Some-from_number.ensures.value in
     subst (λ (r : Result Superblock Refusal). IfOk r (IsEncoding c.args.bytes.now)) (sym c.ok_or.ensures.value)
-    (answer_found c.args.bytes.now fields begins c.read_fields.result c.read_fields.ensures.found c.read_fields.ensures.is)
+    (answer_found version c.args.bytes.now fields begins c.read_fields.result c.read_fields.ensures.version c.read_fields.ensures.found c.read_fields.ensures.is)
 
 pub returns-clause-exact : goal.returns-clause-exact
 returns-clause-exact c =
     let fields = c.in-Some-read_u32.fields.now in
     let (same, behind_is, longer) = c.in-Some.ensures.cases in
-    let is = header_is c.args.bytes.now c.in-Some.behind.now fields c.in-Some-read_u32.version same behind_is c.in-Some-read_u32.ensures.read in
-    let begins : c.args.bytes.now ≡ header_encoding 1 ++ fields = is ∙ ap (λ (n : ℕ). header_encoding n ++ fields) c.if-version-ne-VERSION.false in
+    let is = header_is c.args.bytes.now c.in-Some.behind.now fields c.in-Some-read_u32.number same behind_is c.in-Some-read_u32.ensures.read in
+    let version = c.in-Some-from_number.version in
+    let begins : c.args.bytes.now ≡ header_encoding (version_number version) ++ fields = is ∙ ap (λ (n : ℕ). header_encoding n ++ fields) c.in-Some-from_number.ensures.value in
     λ sb encoded. c.ok_or.ensures.value
-    ∙ answer_exact c.args.bytes.now fields begins c.read_fields.result c.read_fields.ensures.found c.read_fields.ensures.is c.read_fields.ensures.none sb encoded
+    ∙ answer_exact version c.args.bytes.now fields begins c.read_fields.result c.read_fields.ensures.version c.read_fields.ensures.found c.read_fields.ensures.is c.read_fields.ensures.none sb encoded
 
 pub returns-clause-not_a_volume : goal.returns-clause-not_a_volume
 returns-clause-not_a_volume c =
     let fields = c.in-Some-read_u32.fields.now in
     let (same, behind_is, longer) = c.in-Some.ensures.cases in
-    let is = header_is c.args.bytes.now c.in-Some.behind.now fields c.in-Some-read_u32.version same behind_is c.in-Some-read_u32.ensures.read in
-    let begins : c.args.bytes.now ≡ header_encoding 1 ++ fields = is ∙ ap (λ (n : ℕ). header_encoding n ++ fields) c.if-version-ne-VERSION.false in
+    let is = header_is c.args.bytes.now c.in-Some.behind.now fields c.in-Some-read_u32.number same behind_is c.in-Some-read_u32.ensures.read in
+    let version = c.in-Some-from_number.version in
+    let begins : c.args.bytes.now ≡ header_encoding (version_number version) ++ fields = is ∙ ap (λ (n : ℕ). header_encoding n ++ fields) c.in-Some-from_number.ensures.value in
     subst (λ (r : Result Superblock Refusal). IsErrOf r NotAVolume ↔ IsNoSuperblock c.args.bytes.now) (sym c.ok_or.ensures.value)
-    (answer_none c.args.bytes.now fields begins c.read_fields.result c.read_fields.ensures.found c.read_fields.ensures.is c.read_fields.ensures.none)
+    (answer_none version c.args.bytes.now fields begins c.read_fields.result c.read_fields.ensures.version c.read_fields.ensures.found c.read_fields.ensures.is c.read_fields.ensures.none)
