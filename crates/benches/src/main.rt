@@ -5,12 +5,14 @@
 #![tactic(auto)]
 
 use anyhow::bail;
-use std::env;
+use std::fs::{File, Files};
 use std::thread::Threads;
 use std::time::Clock;
+use std::{env, process};
 
 // No module may have a crate's name, so this one is in the plural: `boards`.
 mod boards;
+mod commits;
 mod journal;
 mod report;
 mod table;
@@ -26,10 +28,17 @@ enum Bench {
     Journal,
     Board,
     Wire,
+    Commits,
 }
 
 /// All benches, in the order in which they are played.
-const BENCHES: [Bench; 4] = [Bench::Table, Bench::Journal, Bench::Board, Bench::Wire];
+const BENCHES: [Bench; 5] = [
+    Bench::Table,
+    Bench::Journal,
+    Bench::Board,
+    Bench::Wire,
+    Bench::Commits,
+];
 
 impl Bench {
     /// The word for it.
@@ -39,13 +48,15 @@ impl Bench {
             Bench::Journal => "journal",
             Bench::Board => "board",
             Bench::Wire => "wire",
+            Bench::Commits => "commits",
         }
     }
 
     /// Prints its name, and plays it.
-    fn play<R: Threads + Sync + Clock + Print + AllocGlobal>(
+    fn play<R: Files<File = File> + Threads + Sync + Clock + Print + AllocGlobal>(
         self,
         rt: &R,
+        dir: &str,
         timed: bool,
     ) -> anyhow::Result<()> {
         println!(rt; "{}", self.name())?;
@@ -54,6 +65,7 @@ impl Bench {
             Bench::Journal => journal::run(rt, timed),
             Bench::Board => boards::run(rt, timed),
             Bench::Wire => wire::run(rt, timed),
+            Bench::Commits => commits::run(rt, dir, timed),
         }
     }
 }
@@ -62,14 +74,18 @@ fn main(rt: HostRuntime) -> anyhow::Result<()> {
     let words: Vec<String> = env::args(&rt)?.skip(1).collect(rt.alloc())?;
     for word in &words {
         if !is_known(word) {
-            bail!("unknown word {word}; the words are table, journal, board, wire and time");
+            bail!(
+                "unknown word {word}; the words are table, journal, board, wire, commits and time"
+            );
         }
     }
     let timed = has(&words, TIME);
+    let id = process::id(rt.process());
+    let dir = format!(in rt.alloc(); "/tmp/benches.{id}")?;
     let plays_all = !BENCHES.iter().any(|bench| has(&words, bench.name()));
     for bench in BENCHES {
         if plays_all || has(&words, bench.name()) {
-            bench.play(&rt, timed)?;
+            bench.play(&rt, dir.as_str(), timed)?;
         }
     }
     Ok(())
