@@ -4,9 +4,9 @@
     plain.py PORT            tries the server at this port of 127.0.0.1: the protocol's corners, many requests in
                              flight, many sessions. It overwrites the volume.
     plain.py --kill PORT TIMES SEED SERVE ..
-                             a load of writes, FUA writes, FLUSHes and READs against the server that the words SERVE
-                             start at this port; it is killed in the middle, TIMES times, and served again. All that is
-                             owed must be there, and the volume is what a prefix of the committed writes left.
+                             a load of writes and zeros, with FUA and without, FLUSHes and READs against the server that
+                             the words SERVE start at this port; it is killed in the middle, TIMES times, and served again.
+                             All that is owed must be there, and the volume is what a prefix of the committed writes left.
 
 It needs Python 3.9 or later, and history.py beside it. It ends with status 1 and one line where something is wrong.
 """
@@ -26,18 +26,30 @@ import time
 from history import WORD, Era, Wrong, filled, numbers_in
 
 BLOCK = 4096
-READ, WRITE, DISC, FLUSH = 0, 1, 2, 3
-FUA = 1
+READ, WRITE, DISC, FLUSH, ZERO = 0, 1, 2, 3, 6
+FUA, NO_HOLE, FAST_ZERO = 1, 2, 16
+# HAS_FLAGS, SEND_FLUSH, SEND_FUA, SEND_WRITE_ZEROES, CAN_MULTI_CONN.
+OFFERED = 0x014D
 EXPORT_NAME, ABORT, LIST, STARTTLS, INFO, GO, STRUCTURED = 1, 2, 3, 5, 6, 7, 8
 ACK, SERVER, UNSUP, INVALID, UNKNOWN, TOO_BIG = 1, 2, 0x80000001, 0x80000003, 0x80000006, 0x80000009
 # What one READ of a whole volume asks for at a time, where the server takes as much.
 PIECE = 65536
+# Bytes in a journal area: of a block that zeros have in part, and of one that they have whole.
+IMAGE, MARK = 4100, 4
 
 
 def want(holds, what):
     """Ends the script with what was wanted, unless it holds."""
     if not holds:
         raise Wrong(what)
+
+
+def zeros_fit(offset, length, payload):
+    """Whether zeros fit into the least journal area that a disk with this largest payload has, and so into any."""
+    end = offset + length
+    touched = -(-end // BLOCK) - offset // BLOCK
+    whole = max(0, end // BLOCK - -(-offset // BLOCK))
+    return IMAGE * (touched - whole) + MARK * whole <= IMAGE * (payload // BLOCK + 1)
 
 
 class Options:
@@ -134,6 +146,11 @@ class Client(Options):
         error = self.error_of(WRITE, offset, data=data, flags=flags)
         want(error == 0, f"a WRITE of {len(data)} bytes at {offset} is refused with {error}")
 
+    def zero(self, offset, length, flags=0):
+        """Writes zeros, and waits for the reply."""
+        error = self.error_of(ZERO, offset, length, flags=flags)
+        want(error == 0, f"zeros of {length} bytes at {offset} are refused with {error}")
+
     def flush(self):
         """Asks for all that was answered to be durable, and waits for the reply."""
         error = self.error_of(FLUSH)
@@ -175,6 +192,7 @@ def try_options(port):
     named.close()
     client = Client(port)
     want((size, flags) == (client.size, client.flags), "EXPORT_NAME and GO tell of two exports")
+    want(flags == OFFERED, f"the transmission flags are {flags:#x}")
     client.close()
     print("options: what is there is negotiated, all else is refused")
 
@@ -209,6 +227,60 @@ def try_refusals(port):
     want(client.read(0, BLOCK) == b"before.." * 512, "a WRITE that broke off was done")
     client.close()
     print("refusals: each with its error, and nothing of it was done")
+
+
+def try_zeros(port):
+    """Zeros over whole blocks and parts of them, with each flag, and what is refused and so isn't done."""
+    client = Client(port)
+    before = os.urandom(5 * BLOCK)
+    ranges = [(0, 1), (5, 100), (BLOCK - 1, 2), (0, BLOCK), (BLOCK, 2 * BLOCK), (BLOCK, BLOCK + 1), (BLOCK - 1, BLOCK + 1)]
+    ranges.append((3, 4 * BLOCK))
+    for flags in (0, NO_HOLE, FUA, FUA | NO_HOLE):
+        for offset, length in ranges:
+            if not zeros_fit(offset, length, client.most):
+                continue
+            for at in range(0, len(before), BLOCK):
+                client.write(at, before[at : at + BLOCK])
+            # A READ goes out at once behind it, since no payload is taken.
+            client.ask(ZERO, 1, offset, length, flags=flags)
+            client.ask(READ, 2, 0, 1)
+            replies = {client.reply({2: 1})[:2] for _ in range(2)}
+            want(replies == {(1, 0), (2, 0)}, f"zeros and a READ behind them are answered with {replies}")
+            there = before[:offset] + bytes(length) + before[offset + length :]
+            what = f"zeros of {length} bytes at {offset} with the flags {flags}"
+            want(client.read_all(len(before)) == there, f"{what} aren't read back, or not they alone")
+    client.write(0, b"before.." * 512)
+    client.write(client.size - BLOCK, b"the last" * 512)
+    for flags in (1 << 2, FAST_ZERO, FUA | FAST_ZERO, 1 << 9, 1 << 15):
+        want(client.error_of(ZERO, 0, BLOCK, flags=flags) == errno.EINVAL, f"zeros with the flags {flags:#x} aren't EINVAL")
+    want(client.error_of(ZERO, client.size, BLOCK, flags=FAST_ZERO) == errno.EINVAL, "an unknown flag isn't tested first")
+    want(client.error_of(READ, 0, BLOCK, flags=NO_HOLE) == errno.EINVAL, "a READ with NO_HOLE isn't EINVAL")
+    want(client.error_of(WRITE, 0, data=bytes(BLOCK), flags=NO_HOLE) == errno.EINVAL, "a WRITE with NO_HOLE isn't EINVAL")
+    beyond = [(client.size - 3, 4), (client.size, 1), (0, client.size + 1), (client.size + 1, 0), ((1 << 64) - BLOCK, BLOCK)]
+    for offset, length in beyond:
+        error = client.error_of(ZERO, offset, length, flags=FUA)
+        want(error == errno.ENOSPC, f"zeros of {length} bytes at {offset}, past the end, are answered with {error}")
+    for offset in (0, 5, client.size):
+        for flags in (0, FUA, NO_HOLE):
+            client.zero(offset, 0, flags)
+    want(client.read(0, BLOCK) == b"before.." * 512, "zeros that were refused, or none, were written")
+    want(client.read(client.size - BLOCK, BLOCK) == b"the last" * 512, "zeros past the end were written up to it")
+    # All but two bytes: it is a matter of the journal area whether they fit.
+    error = client.error_of(ZERO, 1, client.size - 2)
+    fits = zeros_fit(1, client.size - 2, client.most)
+    want(error in ((0,) if fits else (0, errno.EINVAL)), f"zeros over all but two bytes are answered with {error}")
+    first, last = (b"before.." * 512, b"the last" * 512) if error else (b"b" + bytes(BLOCK - 1), bytes(BLOCK - 1) + b"t")
+    want(client.read(0, BLOCK) == first, f"zeros over all but two bytes, with error {error}: the first block is another")
+    want(client.read(client.size - BLOCK, BLOCK) == last, f"the last block is another, with error {error}")
+    # More than a payload, of whole blocks; another session reads it.
+    client.write(0, b"before.." * 512)
+    length = min(client.size, 8 * client.most)
+    client.zero(0, length)
+    other = Client(port)
+    want(other.read_all(length) == bytes(length), f"zeros of {length} bytes aren't read back by another session")
+    other.close()
+    client.close()
+    print("zeros: of parts and of whole blocks, with each flag; refused ones change nothing")
 
 
 def try_many_requests(port):
@@ -271,6 +343,27 @@ def try_many_sessions(port):
     print("two and sixteen sessions at once, and a slow one beside a quick one")
 
 
+# The kinds of requests of a load: the type and the flags of each.
+KINDS = {
+    "write": (WRITE, 0),
+    "fua": (WRITE, FUA),
+    "zero": (ZERO, 0),
+    "fzero": (ZERO, FUA),
+    "flush": (FLUSH, 0),
+    "read": (READ, 0),
+}
+# Shares of these kinds, of which a load has one.
+SHARES = (
+    (8, 1, 0, 0, 1, 2),
+    (8, 1, 4, 1, 1, 2),
+    (4, 4, 2, 2, 1, 2),
+    (1, 6, 1, 4, 0, 1),
+    (2, 1, 3, 6, 1, 1),
+    (12, 0, 8, 0, 1, 1),
+    (30, 0, 10, 0, 0, 1),
+)
+
+
 class Lane:
     """A session of a load: what it asked, what it has yet to send, and what came."""
 
@@ -303,7 +396,11 @@ class Lane:
 
 
 class Load:
-    """A random load in several sessions, and what is known of it. One thread, so that its events have one order."""
+    """A random load in several sessions, and what is known of it. One thread, so that its events have one order.
+
+    Zeros are written with NO_HOLE and without, some by a WRITE of zeros. They are of whole blocks and of odd words, and may
+    be longer than a payload; but they fit into any journal area, so that nothing is refused.
+    """
 
     def __init__(self, port, words, most, era, draw, number, note):
         """`words`: how much of the volume; `most`: words of a request; `number`: of the first write. `note` is told each
@@ -313,12 +410,11 @@ class Load:
         self.lanes = [Lane(port) for _ in range(draw.choice((1, 2, 4)))]
         self.depth = draw.choice((1, 4, 16, 64))
         self.hot = draw.choice((words, min(words, 8 * BLOCK // WORD)))
-        # Shares of writes, FUA writes, FLUSHes and READs.
-        self.shares = draw.choice(((8, 1, 1, 2), (4, 4, 1, 2), (1, 6, 0, 1), (12, 0, 1, 1), (30, 0, 0, 1)))
-        self.answers = {"write": 0, "fua": 0, "flush": 0, "read": 0}
+        self.shares = draw.choice(SHARES)
+        self.answers = {kind: 0 for kind in KINDS}
 
-    def place(self):
-        """A random place, mostly small, often of whole blocks, sometimes as long as a request may be."""
+    def place(self, most):
+        """A random place, mostly small, often of whole blocks, sometimes as long as it may be."""
         block = BLOCK // WORD
         kind = self.draw.random()
         if kind < 0.4:
@@ -328,28 +424,44 @@ class Load:
         elif kind < 0.9:
             length, step = self.draw.randint(1, 4 * block), 1
         else:
-            length, step = self.draw.randint(1, self.most), 1
-        length = min(length, self.most, self.hot)
+            length, step = self.draw.randint(1, most), 1
+        length = min(length, most, self.hot)
         start = self.draw.randrange(0, self.hot - length + 1, step)
         return start, start + length
 
+    def place_of_zeros(self):
+        """A random place that fits into a journal area, mostly of whole blocks."""
+        block = BLOCK // WORD
+        while True:
+            start, end = self.place(self.hot)
+            if self.draw.random() < 0.6:
+                start, end = start // block * block, -(-end // block) * block
+            if zeros_fit(start * WORD, (end - start) * WORD, self.most * WORD):
+                return start, end
+
     def ask(self, lane):
         """One more request of a session. It counts as sent from before its bytes go out."""
-        kind = self.draw.choices(("write", "fua", "flush", "read"), self.shares)[0]
+        kind = self.draw.choices(tuple(KINDS), self.shares)[0]
+        code, flags = KINDS[kind]
+        zeros = code == ZERO
         self.number += 1
         self.now += 1
         number = self.number
-        start, end = self.place()
-        code, flags, data, length = READ, 0, b"", (end - start) * WORD
-        if kind == "flush":
-            code, start, end, length = FLUSH, 0, 0, 0
-            self.note("flush", number, 0, 0)
-        elif kind != "read":
-            code, flags, data = WRITE, FUA if kind == "fua" else 0, filled(number, start, end)
-            self.era.sent(number, start, end, kind == "fua", self.now)
+        start, end, data = 0, 0, b""
+        if kind != "flush":
+            start, end = self.place_of_zeros() if zeros else self.place(self.most)
+        if zeros and end - start <= self.most and self.draw.random() < 0.2:
+            code, data = WRITE, bytes((end - start) * WORD)
+        elif zeros:
+            flags |= self.draw.choice((0, NO_HOLE))
+        elif code == WRITE:
+            data = filled(number, start, end)
+        if code in (WRITE, ZERO):
+            self.era.sent(number, start, end, flags & FUA != 0, zeros, self.now)
+        if kind != "read":
             self.note(kind, number, start, end)
         lane.asked[number] = (kind, start, end, self.now)
-        lane.out += struct.pack(">IHHQQI", 0x25609513, flags, code, number, start * WORD, length) + data
+        lane.out += struct.pack(">IHHQQI", 0x25609513, flags, code, number, start * WORD, (end - start) * WORD) + data
 
     def take_replies(self, lane):
         """Takes the replies that are whole."""
@@ -472,6 +584,7 @@ def main(words):
     port = int(words[0])
     try_options(port)
     try_refusals(port)
+    try_zeros(port)
     try_many_requests(port)
     try_many_sessions(port)
 

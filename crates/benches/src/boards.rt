@@ -6,6 +6,7 @@ ghost use Rattle.std.specs.Prelude.{◌≡◌, ◌<◌, ◌≤◌, ◌^◌, All,
 
 use anyhow::{Context, ensure};
 use board::{Board, Seat};
+use bytes::Bytes;
 use disk_model::{MemDisk, Part, Script};
 use gate_journal::{IMAGE_SIZE, Image, Journal, Slot, Synced};
 use std::alloc::Global;
@@ -233,10 +234,8 @@ fn receipt(alloc: Global, slot: Slot, front: u64) -> anyhow::Result<Synced>
 {
     let mut disk = MemDisk::new(alloc, DISK, Script::new(alloc))?;
     let mut journal = Journal::create(&mut disk, Part::new(0, DISK), slot, 1, 0)?;
-    let image = Image {
-        block: 0,
-        bytes: [7; IMAGE_SIZE],
-    };
-    ensure!(journal.are_images(&[image]), "one image is no batch");
-    Ok(journal.append(alloc, &mut disk, front, &[image])?)
+    let bytes = Bytes::from_vec(vec![in alloc; 7; IMAGE_SIZE]?)?;
+    let images = [Image::new(0, bytes)];
+    ensure!(journal.are_images(&images), "one image is no batch");
+    Ok(journal.append(&mut Vec::new(alloc), &mut disk, front, &images)?)
 }

@@ -7,6 +7,7 @@ ghost use Rattle.gate_journal.specs.Batch.{AreImages};
 ghost use Rattle.local_store.specs.About.{IsOfVersionTwo};
 
 use anyhow::{Context, bail, ensure};
+use bytes::Bytes;
 use disk_model::{Disk, FileDisk};
 use gate_journal::{IMAGE_SIZE, Image, Slot};
 use home_blocks::{Version, disk_size};
@@ -192,7 +193,7 @@ fn commit_all<R: Files<File = File> + Clock + Print + AllocGlobal>(
         make_room(&mut store, load.blocks)?;
         commit_one(rt.alloc(), &mut store, load, commit)?;
         if brings_home {
-            bring_home(rt.alloc(), &mut store, load.blocks)?;
+            bring_home(&mut store, load.blocks)?;
         }
     }
     let took = start.elapsed(rt)?;
@@ -212,7 +213,7 @@ fn of_version_two(store: &Store<FileDisk>) -> bool
 /// Empties the area, where it has no room for so many blocks.
 fn make_room(store: &mut Store<FileDisk>, blocks: u32) -> anyhow::Result<()> {
     ensure!(of_version_two(store));
-    if store.room() < u64::from(blocks) {
+    if store.left() < u64::from(blocks).saturating_mul(u64::from(IMAGE_RECORD)) {
         store.checkpoint()?;
     }
     Ok(())
@@ -238,10 +239,10 @@ fn commit_one(
 }
 
 /// Brings the pending blocks home, which are so many at most, in runs.
-fn bring_home(alloc: Global, store: &mut Store<FileDisk>, most: u32) -> anyhow::Result<()> {
+fn bring_home(store: &mut Store<FileDisk>, most: u32) -> anyhow::Result<()> {
     for _ in 0..most {
         ensure!(of_version_two(store));
-        if store.tick_run(alloc, RUN)?.is_none() {
+        if store.tick_run(RUN)?.is_none() {
             return Ok(());
         }
     }
@@ -257,10 +258,8 @@ fn images_of(alloc: Global, volume: u32, first: u32, count: u32) -> Result<Vec<I
     let mut images = Vec::with_capacity(alloc, count as usize)?;
     for index in 0..count {
         let block = first + index;
-        images.push(Image {
-            block,
-            bytes: [(block % 251) as u8; IMAGE_SIZE],
-        })?;
+        let bytes = vec![in alloc; (block % 251) as u8 + 1; IMAGE_SIZE]?;
+        images.push(Image::new(block, Bytes::from_vec(bytes)?))?;
     }
     Ok(images)
 }

@@ -10,6 +10,7 @@ use Rattle.disk_model.specs.Disk.{LeavesOnly}
 use Rattle.disk_model.specs.declared.error.DiskError.TheVariants.{ReadFault}
 use Rattle.flush_barrier.specs.Reply.{GivenReply}
 use Rattle.gate_journal.specs.Receipt.{Receipt}
+use Rattle.gate_journal.specs.Image.{Image}
 use Rattle.local_store.specs.About.{About, meaning_with, one_commit_more}
 use Rattle.local_store.specs.Meaning.{Means}
 use Rattle.chain_core.specs.Commits.{HasEnded, HasRunOut, HasStoppedBy}
@@ -34,7 +35,7 @@ use Rattle.chain.proofs.Orderly.{device_is_one, memory_is_one}
 use Rattle.chain.proofs.Stepping.{formed_then}
 
 module _ {S : Type 0} (about : S → About) (keeps : S → List ℕ → Type 0) (may_leave_now : S → List ℕ → Type 0) (size : ℕ) (before : Linked S) (m : Member) (so : IsShown about keeps may_leave_now size before m)
-    (store : S) (p count : ℕ) (receipt : Receipt) (tells : about store ≡ one_commit_more (about before.node.store) p count) (above : durable_of before.node.state ≤ p) (known : p ≤ before.node.state.known) where
+    (store : S) (p : ℕ) (images : List Image) (receipt : Receipt) (tells : about store ≡ one_commit_more (about before.node.store) p images) (above : durable_of before.node.state ≤ p) (known : p ≤ before.node.state.known) where
   -- the member once the commit up to p is durable
   abbrev pub committed : Linked S
   committed = record before { node = record { store = store; state = ended p before.node.state }; receipt = Some receipt }
@@ -270,10 +271,10 @@ module _ {S : Type 0} (premise : Type 0) (about : S → About) (is_pending : S �
           done_goes : Leads done v []
           done_goes = one_goes about keeps may_leave_now old at before here old.words done v [] shows (λ over m others are fits. (
             shown_as m,
-            shown_ended about keeps may_leave_now (bytes_of old) before m fits after.node.store is.commit.front (length is.commit.images) is.receipt is.ended.tells above way.known
+            shown_ended about keeps may_leave_now (bytes_of old) before m fits after.node.store is.commit.front is.commit.images is.receipt is.ended.tells above way.known
                 did.runs (is.kept so m.volume (fits.keeping did.runs)) (λ volume c. means_now after.node.store volume c) keeps_size,
             does_then_tells v (EndCommit is.commit.front) over m (shown_as m) others (told_of then) [] are
-                (does_end about keeps may_leave_now (bytes_of old) before m fits after.node.store is.commit.front (length is.commit.images) is.receipt is.ended.tells above way.known v) (tells over m others are fits),
+                (does_end about keeps may_leave_now (bytes_of old) before m fits after.node.store is.commit.front is.commit.images is.receipt is.ended.tells above way.known v) (tells over m others are fits),
           ))
 
           with_end : Leads after v events

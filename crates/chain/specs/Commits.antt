@@ -5,7 +5,7 @@ use Rattle.disk_model.specs.declared.error.DiskError.TheVariants.{ReadFault, Wri
 use Rattle.disk_model.specs.Error.{MayTell}
 use Rattle.flush_barrier.specs.Reply.{GivenReply}
 use Rattle.gate_journal.specs.Receipt.{Receipt}
-use Rattle.gate_journal.specs.declared.batch.Image.{Image}
+use Rattle.gate_journal.specs.Image.{Image}
 use Rattle.gate_journal.specs.declared.batch.TheConstants.{MAX_NUMBER}
 use Rattle.local_store.specs.About.{About, HasRoom, IsOneLess, meaning_with, one_checkpoint_more}
 use Rattle.local_store.specs.Meaning.{Means}

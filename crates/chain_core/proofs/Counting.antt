@@ -1,26 +1,31 @@
--- How many blocks a group touches, counted by sets and by images.
-use Rattle.std.proofs.Common.{◌≡◌, ◌≢◌, ℕ, zero, suc, ◌+◌, ◌-◌, ◌*◌, ◌/◌, ◌<◌, ◌≤◌, true, List, [], ◌∷◌, length, get_or, refl, sym, ◌∙◌, ap, arith, inl, inr, subst}
-use Rattle.std.specs.Prelude.{All, None, Some, AllPairs, ◌↔◌, Any, Contains, map, take}
+-- What a group touches, counted by sets and by images.
+use Rattle.std.proofs.Common.{◌≡◌, ◌≢◌, ℕ, zero, suc, ◌+◌, ◌-◌, ◌*◌, ◌/◌, ◌<◌, ◌≤◌, Bool, false, if◌then◌else◌, true, List, [], ◌∷◌, length, get_or, refl, sym, ◌∙◌, ap, arith, inl, inr, subst}
+use Rattle.std.specs.Prelude.{All, None, Some, AllPairs, ◌&&◌, ◌↔◌, Any, Contains, filter, map, not, take}
 use Rattle.std.specs.BTreeMap.{is_at}
 use Rattle.std.specs.BTreeSet.{BTreeSet, IsOrdered, contains}
 use Rattle.std.specs.List.{list_any}
 use Rattle.std.specs.List.Sorted.{IsStrictlySortedBy}
 use Rattle.std.specs.Ordering.{nat_cmp}
 use Rattle.std.specs.declared.cmp.Ordering.TheVariants.{Less}
-use Rattle.std.proofs.lemmas.Bool.{cases_lt}
+use Rattle.std.proofs.lemmas.Bool.{and_parts, cases_Bool, cases_lt}
 use Rattle.std.proofs.lemmas.Bool.Decides.{nat_tests}
 use Rattle.std.proofs.lemmas.List.{get_or-map, get_or-take, get_or_default, length-map, length-take, take-map}
-use Rattle.std.proofs.lemmas.List.Elements.{All-head, All-from_recursion}
+use Rattle.std.proofs.lemmas.List.Elements.{All-head, All-from_recursion, All-tail, filter_passes}
+use Rattle.std.proofs.lemmas.List.Kept.{AllPairs-filter}
+use Rattle.std.proofs.lemmas.List.Sums.{length-filter}
 use Rattle.std.proofs.lemmas.List.Folds.{Any-from_list_any, list_any-from_Any}
-use Rattle.gate_journal.specs.declared.batch.Image.{Image}
+use Rattle.gate_journal.specs.Batch.{image_size, images_size}
+use Rattle.gate_journal.specs.Image.{Image, is_zeros}
 use Rattle.local_store.specs.About.{About, HasNoRoom, HasRoom}
 use Rattle.version_table.specs.Held.{Held, applied_of, writes_upto}
 use Rattle.version_table.specs.declared.kept.Kept.{Kept}
 use Rattle.volume.specs.Volumes.{touches_agrees}
 use Rattle.volume.specs.Writes.{Fits, IsTouched, Placed, touches}
 use Rattle.chain_steps.specs.Node.{Commit, NodeState, durable_of}
-use Rattle.chain_steps.specs.Steps.{AreImagesOf, Begins, IsGroup}
-use Rattle.chain_core.specs.Groups.{IsGroupUpTo, IsTooMuch, IsTouchedList, TouchAtMost, TouchMore}
+use Rattle.chain_steps.specs.Steps.{AreImagesOf, Begins, IsGroup, blanks, group_size, is_written}
+use Rattle.chain_core.proofs.Grouping.{does_more}
+use Rattle.chain_core.proofs.Images.{Any-cases, Any-here, Any-later}
+use Rattle.chain_core.specs.Groups.{IsBlank, IsGroupUpTo, IsTooMuch, IsTouchedList, MayTakeMore, TakeAtMost}
 
 abbrev pub Ascend : List ℕ → Type 0
 Ascend xs = AllPairs (λ x y. x < y) xs
@@ -126,15 +131,66 @@ image_of_block images b (k, lt, is) =
     let none : Image = record { block = b; bytes = [] } in
     (k, get_or images k none, near, get_or_default images k (get_or images k none) none near, sym (get_or-map (λ (x : Image). x.block) images k none b near) ∙ is)
 
--- no group goes further than one whose next write has too many blocks
-pub no_further : (about : About) (room end : ℕ) (volume : List ℕ) (most : ℕ) (node : NodeState) (q : ℕ) (others : List Image) → ((count : ℕ) → room < count → HasNoRoom about count)
-    → TouchMore room (writes_upto node.table (end + 1)) → end < q → IsGroup (HasRoom about) volume most node q others → ⊥
-no_further about room end volume most node q others too_much more further group =
-    let among : (b : ℕ) → contains nat_cmp more.blocks b ≡ true → Contains (map (λ (i : Image). i.block) others) b = λ b has.
-    block_of_image others b ((group.whole.touched b).1 (upto_among node.table (end + 1) q (λ w. IsTouched w b) (omega arith) (touched_if b (writes_upto node.table (end + 1)) (sym (more.are b) ∙ has)))) in
-    let few = fewer more.blocks (map (λ (i : Image). i.block) others) more.ordered (blocks_ascend others group.whole.ascending) among in
-    let none = too_much (length others) (omega (arith, few, more.many, length-map others (λ (x : Image). x.block))) in
+-- ---- the images of blocks to which writes do more than make the whole block zeros
+
+abbrev pub written_of : List Placed → List Image → List Image
+written_of writes images = filter (λ (i : Image). is_written writes i.block) images
+
+-- what passes a test is among what the test keeps
+kept_among : {X : Type 0} (p : X → Bool) (P : X → Type 0) (xs : List X) → Any (λ x. P x × (p x ≡ true)) xs → Any P (filter p xs)
+kept_among p P [] (k, x, lt, is, has) = absurd (omega (arith, lt))
+kept_among p P (y ∷ ys) some = elim (Any-cases (λ x. P x × (p x ≡ true)) y ys some) [
+  | inl own ↦ rw own.1 (Any-here P y (filter p ys) own.0)
+  | inr later ↦ elim (cases_Bool (p y)) [
+    | inl passes ↦ rw passes (Any-later P y (filter p ys) (kept_among p P ys later))
+    | inr fails ↦ rw fails (kept_among p P ys later)
+  ]
+]
+
+pub sized : (writes : List Placed) (images : List Image) → group_size writes images ≡ 4 * length images + 4096 * length (written_of writes images)
+sized writes images = ap (λ n. 4 * length images + 4096 * n) (sym (length-filter (λ (i : Image). is_written writes i.block) images))
+
+written_ascend : (writes : List Placed) (images : List Image) → AllPairs (λ one other. one.block < other.block) images → Ascend (map (λ i. i.block) (written_of writes images))
+written_ascend writes images up = blocks_ascend (written_of writes images) (AllPairs-filter (λ (one other : Image). one.block < other.block) (λ (i : Image). is_written writes i.block) images up)
+
+-- no group goes further than one whose next write may take too much
+pub no_further : (about : About) (left end : ℕ) (volume : List ℕ) (most : ℕ) (node : NodeState) (q : ℕ) (others : List Image) → ((size : ℕ) → left < size → HasNoRoom about size)
+    → MayTakeMore left (writes_upto node.table (end + 1)) → end < q → IsGroup (HasRoom about) volume most node q others → ⊥
+no_further about left end volume most node q others too_much more further group =
+    let near = writes_upto node.table (end + 1) in
+    let far = writes_upto node.table q in
+    let image_of : (b : ℕ) → Any (λ w. IsTouched w b) near → Any (λ (i : Image). i.block ≡ b) others = λ b some. (group.whole.touched b).1 (upto_among node.table (end + 1) q (λ w. IsTouched w b) (omega arith) some) in
+    let among : (b : ℕ) → contains nat_cmp more.touched b ≡ true → Contains (map (λ (i : Image). i.block) others) b = λ b has.
+    block_of_image others b (image_of b (touched_if b near (sym (more.counted.are_touched b) ∙ has))) in
+    let few = fewer more.touched (map (λ (i : Image). i.block) others) more.counted.touched_ordered (blocks_ascend others group.whole.ascending) among in
+    let among_written : (b : ℕ) → contains nat_cmp more.written b ≡ true → Contains (map (λ (i : Image). i.block) (written_of far others)) b = λ b has.
+    (let (k, w, lt, is, does) = Any-from_list_any (does_more b) near (sym (more.counted.are_written b) ∙ has) in
+    let touched : IsTouched w b = (touches_agrees b w).0 (and_parts (touches b w) (not (blanks b w)) does).0 in
+    let still : is_written far b ≡ true = list_any-from_Any (does_more b) far (upto_among node.table (end + 1) q (λ v. does_more b v ≡ true) (omega arith) (k, w, lt, is, does)) in
+    let (i, image, below, at, of_block) = image_of b (k, w, lt, is, touched) in
+    block_of_image (written_of far others) b (kept_among (λ (x : Image). is_written far x.block) (λ x. x.block ≡ b) others (i, image, below, at, (of_block, ap (is_written far) of_block ∙ still)))) in
+    let few_written = fewer more.written (map (λ (i : Image). i.block) (written_of far others)) more.counted.written_ordered (written_ascend far others group.whole.ascending) among_written in
+    let none = too_much (group_size far others) (omega (arith, few, few_written, more.many, sized far others, length-map others (λ (x : Image). x.block), length-map (written_of far others) (λ (x : Image). x.block))) in
     omega (arith, none, group.fits)
+
+-- images of blocks that the writes only make zeros are marks
+either : (blank : Bool) → (if blank then 4 else 4100) ≤ 4100
+either true = omega arith
+either false = omega arith
+
+pub images_at_most : (writes : List Placed) (images : List Image) → All (IsBlank writes) images → All (λ i. list_any (touches i.block) writes ≡ true) images → images_size images ≤ group_size writes images
+images_at_most writes [] blank touched = omega arith
+images_at_most writes (image ∷ images) blank touched =
+    let rest = images_at_most writes images (All-tail (IsBlank writes) image images blank) (All-tail (λ (i : Image). list_any (touches i.block) writes ≡ true) image images touched) in
+    let all = sized writes (image ∷ images) in
+    let those = sized writes images in
+    elim (cases_Bool (is_written writes image.block)) [
+      | inl more ↦ (let one : length (written_of writes (image ∷ images)) ≡ length (written_of writes images) + 1 = rw more (omega arith) in
+          omega (arith, rest, all, those, one, either (is_zeros image.bytes)))
+      | inr only ↦ (let none : length (written_of writes (image ∷ images)) ≡ length (written_of writes images) = rw only refl in
+          let mark : image_size image ≡ 4 = ap (λ (b : Bool). if b then 4 else 4100) (All-head (IsBlank writes) image images blank (All-head (λ (i : Image). list_any (touches i.block) writes ≡ true) image images touched) only) in
+          omega (arith, rest, all, those, none, mark))
+    ]
 
 -- some block is touched by writes that all have bytes
 first_write : (n : ℕ) (kept : List Kept) → 0 < n → 0 < length kept → All (λ k. 0 < length k.write.bytes) kept → (b : ℕ) × Any (λ w. IsTouched w b) (map (λ k. k.write) (take n kept))
@@ -158,10 +214,21 @@ module _ (table : Held) (end : ℕ) (images : List Image) (list : List ℕ) (of_
     λ some. image_of_block images b (subst (λ l. Contains l b) (sym (of_blocks ∙ touched.keys_are)) (is_key touched.blocks.keys b (touched.are b ∙ touched_then b (writes_upto table end) some))),
   )
 
-  pub few_images : (room : ℕ) → TouchAtMost room (writes_upto table end) → length images ≤ room
-  few_images room most =
-      let less = fewer touched.blocks most.blocks.keys touched.ordered (keys_ascend most.blocks.keys most.ordered) (λ b has. is_key most.blocks.keys b (most.are b ∙ sym (touched.are b) ∙ has)) in
-      omega (arith, less, most.few, length-map images (λ (x : Image). x.block), ap length (of_blocks ∙ touched.keys_are))
+  pub few_bytes : (left : ℕ) → TakeAtMost left (writes_upto table end) → group_size (writes_upto table end) images ≤ left
+  few_bytes left most =
+      let writes = writes_upto table end in
+      let less = fewer touched.blocks most.touched.keys touched.ordered (keys_ascend most.touched.keys most.counted.touched_ordered) (λ b has. is_key most.touched.keys b (most.counted.are_touched b ∙ sym (touched.are b) ∙ has)) in
+      let passes = filter_passes (λ (i : Image). is_written writes i.block) images in
+      let within : All (Contains most.written.keys) (map (λ (i : Image). i.block) (written_of writes images)) = λ k d lt.
+      (let short : k < length (written_of writes images) = omega (arith, lt, length-map (written_of writes images) (λ (x : Image). x.block)) in
+      let none : Image = record { block = d; bytes = [] } in
+      let at = get_or-map (λ (x : Image). x.block) (written_of writes images) k none d short in
+      subst (Contains most.written.keys) (sym at) (is_key most.written.keys (get_or (written_of writes images) k none).block (most.counted.are_written (get_or (written_of writes images) k none).block ∙ passes k none short))) in
+      let fewer_written = no_more (map (λ (i : Image). i.block) (written_of writes images)) most.written.keys (written_ascend writes images ascending) (keys_ascend most.written.keys most.counted.written_ordered) within in
+      omega (arith, less, fewer_written, most.few, sized writes images, length-map images (λ (x : Image). x.block), length-map (written_of writes images) (λ (x : Image). x.block), ap length (of_blocks ∙ touched.keys_are))
+
+  pub all_touched : All (λ i. list_any (touches i.block) (writes_upto table end) ≡ true) images
+  all_touched = λ k d lt. touched_then (get_or images k d).block (writes_upto table end) ((covers (get_or images k d).block).0 (k, get_or images k d, lt, get_or_default images k (get_or images k d) d lt, refl))
 
   pub some_images : table.forgotten < end → end ≤ applied_of table → All (λ k. 0 < length k.write.bytes) table.kept → 0 < length images
   some_images above applied bytes =
@@ -195,7 +262,7 @@ begins_by about volume most limit node commit known near all group are = record 
   group = record { above = group.above; known = omega (arith, group.upto, known); most_writes = omega (arith, group.upto, near); whole = are; fits = group.fits };
   greatest = λ q others other. elim (cases_lt commit.front q) [
     | inl further ↦ absurd (elim (cases_lt commit.front limit) [
-      | inl below ↦ let much = group.greatest below in no_further about much.room commit.front volume most node q others much.too_much much.more further other
+      | inl below ↦ let much = group.greatest below in no_further about much.left commit.front volume most node q others much.too_much much.more further other
       | inr reached ↦ let within = all q other.known other.most_writes in omega arith
     ])
     | inr le ↦ le
@@ -203,6 +270,6 @@ begins_by about volume most limit node commit known near all group are = record 
   begun = refl;
 }
 
--- no group where the first write has too many blocks
+-- no group where the first write may take too much
 pub no_group : (about : About) (volume : List ℕ) (most : ℕ) (node : NodeState) (q : ℕ) (others : List Image) → IsTooMuch about (writes_upto node.table (durable_of node + 1)) → IsGroup (HasRoom about) volume most node q others → ⊥
-no_group about volume most node q others much group = no_further about much.room (durable_of node) volume most node q others much.too_much much.more group.above group
+no_group about volume most node q others much group = no_further about much.left (durable_of node) volume most node q others much.too_much much.more group.above group

@@ -3,7 +3,7 @@ use Rattle.std.proofs.Common.{◌≡◌, ◌≢◌, ℕ, zero, suc, ◌*◌, ◌
 use Rattle.std.specs.Prelude.{All, Any, fold}
 use Rattle.std.proofs.lemmas.Bool.{cases_Bool, eqb-true, eqb-false}
 use Rattle.std.proofs.lemmas.List.Elements.{All-head, All-map, All-tail, All-take}
-use Rattle.gate_journal.specs.declared.batch.Image.{Image}
+use Rattle.gate_journal.specs.Image.{Image}
 use Rattle.local_store.specs.Overlay.{placed, with_images}
 use Rattle.version_table.specs.Held.{Held, writes_upto}
 use Rattle.volume.specs.Volumes.{block_of-patched_untouched, length-block_of, length-patched, range-patched_own, same_from_blocks}
@@ -11,13 +11,13 @@ use Rattle.volume.specs.Writes.{Fits, IsTouched, Placed, block_of, patched}
 use Rattle.chain_steps.specs.Steps.{AreImagesOf}
 
 -- some of a list with one more in front
-Any-here : {X : Type 0} (P : X → Type 0) (x : X) (xs : List X) → P x → Any P (x ∷ xs)
+pub Any-here : {X : Type 0} (P : X → Type 0) (x : X) (xs : List X) → P x → Any P (x ∷ xs)
 Any-here P x xs has = (0, x, omega arith, refl, has)
 
-Any-later : {X : Type 0} (P : X → Type 0) (x : X) (xs : List X) → Any P xs → Any P (x ∷ xs)
+pub Any-later : {X : Type 0} (P : X → Type 0) (x : X) (xs : List X) → Any P xs → Any P (x ∷ xs)
 Any-later P x xs (k, y, lt, is, has) = (suc k, y, omega (arith, lt), is, has)
 
-Any-cases : {X : Type 0} (P : X → Type 0) (x : X) (xs : List X) → Any P (x ∷ xs) → P x ⊎ Any P xs
+pub Any-cases : {X : Type 0} (P : X → Type 0) (x : X) (xs : List X) → Any P (x ∷ xs) → P x ⊎ Any P xs
 Any-cases P x xs (zero, y, lt, is, has) = inl (subst P (sym is) has)
 Any-cases P x xs (suc k, y, lt, is, has) = inr (k, y, omega (arith, lt), is, has)
 

@@ -1,5 +1,6 @@
 mod Answering
 mod ArmedSteps
+mod Blanks
 mod Counting
 mod Grouping
 mod Images

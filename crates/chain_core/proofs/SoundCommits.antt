@@ -118,7 +118,7 @@ module _ (about : About) (keeping : Keeping) (node : NodeState) (is : IsSound ab
     way_applied = let way = is.under_way commit here in omega (arith, way.known, is.ahead)
 
     -- its store has the commit
-    pub sound_ended : (tells : About) (keeps : List ℕ → Type 0) → tells ≡ one_commit_more about commit.front (length commit.images)
+    pub sound_ended : (tells : About) (keeps : List ℕ → Type 0) → tells ≡ one_commit_more about commit.front commit.images
         → (keeping.premise → (volume : List ℕ) → keeping.keeps volume → keeps (with_images volume commit.images))
         → IsSound tells (record { premise = keeping.premise; keeps = keeps }) (ended commit.front node)
     sound_ended tells keeps same kept =

@@ -5,7 +5,9 @@ use Rattle.disk_model.specs.Moments.{started, then_run}
 use Rattle.disk_model.specs.declared.error.DiskError.{DiskError}
 use Rattle.local_store.specs.About.{About, meaning_with}
 use Rattle.local_store.specs.Meaning.{Means}
-use Rattle.chain_core.specs.Reads.{HasFailed, HasOnlyRead}
+use Rattle.chain_core.specs.Reads.{AreUnread, HasFailed, HasOnlyRead}
+use Rattle.chain_core.specs.declared.reading.Unread.{Unread}
+use Rattle.chain_core.specs.declared.reading.Unread.TheVariants as unread
 
 module _ {S : Type 0} {premise : Type 0} (about : S → About) (keeps : S → List ℕ → Type 0) (moment : S → ℕ) (left_since : S → ℕ → List ℕ → Type 0) (may_leave : S → List ℕ → Type 0)
     (means_now : premise → (store : S) (volume c : List ℕ) → keeps store volume → may_leave store c → Means (meaning_with (about store) volume) c)
@@ -43,6 +45,12 @@ module _ {S : Type 0} {premise : Type 0} {about : S → About} {failures : S →
       told = failed.told;
       failed = λ other. subst (λ n. n < failures new) so_far.fails (failed.failed other);
     }
+
+    -- reads that were cut short, after reads
+    pub unread_more : (why : Unread) → AreUnread about failures (HasOnlyRead premise about failures keeps moment left_since mid new) mid new why
+        → AreUnread about failures (HasOnlyRead premise about failures keeps moment left_since old new) old new why
+    unread_more unread.Memory more = one_more more.tells more.fails more.kept more.run
+    unread_more (unread.Device error) failed = failed_more error failed
 
     -- nothing more
     pub as_before : new ≡ mid → HasOnlyRead premise about failures keeps moment left_since old new

@@ -44,7 +44,7 @@ pub record HasEnded {S : Type 0} (about : S → About) (old new : Seen S) (out :
   pub node : new.state ≡ ended commit.front old.state
   pub sent : out ≡ record { messages = []; replies = [] }
   pub receipt_is : receipt ≡ record { slot = old.state.place.slot; front = commit.front }
-  pub tells : about new.store ≡ one_commit_more (about old.store) commit.front (length commit.images)
+  pub tells : about new.store ≡ one_commit_more (about old.store) commit.front commit.images
 
 -- The store did its work, and tells this: the member's state is as it was, and nothing goes out.
 pub record HasWorked {S : Type 0} (about : S → About) (tells : About) (old new : Seen S) (out : Out) : Type 0 where

@@ -4,7 +4,7 @@ use Rattle.std.specs.Option.{ForSome}
 use Rattle.board.specs.Seats.{BoardId, FoundFront}
 use Rattle.flush_barrier.specs.Reply.{GivenReply}
 use Rattle.gate_journal.specs.declared.batch.TheConstants.{MAX_NUMBER}
-use Rattle.gate_journal.specs.Batch.{AreImages}
+use Rattle.gate_journal.specs.Batch.{AreImages, images_size}
 use Rattle.local_store.specs.About.{About, HasRoom, IsOfVersionTwo}
 use Rattle.version_table.specs.Held.{writes_upto}
 use Rattle.volume.specs.Writes.{Fits}
@@ -48,7 +48,7 @@ pub record IsUnderWay (about : About) (node : NodeState) (commit : Commit) : Typ
   pub above : durable_of node < commit.front
   pub known : commit.front ≤ node.known
   pub images : AreImages about.geometry.blocks commit.images
-  pub room : HasRoom about (length commit.images)
+  pub room : HasRoom about (images_size commit.images)
 
 -- what a store keeps: such volumes, under the premise
 pub record Keeping : Type 1 where

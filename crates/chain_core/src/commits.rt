@@ -4,7 +4,7 @@ ghost use Rattle.disk_model.specs.Disk.{LeavesOnly};
 ghost use Rattle.disk_model.specs.declared.error.DiskError.TheVariants.{ReadFault, WriteFault};
 ghost use Rattle.disk_model.specs.Error.{MayTell};
 ghost use Rattle.gate_journal.specs.declared.batch.TheConstants.{MAX_NUMBER};
-ghost use Rattle.gate_journal.specs.declared.batch.Image.{Image as Imaged};
+ghost use Rattle.gate_journal.specs.Image.{Image as Imaged};
 ghost use Rattle.local_store.specs.About.{HasNeighbours, HasRoom, IsOneLess, IsWithoutRun, meaning_with, one_checkpoint_more};
 ghost use Rattle.local_store.specs.Meaning.{Means};
 ghost use Rattle.chain_steps.specs.Node.{is_stopped};
@@ -200,7 +200,7 @@ impl<S: StoreLike + Drop> Node<S> {
         if self.stopped.is_some() {
             return Err(Refusal::Stopped);
         }
-        match self.store.tick_run(self.alloc, most) {
+        match self.store.tick_run(most) {
             Ok(given) => Ok((self.nothing(), given)),
             Err(StoreRefusal::Memory) => Err(Refusal::Memory),
             Err(StoreRefusal::Device(error)) => {

@@ -2,7 +2,7 @@
 use Rattle.std.specs.Prelude.{ℕ, Bool, Option, List, is_some}
 use Rattle.board.specs.Seats.{BoardId}
 use Rattle.flush_barrier.specs.Reply.{GivenReply}
-use Rattle.gate_journal.specs.declared.batch.Image.{Image}
+use Rattle.gate_journal.specs.Image.{Image}
 use Rattle.version_table.specs.Held.{Held, applied_of}
 use Rattle.chain_steps.specs.Place.{Standing}
 use Rattle.chain_steps.specs.declared.cause.Cause.{Cause}

@@ -1,13 +1,15 @@
 -- The steps of one member of a chain.
-use Rattle.std.specs.Prelude.{◌≡◌, ◌↔◌, ℕ, ◌+◌, ◌<◌, ◌≤◌, max, Bool, ◌&&◌, ◌||◌, ◌==◌, not, nat_lt, nat_le, if◌then◌else◌, Option, Some, None, List, [], ◌∷◌, ◌++◌, length, map, filter, fold, take, drop, All, AllPairs, Any}
+use Rattle.std.specs.Prelude.{◌≡◌, ◌↔◌, ℕ, ◌+◌, ◌*◌, ◌<◌, ◌≤◌, max, Bool, ◌&&◌, ◌||◌, ◌==◌, not, nat_lt, nat_le, if◌then◌else◌, Option, Some, None, List, [], ◌∷◌, ◌++◌, length, map, filter, fold, take, drop, All, AllPairs, Any}
+use Rattle.std.specs.List.{count_by, list_any}
 use Rattle.flush_barrier.specs.Owed.{Owed, OwedAt}
 use Rattle.flush_barrier.specs.declared.error_code.ErrorCode.TheVariants.{Io}
-use Rattle.gate_journal.specs.declared.batch.Image.{Image}
+use Rattle.gate_journal.specs.Image.{Image}
 use Rattle.gate_journal.specs.declared.batch.TheConstants.{MAX_NUMBER}
 use Rattle.version_table.specs.Held.{data_of, forgotten_to, with_write, writes_upto}
-use Rattle.volume.specs.Body.{kept_of}
+use Rattle.version_table.specs.Whole.{has_whole}
+use Rattle.volume.specs.Body.{is_zeros, kept_of}
 use Rattle.version_table.specs.declared.kept.Origin.{Origin}
-use Rattle.volume.specs.Writes.{Placed, IsTouched, block_of, patched}
+use Rattle.volume.specs.Writes.{Placed, IsTouched, block_of, patched, touches}
 use Rattle.chain_steps.specs.Node.{Delivery, NodeState, Refused, Stepped, Taken, durable_of, epoch_of, is_stopped, last_of}
 use Rattle.chain_steps.specs.Place.{head_of, incarnation_in, is_head, predecessor_of, successor_of}
 use Rattle.chain_steps.specs.Waiting.{bound, is_committed, is_paid_flush, is_paid_write, is_read, learned, reply_to, reply_with, waits_for}
@@ -205,13 +207,26 @@ pub record AreImagesOf (volume : List ℕ) (writes : List Placed) (images : List
   pub touched : (b : ℕ) → Any (λ image. image.block ≡ b) images ↔ Any (λ w. IsTouched w b) writes
   pub bytes : All (λ image. image.bytes ≡ block_of (fold patched volume writes) image.block) images
 
--- the writes above the durable front up to p can be one batch, which `Fits` says of so many images
+-- whether a write makes the whole block zeros
+abbrev pub blanks : ℕ → Placed → Bool
+blanks block w = has_whole block w && is_zeros w.bytes
+
+-- whether one of the writes does more to the block than that
+abbrev pub is_written : List Placed → ℕ → Bool
+is_written writes block = list_any (λ w. touches block w && not (blanks block w)) writes
+
+-- The bytes that the images of these writes may take in a batch: where the writes only make the whole block zeros, 4, and else
+-- 4,096 more.
+abbrev pub group_size : List Placed → List Image → ℕ
+group_size writes images = 4 * length images + 4096 * count_by (λ image. is_written writes image.block) images
+
+-- the writes above the durable front up to p can be one batch, which `Fits` says of its images' bytes
 pub record IsGroup (Fits : ℕ → Type 0) (volume : List ℕ) (most : ℕ) (node : NodeState) (p : ℕ) (images : List Image) : Type 0 where
   pub above : durable_of node < p
   pub known : p ≤ node.known
   pub most_writes : p ≤ durable_of node + most
   pub whole : AreImagesOf volume (writes_upto node.table p) images
-  pub fits : Fits (length images)
+  pub fits : Fits (group_size (writes_upto node.table p) images)
 
 -- A commit begins up to the greatest such p.
 pub record Begins (Fits : ℕ → Type 0) (volume : List ℕ) (most : ℕ) (old new : NodeState) : Type 0 where

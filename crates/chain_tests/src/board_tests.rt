@@ -3,6 +3,7 @@ ghost use Rattle.std.specs.Prelude.{◌≡◌, ◌<◌, All, IfSome, length, sli
 
 use crate::comparing::{same, same_at};
 use board::{Board, Floor, Refusal, Seat};
+use bytes::Bytes;
 use disk_model::{MemDisk, Part, Script};
 use gate_journal::{IMAGE_SIZE, Image, Journal, Slot, Synced};
 use std::alloc::Global;
@@ -46,13 +47,11 @@ fn receipt(rt: &impl Abort, alloc: Global, slot: Slot, front: u64) -> Synced {
     let mut disk = MemDisk::new(alloc, 10_000, Script::new(alloc)).expect(rt, "memory");
     let part = Part::new(0, 10_000);
     let mut journal = Journal::create(&mut disk, part, slot, 1, 0).expect(rt, "a journal");
-    let image = Image {
-        block: 0,
-        bytes: [7; IMAGE_SIZE],
-    };
-    assert!(rt; 0 < front && front < 100 && journal.are_images(&[image]));
+    let bytes = Bytes::copy_from_slice(alloc, &[7; IMAGE_SIZE]).expect(rt, "memory");
+    let images = [Image::new(0, bytes)];
+    assert!(rt; 0 < front && front < 100 && journal.are_images(&images));
     journal
-        .append(alloc, &mut disk, front, &[image])
+        .append(&mut Vec::new(alloc), &mut disk, front, &images)
         .expect(rt, "the disk writes")
 }
 

@@ -203,7 +203,7 @@ fn option_replies_with_data(rt: HostRuntime) {
         (
             7,
             OptionReply::Export { size: SIZE },
-            b"\0\0\0\x07\0\0\0\x03\0\0\0\x0c\0\0\0\0\0\0\0\0\x80\0\x01\x0d".as_slice(),
+            b"\0\0\0\x07\0\0\0\x03\0\0\0\x0c\0\0\0\0\0\0\0\0\x80\0\x01\x4d".as_slice(),
         ),
         (
             7,
@@ -222,7 +222,7 @@ fn option_replies_with_data(rt: HostRuntime) {
 
 #[test]
 fn exports(rt: HostRuntime) {
-    let export = b"\0\0\0\0\0\0\x80\0\x01\x0d";
+    let export = b"\0\0\0\0\0\0\x80\0\x01\x4d";
     let mut out = BytesMut::new(rt.alloc());
     write_export(&mut out, SIZE, true).expect(&rt, "memory");
     same(&rt, out.as_slice(), export.as_slice());

@@ -23,7 +23,7 @@ const AREA: u32 = 8_214;
 const HELLO: &[u8] = b"\0\0\0\x03IHAVEOPT\0\0\0\x01\0\0\0\0";
 
 /// The greeting, and the size and flags of the export.
-const WELCOME: &[u8] = b"NBDMAGICIHAVEOPT\0\x03\0\0\0\0\0\0\x80\0\x01\x0d";
+const WELCOME: &[u8] = b"NBDMAGICIHAVEOPT\0\x03\0\0\0\0\0\0\x80\0\x01\x4d";
 
 /// Client flags, and GO with the sizes of requests.
 const GO: &[u8] = b"\0\0\0\x03IHAVEOPT\0\0\0\x07\0\0\0\x08\0\0\0\0\0\x01\0\x03";
@@ -316,7 +316,7 @@ const ROWS: [Row; 7] = [
         seen: &[WRITE_SEEN],
         out: &[
             b"NBDMAGICIHAVEOPT\0\x03",
-            b"\0\x03\xe8\x89\x04\x55\x65\xa9\0\0\0\x07\0\0\0\x03\0\0\0\x0c\0\0\0\0\0\0\0\0\x80\0\x01\x0d",
+            b"\0\x03\xe8\x89\x04\x55\x65\xa9\0\0\0\x07\0\0\0\x03\0\0\0\x0c\0\0\0\0\0\0\0\0\x80\0\x01\x4d",
             b"\0\x03\xe8\x89\x04\x55\x65\xa9\0\0\0\x07\0\0\0\x03\0\0\0\x0e\0\x03\0\0\0\x01\0\0\x10\0\0\0\x10\0",
             b"\0\x03\xe8\x89\x04\x55\x65\xa9\0\0\0\x07\0\0\0\x01\0\0\0\0",
             WRITTEN,

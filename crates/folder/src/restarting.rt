@@ -250,16 +250,17 @@ fn alone_behind(
 }
 
 impl<D: Disk + Drop> Opened<D> {
-    ghost use Rattle.std.specs.Prelude.{◌≡◌, ◌⊎◌, ℕ, List, IfErr, OnOk};
+    ghost use Rattle.std.specs.Prelude.{◌≡◌, ◌⊎◌, ℕ, List, true, IfErr, IsOk, OnErr, OnOk};
     ghost use Rattle.disk_model.specs.Disk.{LeavesOnly};
     ghost use Rattle.folder.specs.Found.{IsRunning};
     ghost use Rattle.local_store.specs.About.{IsOfVersionTwo, meaning_with, migrated};
     ghost use Rattle.local_store.specs.Meaning.{Means};
     ghost use Rattle.local_store.specs.Refusal as store;
 
-    /// Brings the source's disk to version 2, if it is one of version 1: its record is durable by then. Nothing else changes.
+    /// Brings the source's disk to version 2, if it is one of version 1: its record is durable by then. Nothing else changes,
+    /// and of a disk of version 2 nothing at all.
     ///
-    /// What the device refuses: then the store is broken, and its disk means what it meant.
+    /// What the device refuses: then the store is broken, all else that it tells is as before, and its disk means what it meant.
     pub fn migrate(&mut self) -> Result<(), local_store::Refusal>
         requires running { IsRunning ⟦<Store<D> as StoreLike>⟧.about self.old.store }
         requires keeps { D.keeps_model → (volume : List ℕ) × ⟦<Store<D> as StoreLike>⟧.keeps self.old.store volume }
@@ -267,7 +268,8 @@ impl<D: Disk + Drop> Opened<D> {
         ensures version { OnOk result (IsOfVersionTwo (⟦<Store<D> as StoreLike>⟧.about self.new.store)) }
         ensures about { OnOk result ((⟦<Store<D> as StoreLike>⟧.about self.new.store ≡ ⟦<Store<D> as StoreLike>⟧.about self.old.store)
             ⊎ (⟦<Store<D> as StoreLike>⟧.about self.new.store ≡ migrated (⟦<Store<D> as StoreLike>⟧.about self.old.store))) }
-        ensures untouched { IsOfVersionTwo (⟦<Store<D> as StoreLike>⟧.about self.old.store) → self.new ≡ self.old }
+        ensures untouched { IsOfVersionTwo (⟦<Store<D> as StoreLike>⟧.about self.old.store) → IsOk result × (self.new ≡ self.old) }
+        ensures err { D.keeps_model → OnErr result (⟦<Store<D> as StoreLike>⟧.about self.new.store ≡ record (⟦<Store<D> as StoreLike>⟧.about self.old.store) { broken = true }) }
         ensures kept { D.keeps_model → (volume : List ℕ) → ⟦<Store<D> as StoreLike>⟧.keeps self.old.store volume → OnOk result (⟦<Store<D> as StoreLike>⟧.keeps self.new.store volume) }
 
         // A stop at any moment of the call leaves what means what it meant.

@@ -9,7 +9,7 @@ use Rattle.disk_model.specs.Part.{inside, IsApart, LeftInside, TouchesOnly}
 use Rattle.disk_model.specs.declared.part.Part.{Part}
 use Rattle.gate_journal.specs.Pair.{HasGate, HoldsSlot, IsTornIn, Uncovers, entry_encoding, slot_bytes}
 use Rattle.gate_journal.specs.Reading.{HoldsAt}
-use Rattle.gate_journal.proofs.Entries.{heads_apart}
+use Rattle.gate_journal.proofs.Encodings.{heads_apart}
 use Rattle.gate_journal.proofs.Pairs.{range_bytes}
 use Rattle.gate_journal.proofs.Runs.{Tears, torn_once}
 use Rattle.gate_journal.proofs.Standing.{stands_before, stands_put}

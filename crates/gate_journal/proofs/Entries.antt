@@ -12,21 +12,12 @@ use Rattle.gate_journal.specs.Reading.{HoldsAt}
 use Rattle.gate_journal.specs.declared.pair_slot.EntryHead.{EntryHead}
 use Rattle.gate_journal.proofs.Appending.{torn_behind, put_behind, torn_gate}
 use Rattle.gate_journal.proofs.Lists.{same_halves}
-use Rattle.gate_journal.proofs.Encodings.{numbers_apart}
+use Rattle.gate_journal.proofs.Encodings.{heads_apart}
 use Rattle.gate_journal.proofs.Standing.{stands_before}
 
 -- the widths stand as variables, so that nothing computes
 abbrev body : ℕ → ℕ → Entry → List ℕ
 body w m e = big_bytes w e.number ++ big_bytes m (length e.payload) ++ e.payload
-
--- two numbers and bytes in front of something
-pub heads_apart : (w m f n f' n' : ℕ) (u t r : List ℕ) → f < 256 ^ w → f' < 256 ^ w → n < 256 ^ m → n' < 256 ^ m → (big_bytes w f ++ big_bytes m n) ++ u ≡ (big_bytes w f' ++ big_bytes m n' ++ t) ++ r → (f ≡ f') × (n ≡ n') × (u ≡ t ++ r)
-heads_apart w m f n f' n' u t r front front' count count' e =
-    let right : (big_bytes w f' ++ big_bytes m n' ++ t) ++ r ≡ big_bytes w f' ++ (big_bytes m n' ++ (t ++ r)) =
-    append_assoc (big_bytes w f' ++ big_bytes m n') t r ∙ append_assoc (big_bytes w f') (big_bytes m n') (t ++ r) in
-    let fronts = numbers_apart w f f' (big_bytes m n ++ u) (big_bytes m n' ++ (t ++ r)) front front' (sym (append_assoc (big_bytes w f) (big_bytes m n) u) ∙ e ∙ right) in
-    let counts = numbers_apart m n n' u (t ++ r) count count' fronts.1 in
-    (fronts.0, counts.0, counts.1)
 
 bodies_apart : (w m : ℕ) (x y : Entry) (r s : List ℕ) → x.number < 256 ^ w → y.number < 256 ^ w → length x.payload < 256 ^ m → length y.payload < 256 ^ m → body w m x ++ r ≡ body w m y ++ s → x ≡ y
 bodies_apart w m x y r s number number' len len' e =

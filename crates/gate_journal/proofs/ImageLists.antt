@@ -8,7 +8,7 @@ use Rattle.std.proofs.lemmas.List.Elements.{recursion_from_All}
 use Rattle.std.proofs.lemmas.List.Folds.{Any-from_list_any}
 use Rattle.std.proofs.lemmas.List.Quantifiers.{all_pairs_push}
 use Rattle.std.proofs.lemmas.Map.Steps.{length-le_from_distinct_below}
-use Rattle.gate_journal.specs.declared.batch.Image.{Image}
+use Rattle.gate_journal.specs.Image.{Image}
 use Rattle.gate_journal.specs.Batch.{AreImages}
 
 abbrev pub none : Image

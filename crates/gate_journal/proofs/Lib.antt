@@ -4,8 +4,10 @@ mod Bodies
 mod Clearing
 mod Entries
 mod ImageLists
+mod Images
 mod Lists
 mod Loading
+mod Marks
 mod PairSteps
 mod Pairs
 mod Readings

@@ -1,4 +1,5 @@
 pub mod Batch
+pub mod Image
 pub mod Journal
 pub mod Pair
 pub mod PairSlot

@@ -1,8 +1,8 @@
-ghost use Rattle.std.specs.Prelude.{◌≡◌, ◌≢◌, ◌++◌, ◌+◌, ◌^◌, ◌<◌, ◌≤◌, ◌↔◌, ℕ, length, All, AllPairs, IfOk, OnOk, IsTrue};
-ghost use Rattle.byteorder.specs.Endian.{big_bytes};
+ghost use Rattle.std.specs.Prelude.{◌≡◌, ◌≢◌, ◌++◌, ◌+◌, ◌^◌, ◌<◌, ◌≤◌, ◌↔◌, ℕ, length, replicate, All, AllPairs, IfOk, OnOk, IsTrue};
 ghost use Rattle.gate_journal.specs.Batch.{AreImages, IsWhole, batch_size, encoding_behind_gate};
 
-use std::alloc::{AllocError, Global};
+use crate::image::Image;
+use std::alloc::AllocError;
 use std::marker::Model;
 
 /// The bytes of an image: a block.
@@ -11,8 +11,14 @@ pub const IMAGE_SIZE: usize = 4_096;
 /// The bytes of a batch beside its images: a gate, a front and a count.
 pub const BATCH_HEADER: u64 = 13;
 
-/// The bytes of an image with its block's number.
+/// The bytes of an image in a batch, with its block's number.
 pub const IMAGE_RECORD: u64 = 4_100;
+
+/// The bytes of a mark, which stands for an image of zeros.
+pub const MARK_SIZE: u64 = 4;
+
+/// The bit of a block's number that makes it a mark.
+pub(crate) const MARK_BIT: u32 = 1 << 31;
 
 /// How many blocks a volume can have.
 pub const MAX_BLOCKS: u32 = 65_536;
@@ -25,15 +31,6 @@ pub const CLOSED: u8 = 0;
 
 /// A gate that shows the batch behind it.
 pub const OPEN: u8 = 1;
-
-/// What a block is to hold.
-#[derive(Clone, Copy, Debug, PartialEq, Eq)]
-pub struct Image {
-    /// The block's number.
-    pub block: u32,
-    /// Its bytes.
-    pub bytes: [u8; IMAGE_SIZE],
-}
 
 /// A batch: the front after it, and its images.
 #[derive(Debug, Drop)]
@@ -72,14 +69,16 @@ impl Batch {
     }
 }
 
-/// How many images a batch can have from a place on, with a closed gate behind it.
-pub(crate) fn room_behind(end: u64, len: u64) -> u64
-    requires { end ≤ len }
-    ensures fits { (count : ℕ) → 0 < count → count ≤ result → end + batch_size count + 1 ≤ len }
-    ensures too_much { (count : ℕ) → result < count → len < end + batch_size count + 1 }
-    ensures small { result ≤ len }
+/// The bytes of a batch of these images, which are at most 65,536.
+pub fn batch_size(images: &[Image]) -> u64
+    requires { length images.now ≤ MAX_BLOCKS }
+    ensures { result ≡ batch_size images.now }
 {
-    (len - end).saturating_sub(BATCH_HEADER + 1) / IMAGE_RECORD
+    let mut size = BATCH_HEADER;
+    for image in images {
+        size += image.size();
+    }
+    size
 }
 
 /// Whether images are a batch of a volume of so many blocks.
@@ -87,7 +86,7 @@ pub(crate) fn are_images(blocks: u32, images: &[Image]) -> bool
     requires { blocks ≤ MAX_BLOCKS }
     ensures { IsTrue result ↔ AreImages blocks images.now }
 {
-    !images.is_empty() && images.iter().all(|image| image.block < blocks) && has_each_once(images)
+    !images.is_empty() && images.iter().all(|image| image.block() < blocks) && has_each_once(images)
 }
 
 /// Whether no block stands twice, in one pass. The blocks are those of a volume.
@@ -97,7 +96,7 @@ fn has_each_once(images: &[Image]) -> bool
 {
     let mut seen = [false; MAX_BLOCKS as usize];
     for image in images {
-        let block = image.block as usize;
+        let block = image.block() as usize;
         if seen[block] {
             return false;
         }
@@ -106,25 +105,28 @@ fn has_each_once(images: &[Image]) -> bool
     true
 }
 
-/// The bytes of a batch behind its gate, and the closed gate behind the batch.
-pub(crate) fn encoded_behind_gate(
-    alloc: Global,
+/// Puts the bytes of a batch behind its gate, and the closed gate behind the batch, into a buffer, in place of what it held. The
+/// batch has so many bytes in all.
+pub(crate) fn encode_behind_gate(
+    buffer: &mut Vec<u8>,
     front: u64,
     images: &[Image],
-) -> Result<Vec<u8>, AllocError>
-    requires { length images.now < 2 ^ 32 }
-    ensures encoding { IfOk result (λ bytes. bytes.items ≡ encoding_behind_gate front images.now) }
-    ensures len { IfOk result (λ bytes. length bytes.items ≡ batch_size (length images.now)) }
+    size: u64,
+) -> Result<(), AllocError>
+    requires few { length images.now < 2 ^ 32 }
+    requires within { All (λ image. image.block < MAX_BLOCKS) images.now }
+    requires size { size ≡ batch_size images.now }
+    ensures encoding { OnOk result (buffer.new.items ≡ encoding_behind_gate front images.now) }
+    ensures len { OnOk result (length buffer.new.items ≡ size) }
     ensures whole { OnOk result (All IsWhole images.now) }
 {
-    let size = BATCH_HEADER + IMAGE_RECORD * images.len() as u64;
-    let mut bytes = Vec::with_capacity(alloc, size as usize)?;
-    bytes.extend_from_slice(&front.to_be_bytes())?;
-    bytes.extend_from_slice(&(images.len() as u32).to_be_bytes())?;
+    buffer.clear();
+    buffer.reserve(size as usize)?;
+    buffer.extend_from_slice(&front.to_be_bytes())?;
+    buffer.extend_from_slice(&(images.len() as u32).to_be_bytes())?;
     for image in images {
-        bytes.extend_from_slice(&image.block.to_be_bytes())?;
-        bytes.extend_from_slice(&image.bytes)?;
+        image.encode_to(buffer)?;
     }
-    bytes.push(CLOSED)?;
-    Ok(bytes)
+    buffer.push(CLOSED)?;
+    Ok(())
 }

@@ -7,10 +7,11 @@ ghost use Rattle.gate_journal.specs.Refusal.{HasCause, IsOfAppending, IsOfDevice
 ghost use Rattle.gate_journal.specs.Runs.{OnlyReads, WasTorn};
 
 use crate::batch::{
-    BATCH_HEADER, Batch, CLOSED, IMAGE_RECORD, Image, MAX_BLOCKS, MAX_NUMBER, OPEN, are_images,
-    encoded_behind_gate, room_behind,
+    BATCH_HEADER, Batch, CLOSED, MAX_BLOCKS, MAX_NUMBER, OPEN, are_images, batch_size,
+    encode_behind_gate,
 };
 use crate::durable::write_durably;
+use crate::image::Image;
 use crate::refusal::Refusal;
 use crate::slot::Slot;
 use crate::synced::Synced;
@@ -45,7 +46,7 @@ impl Model for Journal {
 }
 
 impl Journal {
-    ghost use Rattle.gate_journal.specs.Journal.{Fits, IsSettled, IsEncoded, IsTooMuch, appended, behind_border};
+    ghost use Rattle.gate_journal.specs.Journal.{HasNoRoom, HasRoom, IsSettled, IsEncoded, IsTooMuch, appended, behind_border};
 
     /// An empty journal in a part of a disk, of 1 byte to 2^32 - 1, for the blocks 0 to `blocks - 1`, at most 65,536, of
     /// the member at the slot; the first batch will have a front above `front`. The part lies within the disk. It writes a
@@ -160,13 +161,13 @@ impl Journal {
         are_images(self.blocks, images)
     }
 
-    /// How many images the next batch can have.
-    pub fn room(&self) -> u64
-        ensures fits { (count : ℕ) → 0 < count → count ≤ result → Fits self.now count }
-        ensures too_much { (count : ℕ) → result < count → IsTooMuch self.now count }
+    /// How many bytes the images of the next batch may take, at least one, with a closed gate behind them.
+    pub fn left(&self) -> u64
+        ensures left { (size : ℕ) → 0 < size → size ≤ result → HasRoom self.now size }
+        ensures too_much { (size : ℕ) → result < size → HasNoRoom self.now size }
         ensures small { result < 2 ^ 32 }
     {
-        room_behind(self.end, self.part.len())
+        (self.part.len() - self.end).saturating_sub(BATCH_HEADER + 1)
     }
 
     /// Whether a device call failed: then `append` and `read_all` are refused with 122, until it is opened again.
@@ -192,26 +193,33 @@ impl Journal {
         }
     }
 
-    /// Notes a batch of so many images, with this front, which its twin appended. The batch fits.
-    pub fn note(&mut self, front: u64, count: u32)
-        requires { Fits self.old count }
-        ensures { self.new ≡ appended self.old front count }
+    /// Whether a batch of so many bytes fits behind the last one, with a closed gate behind it.
+    pub fn fits(&self, size: u64) -> bool
+        ensures { IsTrue result ↔ (self.now.end + size + 1 ≤ self.now.part.len) }
     {
-        self.front = front;
-        self.end += BATCH_HEADER + IMAGE_RECORD * u64::from(count);
+        size < self.part.len() - self.end
     }
 
-    /// Appends a batch by four device calls: the batch behind its closed gate, with the closed gate of the next one;
-    /// a sync; the opened gate; a sync. After it the whole disk is durable. The receipt is of the batch's front, which is above the last one and at most
-    /// 2^63 - 1; its images are at least one, each of a block of the volume, no block twice. The journal's part lies within
-    /// the disk.
+    /// Notes a batch of so many bytes, with this front, which its twin appended. The batch fits.
+    pub fn note(&mut self, front: u64, size: u64)
+        requires { self.old.end + size + 1 ≤ self.old.part.len }
+        ensures { self.new ≡ record self.old { front = front; end = self.old.end + size } }
+    {
+        self.front = front;
+        self.end += size;
+    }
+
+    /// Appends a batch, its images of zeros as marks, by four device calls: the batch behind its closed gate, with the closed
+    /// gate of the next one; a sync; the opened gate; a sync. After it the whole disk is durable. The receipt is of the batch's
+    /// front, which is above the last one and at most 2^63 - 1; its images are at least one, each of a block of the volume, no
+    /// block twice. The journal's part lies within the disk. The batch is put together in `buffer`, in place of what that held.
     ///
     /// 122 `Broken` exactly where a device call failed before; else 121 `Full` exactly where the batch doesn't fit; else
     /// 100 `Memory`: these change nothing. After a refusal of the device the journal is broken, and the part holds the
     /// batches from before, with the new one or without.
     pub fn append<D: Disk>(
         &mut self,
-        alloc: Global,
+        buffer: &mut Vec<u8>,
         disk: &mut D,
         front: u64,
         images: &[Image],
@@ -222,7 +230,7 @@ impl Journal {
         requires limit { front ≤ MAX_NUMBER }
 
         ensures receipt { IfOk result (λ receipt. receipt ≡ record { slot = self.old.slot; front = front }) }
-        ensures ok { OnOk result (self.new ≡ appended self.old front (length images.now)) }
+        ensures ok { OnOk result (self.new ≡ appended self.old front images.now) }
         ensures settled { D.keeps_model → (batches : List Batch)
             → IsSettled self.old batches (D.gives disk.old) (D.may_leave_now disk.old)
             → OnOk result (IsSettled self.new (batches ++ record { front = front; images = images.now } ∷ []) (D.gives disk.new) (D.may_leave_now disk.new)) }
@@ -241,7 +249,7 @@ impl Journal {
         ensures size { D.size disk.new ≡ D.size disk.old }
 
         ensures broken { IsErrOf result Refusal.Broken ↔ (self.old.broken ≡ true) }
-        ensures full { IsErrOf result Refusal.Full ↔ ((self.old.broken ≡ false) × IsTooMuch self.old (length images.now)) }
+        ensures full { IsErrOf result Refusal.Full ↔ ((self.old.broken ≡ false) × IsTooMuch self.old images.now) }
         ensures told { IfErr result IsOfAppending }
         ensures err { OnErr result (self.new ≡ record self.old { broken = self.new.broken }) }
         ensures unchanged { IfErr result (λ r. ¬ IsOfDevice r → (self.new ≡ self.old) × (disk.new ≡ disk.old)) }
@@ -252,16 +260,16 @@ impl Journal {
         if self.broken {
             return Err(Refusal::Broken);
         }
-        if self.room() < images.len() as u64 {
+        let size = batch_size(images);
+        if !self.fits(size) {
             return Err(Refusal::Full);
         }
-        let body = encoded_behind_gate(alloc, front, images)?;
-        if let Err(error) = self.write_batch(disk, &body) {
+        encode_behind_gate(buffer, front, images, size)?;
+        if let Err(error) = self.write_batch(disk, buffer) {
             self.broken = true;
             return Err(Refusal::Device(error));
         }
-        self.front = front;
-        self.end += BATCH_HEADER + IMAGE_RECORD * images.len() as u64;
+        self.note(front, size);
         Ok(Synced::new(self.slot, front))
     }
 
@@ -311,7 +319,7 @@ impl Journal {
         requires on_disk { self.now.part.start + self.now.part.len ≤ D.size disk.old }
         ensures settled { D.keeps_model → (batches : List Batch) (batch : Batch)
             → IsSettled self.now batches (D.gives disk.old) (D.may_leave_now disk.old) → IsEncoded self.now batch body.now
-            → OnOk result (IsSettled (appended self.now batch.front (length batch.images)) (batches ++ batch ∷ []) (D.gives disk.new) (D.may_leave_now disk.new)) }
+            → OnOk result (IsSettled (appended self.now batch.front batch.images) (batches ++ batch ∷ []) (D.gives disk.new) (D.may_leave_now disk.new)) }
         ensures any_moment { D.keeps_model → (batches : List Batch) (batch : Batch)
             → IsSettled self.now batches (D.gives disk.old) (D.may_leave_now disk.old) → IsEncoded self.now batch body.now
             → LeavesOnly D.moment D.may_have_left_since disk.old disk.new

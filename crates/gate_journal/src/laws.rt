@@ -1,7 +1,8 @@
 //! Laws of what an area or a pair holds, for callers that argue about whole areas. The functions do nothing.
 
-ghost use Rattle.std.specs.Prelude.{◌≡◌, ◌+◌, ◌-◌, ◌^◌, ℕ, List, Some, None};
-ghost use Rattle.gate_journal.specs.Batch.{Batch, HoldsBatches};
+ghost use Rattle.std.specs.Prelude.{◌≡◌, ◌+◌, ◌-◌, ◌^◌, ◌≤◌, ℕ, List, Some, None, length};
+ghost use Rattle.gate_journal.specs.Batch.{AreImages, Batch, HoldsBatches};
+ghost use Rattle.gate_journal.specs.Image.{Image as Imaged};
 ghost use Rattle.gate_journal.specs.Pair.{Entry, HoldsPair, Slots, last_number, newest, next_slot, with_entry};
 
 use crate::batch::{MAX_BLOCKS, MAX_NUMBER};
@@ -12,6 +13,11 @@ use crate::pair_slot::MAX_PAYLOAD;
 pub fn readings_are_one()
     ensures { (blocks before : ℕ) (some others : List Batch) (area : List ℕ) →
         HoldsBatches blocks before some area → HoldsBatches blocks before others area → some ≡ others }
+{}
+
+/// No batch has more images than the volume has blocks.
+pub fn batches_are_small()
+    ensures { (blocks : ℕ) (images : List Imaged) → AreImages blocks images → length images ≤ blocks }
 {}
 
 /// The bytes of a pair have one reading at most.

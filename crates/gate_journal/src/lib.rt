@@ -11,6 +11,7 @@
 
 mod batch;
 mod durable;
+mod image;
 mod journal;
 mod laws;
 mod pair;
@@ -21,10 +22,12 @@ mod slot;
 mod synced;
 mod walking;
 
-pub use batch::{Batch, IMAGE_SIZE, Image, MAX_BLOCKS, MAX_NUMBER};
+pub use batch::{Batch, IMAGE_SIZE, MAX_BLOCKS, MAX_NUMBER, batch_size};
+pub use image::{Content, Image};
 pub use journal::Journal;
 pub use laws::{
-    limits_are_the_formats, pair_readings_are_one, readings_are_one, stores_leave_old_or_new,
+    batches_are_small, limits_are_the_formats, pair_readings_are_one, readings_are_one,
+    stores_leave_old_or_new,
 };
 pub use pair::{GatedPair, PAIR_SIZE};
 pub use pair_slot::MAX_PAYLOAD;

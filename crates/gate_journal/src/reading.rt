@@ -1,20 +1,20 @@
-// What stands in a part of a disk, read and tested. Memory is taken only behind a header that may be a batch's, for the
-// images that it counts.
+// What stands in a part of a disk, read and tested. Memory is taken for images alone that were read.
 ghost use Rattle.std.specs.Prelude.{◌≡◌, ◌≢◌, ◌+◌, ◌*◌, ◌<◌, ◌≤◌, ◌++◌, [], ◌∷◌, ℕ, List, length, drop, All, IfOk, IfErr, IfSome, OnOk, IsErrOf, IsTrue, ◌↔◌};
-ghost use Rattle.std.specs.List.{flat_map};
 ghost use Rattle.byteorder.specs.Endian.{big_bytes};
 ghost use Rattle.disk_model.specs.Part.{inside};
-ghost use Rattle.gate_journal.specs.Batch.{IsBatch, IsDamaged, IsWhole, batch_size, batch_encoding, image_encoding};
-ghost use Rattle.gate_journal.specs.Reading.{HasNoBatch, IsFound, HoldsAt};
+ghost use Rattle.gate_journal.specs.Batch.{EncodesBatch, EncodesImage, InTurn, IsBatch, IsDamaged, IsWhole};
+ghost use Rattle.gate_journal.specs.Reading.{HasNoBatch, HasNoImage, HasNoImages, HoldsAt, HoldsTo, IsFound};
 ghost use Rattle.gate_journal.specs.Refusal.{HasCause, IsOfReading};
 ghost use Rattle.gate_journal.specs.Runs.{OnlyReads};
 
 use crate::batch::{
-    BATCH_HEADER, Batch, IMAGE_RECORD, IMAGE_SIZE, Image, MAX_BLOCKS, MAX_NUMBER, OPEN, are_images,
-    room_behind,
+    BATCH_HEADER, Batch, IMAGE_RECORD, IMAGE_SIZE, MARK_BIT, MARK_SIZE, MAX_BLOCKS, MAX_NUMBER,
+    OPEN, are_images,
 };
+use crate::image::Image;
 use crate::refusal::Refusal;
 use byteorder::{BigEndian, ByteOrder};
+use bytes::Bytes;
 use disk_model::{Disk, Part};
 use std::alloc::Global;
 
@@ -84,12 +84,31 @@ fn read_header<D: Disk>(part: Part, disk: &mut D, at: u64) -> Result<Header, Ref
     })
 }
 
-/// Reads an image.
-fn read_image<D: Disk>(part: Part, disk: &mut D, at: u64) -> Result<Image, Refusal>
+/// Reads a block's number, with the bit of a mark.
+fn read_number<D: Disk>(part: Part, disk: &mut D, at: u64) -> Result<u32, Refusal>
+    requires on_disk { part.start + part.len ≤ D.size disk.old }
+    requires range { at + MARK_SIZE ≤ part.len }
+    ensures number { D.keeps_model → IfOk result (λ number. HoldsAt (inside part (D.gives disk.old)) at (at + 4) (big_bytes 4 number)) }
+    ensures reads { D.keeps_model → OnlyReads D.gives D.may_leave_now D.moment D.may_have_left_since disk.old disk.new }
+    ensures size { D.size disk.new ≡ D.size disk.old }
+    ensures told { IfErr result IsOfReading }
+    ensures undamaged { IsErrOf result Refusal.Damaged → ⊥ }
+    ensures cause { HasCause (D.failures disk.old) (D.failures disk.new) result }
+    ensures most { D.most_failures disk.new ≤ D.most_failures disk.old }
+{
+    let bytes: [u8; 4] = read_array(part, disk, at)?;
+    Ok(BigEndian::read_u32(&bytes))
+}
+
+/// Reads a block's number, with the bit of a mark, and the bytes that would be the block's.
+fn read_record<D: Disk>(
+    part: Part,
+    disk: &mut D,
+    at: u64,
+) -> Result<(u32, [u8; IMAGE_SIZE]), Refusal>
     requires on_disk { part.start + part.len ≤ D.size disk.old }
     requires range { at + IMAGE_RECORD ≤ part.len }
-    ensures image { D.keeps_model → IfOk result (λ image. HoldsAt (inside part (D.gives disk.old)) at (at + IMAGE_RECORD) (image_encoding image)) }
-    ensures whole { IfOk result IsWhole }
+    ensures record { D.keeps_model → IfOk result (λ r. HoldsAt (inside part (D.gives disk.old)) at (at + 4100) (big_bytes 4 r.0 ++ r.1)) }
     ensures reads { D.keeps_model → OnlyReads D.gives D.may_leave_now D.moment D.may_have_left_since disk.old disk.new }
     ensures size { D.size disk.new ≡ D.size disk.old }
     ensures told { IfErr result IsOfReading }
@@ -100,54 +119,109 @@ fn read_image<D: Disk>(part: Part, disk: &mut D, at: u64) -> Result<Image, Refus
     let record: [u8; RECORD_SIZE] = read_array(part, disk, at)?;
     let mut bytes = [0; IMAGE_SIZE];
     bytes.copy_from_slice(&record[4..]);
-    Ok(Image {
-        block: BigEndian::read_u32(&record),
-        bytes,
-    })
+    Ok((BigEndian::read_u32(&record), bytes))
 }
 
-/// Reads so many images, one after another.
+/// Reads the mark behind which there is no room for a whole image.
+fn read_mark<D: Disk>(part: Part, disk: &mut D, at: u64) -> Result<(Image, u64), Refusal>
+    requires on_disk { part.start + part.len ≤ D.size disk.old }
+    requires range { at + MARK_SIZE + 1 ≤ part.len }
+    requires small { part.len ≤ at + IMAGE_RECORD }
+    ensures image { D.keeps_model → IfOk result (λ r. HoldsTo EncodesImage (drop at (inside part (D.gives disk.old))) (inside part (D.gives disk.old)) at r.1 r.0) }
+    ensures whole { IfOk result (λ r. IsWhole r.0) }
+    ensures within { IfOk result (λ r. (at < r.1) × (r.1 + 1 ≤ part.len)) }
+    ensures damaged { D.keeps_model → IsErrOf result Refusal.Damaged → HasNoImage (drop at (inside part (D.gives disk.old))) }
+    ensures reads { D.keeps_model → OnlyReads D.gives D.may_leave_now D.moment D.may_have_left_since disk.old disk.new }
+    ensures size { D.size disk.new ≡ D.size disk.old }
+    ensures told { IfErr result IsOfReading }
+    ensures cause { HasCause (D.failures disk.old) (D.failures disk.new) result }
+    ensures most { D.most_failures disk.new ≤ D.most_failures disk.old }
+{
+    let number = read_number(part, disk, at)?;
+    if number < MARK_BIT {
+        return Err(Refusal::Damaged);
+    }
+    Ok((Image::zeros(number - MARK_BIT), at + MARK_SIZE))
+}
+
+/// Reads an image, or the mark that stands for one, and tells the place behind it. 123 `Damaged`: there is none with a byte
+/// behind it.
+fn read_image<D: Disk>(
+    alloc: Global,
+    part: Part,
+    disk: &mut D,
+    at: u64,
+) -> Result<(Image, u64), Refusal>
+    requires on_disk { part.start + part.len ≤ D.size disk.old }
+    requires range { at + 1 ≤ part.len }
+    ensures image { D.keeps_model → IfOk result (λ r. HoldsTo EncodesImage (drop at (inside part (D.gives disk.old))) (inside part (D.gives disk.old)) at r.1 r.0) }
+    ensures whole { IfOk result (λ r. IsWhole r.0) }
+    ensures within { IfOk result (λ r. (at < r.1) × (r.1 + 1 ≤ part.len)) }
+    ensures damaged { D.keeps_model → IsErrOf result Refusal.Damaged → HasNoImage (drop at (inside part (D.gives disk.old))) }
+    ensures reads { D.keeps_model → OnlyReads D.gives D.may_leave_now D.moment D.may_have_left_since disk.old disk.new }
+    ensures size { D.size disk.new ≡ D.size disk.old }
+    ensures told { IfErr result IsOfReading }
+    ensures cause { HasCause (D.failures disk.old) (D.failures disk.new) result }
+    ensures most { D.most_failures disk.new ≤ D.most_failures disk.old }
+{
+    let room = part.len() - at;
+    if room <= MARK_SIZE {
+        return Err(Refusal::Damaged);
+    }
+    if room <= IMAGE_RECORD {
+        return read_mark(part, disk, at);
+    }
+    let (number, bytes) = read_record(part, disk, at)?;
+    if number >= MARK_BIT {
+        return Ok((Image::zeros(number - MARK_BIT), at + MARK_SIZE));
+    }
+    let bytes = Bytes::copy_from_slice(alloc, &bytes)?;
+    Ok((Image::new(number, bytes), at + IMAGE_RECORD))
+}
+
+/// Reads so many images, one after another, and tells the place behind them. 123 `Damaged`: there are fewer with a byte behind
+/// them.
 fn read_images<D: Disk>(
     alloc: Global,
     part: Part,
     disk: &mut D,
     at: u64,
     count: u32,
-) -> Result<Vec<Image>, Refusal>
+) -> Result<(Vec<Image>, u64), Refusal>
     requires on_disk { part.start + part.len ≤ D.size disk.old }
-    requires range { at + IMAGE_RECORD * count ≤ part.len }
-    ensures images { D.keeps_model → IfOk result (λ images. HoldsAt (inside part (D.gives disk.old)) at (at + IMAGE_RECORD * count) (flat_map image_encoding images.items)) }
-    ensures count { IfOk result (λ images. length images.items ≡ count) }
-    ensures whole { IfOk result (λ images. All IsWhole images.items) }
+    requires range { at + 1 ≤ part.len }
+    ensures images { D.keeps_model → IfOk result (λ r. HoldsTo (InTurn EncodesImage) (drop at (inside part (D.gives disk.old))) (inside part (D.gives disk.old)) at r.1 r.0.items) }
+    ensures count { IfOk result (λ r. length r.0.items ≡ count) }
+    ensures whole { IfOk result (λ r. All IsWhole r.0.items) }
+    ensures within { IfOk result (λ r. (at ≤ r.1) × (r.1 + 1 ≤ part.len)) }
+    ensures damaged { D.keeps_model → IsErrOf result Refusal.Damaged → HasNoImages count (drop at (inside part (D.gives disk.old))) }
     ensures reads { D.keeps_model → OnlyReads D.gives D.may_leave_now D.moment D.may_have_left_since disk.old disk.new }
     ensures size { D.size disk.new ≡ D.size disk.old }
     ensures told { IfErr result IsOfReading }
-    ensures undamaged { IsErrOf result Refusal.Damaged → ⊥ }
     ensures cause { HasCause (D.failures disk.old) (D.failures disk.new) result }
     ensures most { D.most_failures disk.new ≤ D.most_failures disk.old }
 {
-    let mut images = Vec::with_capacity(alloc, count as usize)?;
-    for index in 0..count {
-        let image = read_image(part, disk, at + IMAGE_RECORD * u64::from(index))?;
+    let mut images = Vec::new(alloc);
+    let mut place = at;
+    for _ in 0..count {
+        let (image, behind) = read_image(alloc, part, disk, place)?;
         images.push(image)?;
+        place = behind;
     }
-    Ok(images)
+    Ok((images, place))
 }
 
 impl Header {
-    /// Whether it may be the next batch's, behind which there is room for so many images.
-    fn is_possible(self, blocks: u32, before: u64, room: u64) -> bool
-        ensures { IsTrue result ↔ ((before < self.front) × (self.front ≤ MAX_NUMBER) × (0 < self.count) × (self.count ≤ blocks) × (self.count ≤ room)) }
+    /// Whether it may be the next batch's.
+    fn is_possible(self, blocks: u32, before: u64) -> bool
+        ensures { IsTrue result ↔ ((before < self.front) × (self.front ≤ MAX_NUMBER) × (0 < self.count) × (self.count ≤ blocks)) }
     {
-        self.front > before
-            && self.front <= MAX_NUMBER
-            && self.count > 0
-            && self.count <= blocks
-            && u64::from(self.count) <= room
+        self.front > before && self.front <= MAX_NUMBER && self.count > 0 && self.count <= blocks
     }
 }
 
-/// Reads the batch behind an open gate. 123 `Damaged`: there is none that could stand behind one of the front `before`.
+/// Reads the batch behind an open gate, and tells the place behind it. 123 `Damaged`: there is none that could stand behind one
+/// of the front `before`.
 fn read_body<D: Disk>(
     alloc: Global,
     part: Part,
@@ -155,14 +229,13 @@ fn read_body<D: Disk>(
     disk: &mut D,
     at: u64,
     before: u64,
-) -> Result<Batch, Refusal>
+) -> Result<(Batch, u64), Refusal>
     requires on_disk { part.start + part.len ≤ D.size disk.old }
     requires range { at + 1 ≤ part.len }
     requires volume { blocks ≤ MAX_BLOCKS }
-    ensures next { IfOk result (IsBatch blocks before) }
-    ensures batch { D.keeps_model → IfOk result (λ batch.
-        1 ∷ drop (at + 1) (inside part (D.gives disk.old)) ≡ batch_encoding batch ++ drop (at + batch_size (length batch.images)) (inside part (D.gives disk.old))) }
-    ensures within { IfOk result (λ batch. at + batch_size (length batch.images) + 1 ≤ part.len) }
+    ensures next { IfOk result (λ r. IsBatch blocks before r.0) }
+    ensures batch { D.keeps_model → IfOk result (λ r. HoldsTo EncodesBatch (1 ∷ drop (at + 1) (inside part (D.gives disk.old))) (inside part (D.gives disk.old)) at r.1 r.0) }
+    ensures within { IfOk result (λ r. (at < r.1) × (r.1 + 1 ≤ part.len)) }
     ensures damaged { D.keeps_model → IsErrOf result Refusal.Damaged → HasNoBatch blocks before (1 ∷ drop (at + 1) (inside part (D.gives disk.old))) }
     ensures reads { D.keeps_model → OnlyReads D.gives D.may_leave_now D.moment D.may_have_left_since disk.old disk.new }
     ensures size { D.size disk.new ≡ D.size disk.old }
@@ -170,22 +243,21 @@ fn read_body<D: Disk>(
     ensures cause { HasCause (D.failures disk.old) (D.failures disk.new) result }
     ensures most { D.most_failures disk.new ≤ D.most_failures disk.old }
 {
-    let room = room_behind(at, part.len());
-    if room == 0 {
+    if part.len() - at <= BATCH_HEADER {
         return Err(Refusal::Damaged);
     }
     let header = read_header(part, disk, at + 1)?;
-    if !header.is_possible(blocks, before, room) {
+    if !header.is_possible(blocks, before) {
         return Err(Refusal::Damaged);
     }
-    let images = read_images(alloc, part, disk, at + BATCH_HEADER, header.count)?;
+    let (images, end) = read_images(alloc, part, disk, at + BATCH_HEADER, header.count)?;
     if !are_images(blocks, &images) {
         return Err(Refusal::Damaged);
     }
-    Ok(Batch::new(header.front, images))
+    Ok((Batch::new(header.front, images), end))
 }
 
-/// Reads the batch at a place, or the closed gate, which is `None`.
+/// Reads the batch at a place, and tells the place behind it; or reads the closed gate, which is `None`.
 pub(crate) fn read_batch<D: Disk>(
     alloc: Global,
     part: Part,
@@ -193,13 +265,13 @@ pub(crate) fn read_batch<D: Disk>(
     disk: &mut D,
     at: u64,
     before: u64,
-) -> Result<Option<Batch>, Refusal>
+) -> Result<Option<(Batch, u64)>, Refusal>
     requires on_disk { part.start + part.len ≤ D.size disk.old }
     requires range { at + 1 ≤ part.len }
     requires volume { blocks ≤ MAX_BLOCKS }
-    ensures next { IfOk result (λ found. IfSome found (IsBatch blocks before)) }
+    ensures next { IfOk result (λ found. IfSome found (λ r. IsBatch blocks before r.0)) }
     ensures found { D.keeps_model → IfOk result (IsFound blocks before (inside part (D.gives disk.old)) at) }
-    ensures within { IfOk result (λ found. IfSome found (λ batch. at + batch_size (length batch.images) + 1 ≤ part.len)) }
+    ensures within { IfOk result (λ found. IfSome found (λ r. (at < r.1) × (r.1 + 1 ≤ part.len))) }
     ensures damaged { D.keeps_model → IsErrOf result Refusal.Damaged → IsDamaged blocks before (drop at (inside part (D.gives disk.old))) }
     ensures reads { D.keeps_model → OnlyReads D.gives D.may_leave_now D.moment D.may_have_left_since disk.old disk.new }
     ensures size { D.size disk.new ≡ D.size disk.old }
@@ -210,6 +282,6 @@ pub(crate) fn read_batch<D: Disk>(
     if read_gate(part, disk, at)? != OPEN {
         return Ok(None);
     }
-    let batch = read_body(alloc, part, blocks, disk, at, before)?;
-    Ok(Some(batch))
+    let found = read_body(alloc, part, blocks, disk, at, before)?;
+    Ok(Some(found))
 }

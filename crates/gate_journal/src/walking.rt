@@ -1,11 +1,11 @@
 // From batch to batch through a part of a disk.
 ghost use Rattle.std.specs.Prelude.{◌≡◌, ◌+◌, ◌^◌, ◌<◌, ◌≤◌, length, max, IfOk, IfErr, IsErrOf};
 ghost use Rattle.disk_model.specs.Part.{inside};
-ghost use Rattle.gate_journal.specs.Batch.{AreBatches, HoldsBatches, IsDamaged, batch_size, last_front, encodings};
+ghost use Rattle.gate_journal.specs.Batch.{AreBatches, HoldsBatches, IsDamaged, last_front};
 ghost use Rattle.gate_journal.specs.Refusal.{HasCause, IsOfReading};
 ghost use Rattle.gate_journal.specs.Runs.{OnlyReads};
 
-use crate::batch::{BATCH_HEADER, Batch, IMAGE_RECORD, MAX_BLOCKS, MAX_NUMBER};
+use crate::batch::{Batch, MAX_BLOCKS, MAX_NUMBER};
 use crate::reading::read_batch;
 use crate::refusal::Refusal;
 use disk_model::{Disk, Part};
@@ -16,20 +16,6 @@ use std::alloc::Global;
 pub(crate) struct Place {
     pub(crate) end: u64,
     pub(crate) front: u64,
-}
-
-impl Place {
-    /// The place behind a batch that stands here.
-    fn behind(self, batch: &Batch) -> Place
-        requires { self.end + batch_size (length batch.now.images) < 2 ^ 64 }
-        ensures end { result.end ≡ self.end + batch_size (length batch.now.images) }
-        ensures front { result.front ≡ batch.now.front }
-    {
-        Place {
-            end: self.end + BATCH_HEADER + IMAGE_RECORD * batch.images().len() as u64,
-            front: batch.front(),
-        }
-    }
 }
 
 /// Reads all batches, and tells the place behind them.
@@ -44,8 +30,7 @@ pub(crate) fn read_batches<D: Disk>(
     requires room { 1 ≤ part.len }
     requires volume { blocks ≤ MAX_BLOCKS }
     ensures are { IfOk result (λ r. AreBatches blocks before r.0.items) }
-    ensures held { D.keeps_model → IfOk result (λ r. HoldsBatches blocks before r.0.items (inside part (D.gives disk.old))) }
-    ensures end { D.keeps_model → IfOk result (λ r. r.1.end ≡ length (encodings r.0.items)) }
+    ensures held { D.keeps_model → IfOk result (λ r. (held : HoldsBatches blocks before r.0.items (inside part (D.gives disk.old))) × (r.1.end ≡ length held.bytes)) }
     ensures front { IfOk result (λ r. r.1.front ≡ last_front before r.0.items) }
     ensures within { IfOk result (λ r. r.1.end + 1 ≤ part.len) }
     ensures fronts { IfOk result (λ r. (before ≤ r.1.front) × (r.1.front ≤ max before MAX_NUMBER)) }
@@ -61,8 +46,11 @@ pub(crate) fn read_batches<D: Disk>(
         end: 0,
         front: before,
     };
-    while let Some(batch) = read_batch(alloc, part, blocks, disk, place.end, place.front)? {
-        place = place.behind(&batch);
+    while let Some((batch, end)) = read_batch(alloc, part, blocks, disk, place.end, place.front)? {
+        place = Place {
+            end,
+            front: batch.front(),
+        };
         batches.push(batch)?;
     }
     Ok((batches, place))

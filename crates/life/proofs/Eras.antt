@@ -65,7 +65,7 @@ module _ {S : Type 0} (premise : Type 0) (about : S → About) (keeps : S → Li
       let stays : bytes_of mid.chain ≡ bytes_of old.chain = sym joined_then.size ∙ ap (λ e. e.size) one.remain.export ∙ joined.size in
       let stands_then = subst (λ n. StandsFor n one.w plays.1) (sym stays) plays.4 in
       let exported : mid.sessions.export ≡ export = one.remain.export ∙ fresh.has in
-      let again : export_of mid.chain.geometry ≡ export = exported_as about keeps may_leave_now mid joined_then (ap (λ e. e.area) exported ∙ fresh.area) ∙ exported in
+      let again : export_of mid.chain.geometry ≡ export = exported_as about keeps may_leave_now mid joined_then ∙ exported in
       let (m, here, cut) = zip_there (λ m left. IsCutFrom may_leave_now disk era.cut m.node.store left) mid.chain.members goes.disks era.returned goes.returns goes.cut goes.there in
       let (may, later) = recovers about keeps may_leave_now restarts mid one.w plays.1 era.returned m (given_of goes.returns) goes.meaning new one_meaning one.shows stands_then here cut.left goes.means (ap export_of goes.sizes) goes.begins in (
         after plays.1 (Restart goes.meaning.front),
@@ -106,7 +106,6 @@ module _ {S : Type 0} (premise : Type 0) (about : S → About) (keeps : S → Li
     shows = begun.shows;
     stands = first (4096 * geometry.blocks) begun.view begun.begins;
     no_clients = begun.no_clients;
-    area = refl;
     has = begun.export;
     runs = begun.runs;
   }

@@ -6,6 +6,6 @@ mod Lives
 mod Owners
 pub mod Passing
 mod Pleas
-mod Returning
+pub mod Returning
 pub mod Starting
 mod Stops

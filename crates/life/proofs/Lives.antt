@@ -263,7 +263,6 @@ module _ {S : Type 0} (about : S → About) (keeps : S → List ℕ → Type 0) 
           stands = did.1;
           no_clients = begun.no_clients;
           has = begun.export ∙ sizes;
-          area = refl;
           runs = begun.runs;
         },
       )
@@ -272,8 +271,8 @@ module _ {S : Type 0} (about : S → About) (keeps : S → List ℕ → Type 0) 
       same_members v size s stands = stands
 
   -- the export is that of the chain's sizes
-  pub exported_as : (w : Seen S) → IsJoined w → w.sessions.export.area ≡ 0 → export_of w.chain.geometry ≡ w.sessions.export
-  exported_as w joined area = rw (joined.size, joined.payload, area) refl
+  pub exported_as : (w : Seen S) → IsJoined w → export_of w.chain.geometry ≡ w.sessions.export
+  exported_as w joined = rw (joined.size, joined.payload, joined.area) refl
 
   -- ---- what is left of disks
 

@@ -11,7 +11,7 @@ use Rattle.disk_model.specs.Memory.{given_of}
 use Rattle.disk_model.specs.declared.content.Cut.{Cut}
 use Rattle.disk_model.specs.declared.memory.MemDisk.{MemDisk}
 use Rattle.home_blocks.specs.Home.{IsNoVolume, IsOtherVersion}
-use Rattle.local_store.specs.About.{About}
+use Rattle.local_store.specs.About.{About, migrated}
 use Rattle.home_blocks.specs.Places.{disk_size_of}
 use Rattle.local_store.specs.Meaning.{HasDamagedArea, IsOpenable, IsUnfinished, Means}
 use Rattle.local_store.specs.Refusal.{IsNotOfDevice, IsOfOpening}
@@ -50,6 +50,13 @@ all_at Q (a ∷ xs) (suc k) x all here = all_at Q xs k x (All-tail Q a xs all) h
 
 of_mapped : {A B : Type 0} (Q : B → Type 0) (f : A → B) (xs : List A) → All Q (map f xs) → All (λ x. Q (f x)) xs
 of_mapped Q f xs all = λ k d within. subst Q (get_or-map f xs k d (f d) within) (all k (f d) (rw (length-map xs f) within))
+
+-- ---- a store that may have been migrated
+
+-- it is of the member that it was of, with the sizes and the front that it had
+pub migrated_as : (now before : About) → (now ≡ before) ⊎ (now ≡ migrated before) → (P : ℕ → ℕ → Geometry → ℕ → Type 0) → P now.slot now.incarnation now.geometry now.front → P before.slot before.incarnation before.geometry before.front
+migrated_as now before (inl same) P is = subst (λ (x : About). P x.slot x.incarnation x.geometry x.front) same is
+migrated_as now before (inr moved) P is = subst (λ (x : About). P x.slot x.incarnation x.geometry x.front) moved is
 
 -- ---- the members' disks stay
 

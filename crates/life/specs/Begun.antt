@@ -19,7 +19,7 @@ use Rattle.world.specs.World.{Seen, Shows}
 
 -- what a volume of these sizes is to its clients
 abbrev pub export_of : Geometry → Export
-export_of geometry = record { size = 4096 * geometry.blocks; max_payload = geometry.max_payload; area = 0 }
+export_of geometry = record { size = 4096 * geometry.blocks; max_payload = geometry.max_payload; area = geometry.area }
 
 -- what the store of a member tells whose disk was formatted
 abbrev pub first_about : Geometry → ℕ → About
@@ -62,9 +62,9 @@ AreOnDisks about w = All (λ m. (0 < (about m.node.store).incarnation) × ((abou
 abbrev pub AreOfMember : {S : Type 0} → (S → About) → Meaning → List S → Type 0
 AreOfMember about meaning stores = All (λ s. ((about s).slot ≡ meaning.slot) × ((about s).incarnation ≡ meaning.incarnation)) stores
 
--- the superblock that the disk holds is of version 2
-abbrev pub HasVersionTwo : MemDisk → Type 0
-HasVersionTwo disk = (sb : Superblock) × HoldsSuperblock sb (given_of disk) × (sb.version ≡ Two)
+-- the bytes of a disk hold a superblock of version 2
+abbrev pub HasVersionTwo : List ℕ → Type 0
+HasVersionTwo bytes = (sb : Superblock) × HoldsSuperblock sb bytes × (sb.version ≡ Two)
 
 -- Whatever a stop may leave of the disk that came back means what the first one gave, if nothing else could be left of that.
 abbrev pub MeansStill : MemDisk → MemDisk → Type 0

@@ -13,14 +13,13 @@ use Rattle.world.specs.World.{HappensSo, Seen, Shows}
 use Rattle.life.specs.Begun.{AllRun}
 use Rattle.life.specs.Headline.{Trace, fed_in, handed_in}
 
--- The world stands for this state of the machine, has no clients, offers them no zeros, and all its members run.
+-- The world stands for this state of the machine, has no clients, and all its members run.
 pub record IsFresh {S : Type 0} (about : S → About) (keeps : S → List ℕ → Type 0) (may_leave_now : S → List ℕ → Type 0) (size : ℕ) (export : Export) (w : Seen S) (s : State) : Type 0 where
   pub view : View
   pub shows : Shows about keeps may_leave_now w view
   pub stands : StandsFor size view s
   pub no_clients : w.sessions.clients ≡ []
   pub has : w.sessions.export ≡ export
-  pub area : export.area ≡ 0
   pub runs : AllRun w
 
 -- These deeds can happen in a world that is shown so, whose clients see these events.

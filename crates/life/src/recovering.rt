@@ -43,7 +43,7 @@ pub fn recover(alloc: Global, disk: MemDisk) -> Result<World<Store<MemDisk>>, Re
     ensures cause { IfErr result (λ e. IfSome e.disk (λ back. IsCausedBy (failures_of disk) (failures_of back) e.refusal ⊎ IsStopOf back e.refusal)) }
     ensures calm { IfErr result (λ e. IsOfMember disk → failures_of disk ≡ most_failures_of disk → IsOfMemory e.refusal) }
     // A disk of version 2 was only read.
-    ensures back { IfErr result (λ e. IfSome e.disk (λ back. HasVersionTwo disk → (given_of back ≡ given_of disk) × NothingNew (may_be_left disk) (may_be_left back))) }
+    ensures back { IfErr result (λ e. IfSome e.disk (λ back. HasVersionTwo (given_of disk) → (given_of back ≡ given_of disk) × NothingNew (may_be_left disk) (may_be_left back))) }
     // A recovery that was broken off can be cut, and done again: what is left means what the disk meant.
     ensures again { IfErr result (λ e. IfSome e.disk (λ back. MeansStill disk back)) }
     ensures size { IfErr result (λ e. IfSome e.disk (λ back. size_of back ≡ size_of disk)) }

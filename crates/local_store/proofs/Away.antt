@@ -10,7 +10,7 @@ use Rattle.disk_model.specs.Disk.{LeavesOnly, NothingNew}
 use Rattle.disk_model.specs.Halves.{AreHalves, gives_behind, gives_below, inside_behind, inside_below, left_behind, left_below}
 use Rattle.disk_model.specs.Part.{inside, KeepsPart}
 use Rattle.disk_model.specs.declared.part.Part.{Part}
-use Rattle.gate_journal.specs.Batch.{Batch, batch_size, HoldsBatches, HoldsOldOrNew, last_front}
+use Rattle.gate_journal.specs.Batch.{Batch, HoldsBatches, HoldsOldOrNew, held_as, last_front}
 use Rattle.gate_journal.specs.Journal as journal
 use Rattle.gate_journal.specs.Journal.{Fits, IsSettled, appended, behind_border, part_behind, still_settled}
 use Rattle.gate_journal.specs.Pair.{HoldsPair}
@@ -22,7 +22,6 @@ use Rattle.home_blocks.specs.Home.{settled_leaves, still_settled_home}
 use Rattle.home_blocks.specs.Places.{border_of, disk_size_of, home_part, superblock_part}
 use Rattle.home_blocks.specs.Superblock.{Superblock}
 use Rattle.home_blocks.specs.declared.progress.Progress.TheVariants.{Whole}
-use Rattle.local_store.specs.About.{HasNoRoom, about_of}
 use Rattle.local_store.specs.Kept.{parts_mean}
 use Rattle.local_store.specs.Lending.{Done, HoldsHome, IsDone, IsHomeKept}
 use Rattle.local_store.specs.Away.{IsKeptOver, IsLent, Keeps, LeftWith, batch_in, twin_of}
@@ -51,9 +50,9 @@ for_it_of o x R log other is same has = for_it o x (λ l. R l other) is (subst (
 -- the log of a commit that is done is settled with its batch
 pub done_settles : {L : Type 0} {keeps_model : Type 0} {gives : L → List ℕ} {left : L → List ℕ → Type 0} {failures : L → ℕ} (done : Done L) (was log : L) (twin : journal.State) (batch : Batch) (batches : List Batch) (receipt : Receipt)
     → IsDone keeps_model gives left failures done → keeps_model → done.was ≡ was → done.before ≡ twin → done.batch ≡ batch → done.log ≡ log → done.outcome ≡ Ok receipt → IsSettled twin batches (gives was) (left was)
-    → IsSettled (appended twin batch.front (length batch.images)) (batches ++ batch ∷ []) (gives log) (left log)
+    → IsSettled (appended twin batch.front batch.images) (batches ++ batch ∷ []) (gives log) (left log)
 done_settles {L} {gives = gives} {left} done was log twin batch batches receipt is keeps same_was same_twin same_batch same_log ok had =
-    let Now : journal.State → Batch → L → Type 0 = λ j b x. IsSettled (appended j b.front (length b.images)) (batches ++ b ∷ []) (gives x) (left x) in
+    let Now : journal.State → Batch → L → Type 0 = λ j b x. IsSettled (appended j b.front b.images) (batches ++ b ∷ []) (gives x) (left x) in
     let begun = subst (λ (j : journal.State). IsSettled j batches (gives done.was) (left done.was)) (sym same_twin) (subst (λ (x : L). IsSettled twin batches (gives x) (left x)) (sym same_was) had) in
     let now = subst (λ (o : Result Receipt JournalRefusal). OnOk o (Now done.before done.batch done.log)) ok (is.settled keeps batches begun) in
     subst (Now twin batch) same_log (subst (λ (b : Batch). Now twin b done.log) same_batch (subst (λ (j : journal.State). Now j done.batch done.log) same_twin now))
@@ -63,13 +62,6 @@ pub done_nothing : {L : Type 0} {keeps_model : Type 0} {gives : L → List ℕ} 
     → IsDone keeps_model gives left failures done → done.was ≡ was → done.log ≡ log → done.outcome ≡ Err variants.Memory → IsSettled twin batches (gives was) (left was) → IsSettled twin batches (gives log) (left log)
 done_nothing {L} {gives = gives} {left} done was log twin batches is same_was same_log memory had =
     subst (λ (x : L). IsSettled twin batches (gives x) (left x)) (sym same_was ∙ sym (is.unchanged memory) ∙ same_log) had
-
--- so many images fit into the journal where they have room in the area
-pub has_room : (store : State) (n m : ℕ) → (¬ HasNoRoom (about_of store) n) → m ≡ n → store.journal.part.len ≡ (geometry_of store).area → Fits store.journal m
-has_room store n m enough same long = elim (cases_lt (geometry_of store).area (store.journal.end + batch_size n + 1)) [
-  | inl less ↦ absurd (enough less)
-  | inr fits ↦ omega (arith, fits, same, long)
-]
 
 -- the disk has its home half, whether the log is lent or not
 pub has_border : {P L : Type 0} (lent : Option (Lent P L)) (store : State) (size : ℕ) (cut whole : P → ℕ) → (IsNone lent → disk_size_of (geometry_of store) ≤ size)
@@ -90,7 +82,7 @@ still_away {cut} {whole} {len} {batch} old new size now same as_long was = recor
   room = subst (λ (b : Superblock). disk_size_of b.geometry ≤ len) (sym same.superblock) was.room;
   within = subst (λ (b : Superblock). All (λ image. image.block < b.geometry.blocks) batch.images) (sym same.superblock) was.within;
   limit = was.limit;
-  fits = subst (λ (j : journal.State). Fits j (length batch.images)) (sym same.journal) was.fits;
+  fits = subst (λ (j : journal.State). Fits j batch.images) (sym same.journal) was.fits;
 }
   where
     border : border_of (geometry_of old) ≡ border_of (geometry_of new)
@@ -177,7 +169,7 @@ module _ {border : ℕ} {gives home_gives log_gives : List ℕ} {may_leave home_
 
   pub settled_behind : home_left home_gives → (j : journal.State) (batches : List Batch) → border ≤ j.part.start → IsSettled j batches gives may_leave → IsSettled (behind_border j border) batches log_gives log_left
   settled_behind here j batches behind was = record {
-    holds = subst (HoldsBatches j.blocks j.before batches) (sym (behind_is j.part gives behind) ∙ now) was.holds;
+    holds = held_as (sym (sym (behind_is j.part gives behind) ∙ now)) was.holds;
     end = was.end;
     front = was.front;
     runs = was.runs;
@@ -191,7 +183,7 @@ module _ {border : ℕ} {gives home_gives log_gives : List ℕ} {may_leave home_
 
   pub settled_back : (j : journal.State) (batches : List Batch) → border ≤ j.part.start → IsSettled (behind_border j border) batches log_gives log_left → IsSettled j batches gives may_leave
   settled_back j batches behind was = record {
-    holds = subst (HoldsBatches j.blocks j.before batches) (sym now ∙ behind_is j.part gives behind) was.holds;
+    holds = held_as (sym (sym now ∙ behind_is j.part gives behind)) was.holds;
     end = was.end;
     front = was.front;
     runs = was.runs;
@@ -268,12 +260,12 @@ module _ (store : State) (v : List ℕ) {gives home_gives log_gives : List ℕ} 
 
   -- or a batch was
   pub back_at_new : (batches : List Batch) (batch : Batch) → IsHomeKept store v batches home_gives home_left
-      → IsSettled (appended (behind_border store.journal (border_of (geometry_of store))) batch.front (length batch.images)) (batches ++ batch ∷ []) log_gives log_left
+      → IsSettled (appended (behind_border store.journal (border_of (geometry_of store))) batch.front batch.images) (batches ++ batch ∷ []) log_gives log_left
       → IsStored (committed store batch.front batch.images) (with_images v batch.images) gives may_leave
   back_at_new batches batch was settled =
       let home = home_back batches was in
       let of = was.stands in
-      let now = appended store.journal batch.front (length batch.images) in
+      let now = appended store.journal batch.front batch.images in
       let area : IsSettled now (batches ++ batch ∷ []) gives may_leave = settled_back halves size now (batches ++ batch ∷ []) (journal_behind store of) settled in
       let fit = all_fit store.journal.blocks store.journal.before (batches ++ batch ∷ []) area.holds.are in
       record {

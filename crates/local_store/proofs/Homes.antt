@@ -9,7 +9,7 @@ use Rattle.std.proofs.lemmas.List.Elements.{All-head, All-tail, All-push, All-ni
 use Rattle.std.proofs.lemmas.Bool.{both_ways, cases_lt, cases_Bool, eqb-true, eqb-false, eq-eqb}
 use Rattle.disk_model.specs.Disk.{Follows, Holds, Only, Torn}
 use Rattle.gate_journal.specs.Batch.{Batch}
-use Rattle.gate_journal.specs.declared.batch.Image.{Image}
+use Rattle.gate_journal.specs.Image.{Image}
 use Rattle.local_store.specs.Overlay.{placed, with_images, with_batches, covers, is_covered, FitsIn, AllFitIn}
 use Rattle.local_store.specs.Pending.{held, with_pending, with_all_pending, AreHomeOrPending, IsHome}
 use Rattle.local_store.proofs.Overlays.{own_block, other_block, long_still, covered_still, covered_now, with_batches-push, torn_block, batches_cover}

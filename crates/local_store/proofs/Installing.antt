@@ -13,7 +13,7 @@ use Rattle.gate_journal.specs.Journal as journal
 use Rattle.gate_journal.specs.Journal.{IsSettled}
 use Rattle.gate_journal.specs.Pair.{Entry, HoldsPair, HoldsSlot, IsBeingMade, IsCleared, Slots, Uncovers, entry_body, entry_encoding, entry_of, newer_slot, newest, slot_bytes}
 use Rattle.gate_journal.specs.Runs.{OnlyReads, reads_keep}
-use Rattle.gate_journal.specs.declared.batch.Image.{Image}
+use Rattle.gate_journal.specs.Image.{Image}
 use Rattle.home_blocks.specs.Home as home
 use Rattle.home_blocks.specs.Home.{HoldsPayload, HoldsSuperblock, IsSettledHome, settled_holds, settled_leaves, still_settled_home}
 use Rattle.home_blocks.specs.Places.{IsAreaPart, apart_back, area_behind_home, area_behind_superblock, area_bytes, disk_size_of, home_apart, home_part, inside-area, superblock_part}

@@ -1,6 +1,6 @@
 mod ArmedSteps
 mod Away
-mod Boxes
+mod Places
 mod Changing
 mod Counts
 mod HomeHalf

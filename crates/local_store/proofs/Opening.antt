@@ -7,7 +7,7 @@ use Rattle.disk_model.specs.Part.{inside}
 use Rattle.disk_model.specs.declared.part.Part.{Part}
 use Rattle.gate_journal.specs.Batch.{Batch, AreBatches, IsDamaged, last_front}
 use Rattle.gate_journal.specs.Journal as journal
-use Rattle.gate_journal.specs.declared.batch.Image.{Image}
+use Rattle.gate_journal.specs.Image.{Image}
 use Rattle.gate_journal.specs.declared.batch.TheConstants.{MAX_NUMBER}
 use Rattle.home_blocks.specs.Home as home
 use Rattle.home_blocks.specs.Places.{IsAreaPart, area_bytes, inside-area}

@@ -9,7 +9,7 @@ use Rattle.std.proofs.lemmas.Bool.Decides.{nat_tests}
 use Rattle.disk_model.specs.Disk.{Torn}
 use Rattle.flusher.specs.Plan.{IsWithin}
 use Rattle.gate_journal.specs.Batch.{Batch}
-use Rattle.gate_journal.specs.declared.batch.Image.{Image}
+use Rattle.gate_journal.specs.Image.{Image}
 use Rattle.local_store.specs.Overlay.{placed, with_images, with_batches, covers, is_covered, FitsIn, AllFitIn, BatchesCover, UncoveredBlocksStay}
 use Rattle.volume.specs.Volumes.{length-patched, range-patched_own, block_of-patched_same, block_of-patched_untouched, same_from_blocks}
 use Rattle.volume.specs.Writes.{Fits, patched, block_of}

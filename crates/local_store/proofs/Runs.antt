@@ -5,7 +5,7 @@ use Rattle.std.proofs.Math.Nat.{mul-add, mul-le-mul_left}
 use Rattle.std.proofs.lemmas.Bool.{cases_lt}
 use Rattle.std.proofs.lemmas.List.{drop-drop, drop-take, take-take, length-drop, length-take}
 use borrow.Rule.Slice.PartMut.{put_mid}
-use Rattle.gate_journal.specs.declared.batch.Image.{Image}
+use Rattle.gate_journal.specs.Image.{Image}
 use Rattle.local_store.specs.Overlay.{placed, FitsIn}
 use Rattle.local_store.specs.Pending.{AreHomeOrPending, held}
 use Rattle.local_store.proofs.Overlays.{long_still, other_block, own_block}

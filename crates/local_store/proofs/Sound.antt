@@ -1,6 +1,6 @@
 -- What each call keeps of a store, whatever its disk holds.
 use Rattle.std.proofs.Common.{ℕ, ◌≤◌, List, ◌∙◌}
-use Rattle.gate_journal.specs.declared.batch.Image.{Image}
+use Rattle.gate_journal.specs.Image.{Image}
 use Rattle.gate_journal.specs.declared.batch.TheConstants.{MAX_NUMBER}
 use Rattle.local_store.specs.Store.{IsSound, State, committed}
 use Rattle.local_store.proofs.Homes.{length-with_pending}

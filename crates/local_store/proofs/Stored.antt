@@ -11,7 +11,7 @@ use Rattle.disk_model.specs.declared.part.Part.{Part}
 use Rattle.gate_journal.specs.Batch.{Batch, AreBatches, HoldsBatches, HoldsOldOrNew, last_front}
 use Rattle.gate_journal.specs.Journal as journal
 use Rattle.gate_journal.specs.Journal.{IsSettled, appended, still_settled}
-use Rattle.gate_journal.specs.declared.batch.Image.{Image}
+use Rattle.gate_journal.specs.Image.{Image}
 use Rattle.local_store.proofs.Overlays.{with_batches-push}
 use Rattle.volume.specs.Volumes.{length-block_of}
 use Rattle.gate_journal.specs.Pair.{HoldsPair}
@@ -139,7 +139,7 @@ module _ {D : Type 0} {gives : D → List ℕ} {may_leave : D → List ℕ → T
 
   -- and after it
   pub commit_keeps : (front : ℕ) (images : List Image) → TouchesOnly gives may_leave moment left_since store.journal.part old new
-      → IsSettled (appended store.journal front (length images)) (was.batches ++ record { front = front; images = images } ∷ []) (gives new) (may_leave new)
+      → IsSettled (appended store.journal front images) (was.batches ++ record { front = front; images = images } ∷ []) (gives new) (may_leave new)
       → IsStored (committed store front images) (with_images v images) (gives new) (may_leave new)
   commit_keeps front images run area =
       let batch : Batch = record { front = front; images = images } in

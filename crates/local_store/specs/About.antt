@@ -3,7 +3,7 @@ use Rattle.std.specs.Prelude.{◌≡◌, ◌≢◌, ◌↔◌, ℕ, ◌+◌, ◌
 use Rattle.flusher.specs.Plan.{IsRun, IsWithin}
 use Rattle.flusher.specs.declared.plan.Run.{Run}
 use Rattle.gate_journal.specs.Batch.{Batch, batch_size}
-use Rattle.gate_journal.specs.declared.batch.Image.{Image}
+use Rattle.gate_journal.specs.Image.{Image}
 use Rattle.home_blocks.specs.declared.version.Version.{Version}
 use Rattle.home_blocks.specs.declared.version.Version.TheVariants.{Two}
 use Rattle.local_store.specs.Meaning.{Meaning}
@@ -32,16 +32,20 @@ IsOfVersionTwo about = about.version ≡ Two
 abbrev pub meaning_with : About → List ℕ → Meaning
 meaning_with about volume = record { slot = about.slot; incarnation = about.incarnation; geometry = about.geometry; front = about.front; volume = volume }
 
--- a batch of so many images fits into the current area, or is too much for it
+-- a batch whose images take so many bytes fits into the current area, or is too much for it
 abbrev pub HasRoom : About → ℕ → Type 0
-HasRoom about count = about.used + batch_size count + 1 ≤ about.geometry.area
+HasRoom about size = about.used + 13 + size + 1 ≤ about.geometry.area
 
 abbrev pub HasNoRoom : About → ℕ → Type 0
-HasNoRoom about count = about.geometry.area < about.used + batch_size count + 1
+HasNoRoom about size = about.geometry.area < about.used + 13 + size + 1
 
--- after a commit of so many images
-abbrev pub one_commit_more : About → ℕ → ℕ → About
-one_commit_more about front count = record about { front = front; used = about.used + batch_size count }
+-- a batch of these images is too much for it
+abbrev pub IsTooMuch : About → List Image → Type 0
+IsTooMuch about images = about.geometry.area < about.used + batch_size images + 1
+
+-- after a commit of these images
+abbrev pub one_commit_more : About → ℕ → List Image → About
+one_commit_more about front images = record about { front = front; used = about.used + batch_size images }
 
 -- what it means then
 abbrev pub meaning_then : About → List ℕ → ℕ → List Image → Meaning

@@ -1,13 +1,11 @@
 -- A store whose log may be lent out: what it keeps, and what a stop may leave of it.
-use Rattle.std.specs.Prelude.{◌≡◌, ℕ, ◌+◌, ◌<◌, ◌≤◌, Option, None, Some, Result, IfOk, List, [], All, length, map, take, drop}
-use Rattle.std.proofs.Common.{Box, Global}
+use Rattle.std.specs.Prelude.{◌≡◌, ℕ, ◌+◌, ◌<◌, ◌≤◌, Option, None, Some, Result, IfOk, List, [], All, length, take, drop}
 use Rattle.disk_model.specs.Halves.{LeftBehind}
 use Rattle.disk_model.specs.Part.{inside}
 use Rattle.gate_journal.specs.Batch.{Batch, HoldsBatches, last_front}
 use Rattle.gate_journal.specs.Journal as journal
 use Rattle.gate_journal.specs.Journal.{Fits, behind_border}
 use Rattle.gate_journal.specs.Receipt.{Receipt}
-use Rattle.gate_journal.specs.declared.batch.Image.{Image}
 use Rattle.gate_journal.specs.declared.batch.TheConstants.{MAX_NUMBER}
 use Rattle.gate_journal.specs.declared.refusal.Refusal.{Refusal}
 use Rattle.home_blocks.specs.Places.{border_of, disk_size_of}
@@ -19,13 +17,9 @@ use Rattle.local_store.specs.declared.lent.Lent.{Lent}
 abbrev pub twin_of : State → journal.State
 twin_of store = behind_border store.journal (border_of (geometry_of store))
 
--- the images in these boxes
-abbrev pub images_of : List (Box Image Global) → List Image
-images_of staged = map (λ (image : Box Image Global). image.value) staged
-
 -- the batch that is being journaled
 abbrev pub batch_in : {P L : Type 0} → Lent P L → Batch
-batch_in lent = record { front = lent.front; images = images_of lent.staged.items }
+batch_in lent = record { front = lent.front; images = lent.staged.items }
 
 -- the same, if a log is lent
 abbrev pub batch_of : {P L : Type 0} → Option (Lent P L) → Batch
@@ -45,7 +39,7 @@ pub record IsLent (store : State) (size at bytes len : ℕ) (batch : Batch) : Ty
   pub room : disk_size_of (geometry_of store) ≤ len
   pub within : All (λ image. image.block < (geometry_of store).blocks) batch.images
   pub limit : batch.front ≤ MAX_NUMBER
-  pub fits : Fits store.journal (length batch.images)
+  pub fits : Fits store.journal batch.images
 
 -- The log that was lent, with its commit done or refused: it is as long, and a receipt is of the store's slot and the
 -- batch's front.

@@ -46,6 +46,6 @@ pub record IsDone {L : Type 0} (keeps_model : Type 0) (gives : L → List ℕ) (
   pub told : IfErr done.outcome IsOfJournaling
   pub receipt : IfOk done.outcome (λ receipt. receipt ≡ record { slot = done.before.slot; front = done.batch.front })
   pub settled : keeps_model → (batches : List Batch) → IsSettled done.before batches (gives done.was) (may_leave_now done.was)
-      → OnOk done.outcome (IsSettled (appended done.before done.batch.front (length done.batch.images)) (batches ++ done.batch ∷ []) (gives done.log) (may_leave_now done.log))
+      → OnOk done.outcome (IsSettled (appended done.before done.batch.front done.batch.images) (batches ++ done.batch ∷ []) (gives done.log) (may_leave_now done.log))
   pub unchanged : IsErrOf done.outcome Memory → done.log ≡ done.was
   pub cause : HasCause (failures done.was) (failures done.log) done.outcome

@@ -2,7 +2,7 @@
 use Rattle.std.specs.Prelude.{ℕ, ◌*◌, ◌<◌, ◌==◌, ◌≡◌, Bool, true, false, if◌then◌else◌, List, [], ◌∷◌, All, length, fold}
 use Rattle.volume.specs.Writes.{Placed, patched, block_of}
 use Rattle.gate_journal.specs.Batch.{Batch}
-use Rattle.gate_journal.specs.declared.batch.Image.{Image}
+use Rattle.gate_journal.specs.Image.{Image}
 
 -- an image as a write: its whole block
 abbrev pub placed : Image → Placed

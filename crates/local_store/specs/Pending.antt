@@ -2,7 +2,7 @@
 use Rattle.std.specs.Prelude.{◌≡◌, ℕ, ◌+◌, ◌*◌, ◌<◌, true, Option, Some, None, List, length, fold, set, count_by, is_some, slice_index_or}
 use Rattle.flusher.specs.Plan.{IsWithin}
 use Rattle.gate_journal.specs.Batch.{Batch}
-use Rattle.gate_journal.specs.declared.batch.Image.{Image}
+use Rattle.gate_journal.specs.Image.{Image}
 use Rattle.local_store.specs.Overlay.{with_batches, is_covered, AllFitIn}
 use Rattle.volume.specs.Writes.{block_of}
 

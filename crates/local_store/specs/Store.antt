@@ -5,7 +5,7 @@ use Rattle.block_cache.specs.Cache.{Agrees, Blocks}
 use Rattle.gate_journal.specs.Batch.{Batch}
 use Rattle.gate_journal.specs.Journal as journal
 use Rattle.gate_journal.specs.Journal.{IsSettled, appended}
-use Rattle.gate_journal.specs.declared.batch.Image.{Image}
+use Rattle.gate_journal.specs.Image.{Image}
 use Rattle.gate_journal.specs.declared.batch.TheConstants.{MAX_NUMBER}
 use Rattle.home_blocks.specs.Home as home
 use Rattle.home_blocks.specs.Home.{IsSettledHome}
@@ -63,7 +63,7 @@ pub record IsSound (store : State) : Type 0 where
 
 -- the store after a commit of these images
 abbrev pub committed : State → ℕ → List Image → State
-committed store front images = record store { journal = appended store.journal front (length images); pending = with_pending store.pending images }
+committed store front images = record store { journal = appended store.journal front images; pending = with_pending store.pending images }
 
 -- what it means then
 abbrev pub meaning_after : State → List ℕ → ℕ → List Image → Meaning

@@ -1,7 +1,7 @@
 //! What a member's disk holds, as its store knows it. Each call is lent the disk.
 ghost use Rattle.std.specs.Prelude.{◌≡◌, ◌⊎◌, ◌+◌, ◌-◌, ◌*◌, ◌^◌, ◌<◌, ◌≤◌, ◌↔◌, ℕ, List, Some, None, true, false, length, take, drop, All, Any, replicate, IfOk, IfErr, OnOk, OnErr, IsErrOf, IsSome};
 ghost use Rattle.disk_model.specs.Disk.{LeavesOnly, Only, put};
-ghost use Rattle.gate_journal.specs.Batch.{AreImages, Batch};
+ghost use Rattle.gate_journal.specs.Batch.{AreImages, Batch, batch_size};
 ghost use Rattle.gate_journal.specs.Journal as journals;
 ghost use Rattle.gate_journal.specs.Pair.{stored};
 ghost use Rattle.block_cache.specs.Cache.{IsCached};
@@ -13,9 +13,8 @@ ghost use Rattle.gate_journal.specs.Runs.{OnlyReads};
 ghost use Rattle.disk_model.specs.Part.{inside};
 ghost use Rattle.volume.specs.Writes.{block_of};
 ghost use Rattle.home_blocks.specs.declared.version.Version.TheVariants.{Two};
-ghost use Rattle.local_store.specs.About.{HasNoRoom, HasRoom, about_of};
+ghost use Rattle.local_store.specs.About.{HasNoRoom, HasRoom, IsTooMuch, about_of};
 ghost use Rattle.local_store.specs.Lending.{HoldsHome, IsHomeKept};
-ghost use Rattle.local_store.specs.Away.{images_of};
 ghost use Rattle.local_store.specs.Meaning.{HasDamagedArea, IsUnfinished, Means};
 ghost use Rattle.local_store.specs.Overlay.{with_images};
 ghost use Rattle.local_store.specs.Pending.{held};
@@ -26,7 +25,7 @@ use crate::pending::{Pending, stage};
 use crate::refusal::Refusal;
 use block_cache::Cache;
 use disk_model::Disk;
-use gate_journal::{Image, Journal, MAX_NUMBER, Slot, Synced};
+use gate_journal::{Image, Journal, MAX_NUMBER, Slot, Synced, batch_size, batches_are_small};
 use home_blocks::{Area, Home, Progress, Superblock, Version, area_part, home_part};
 use std::alloc::Global;
 use std::marker::Model;
@@ -41,6 +40,10 @@ pub struct Contents {
     pub(crate) pending: Pending,
     pub(crate) cache: Cache,
     pub(crate) broken: bool,
+    /// Where a batch is put together.
+    pub(crate) batch: Vec<u8>,
+    /// Where a run is.
+    pub(crate) run: Vec<u8>,
 }
 
 impl Model for Contents {
@@ -99,6 +102,8 @@ impl Contents {
             pending,
             cache,
             broken: false,
+            batch: Vec::new(alloc),
+            run: Vec::new(alloc),
         })
     }
 
@@ -155,6 +160,8 @@ impl Contents {
             pending,
             cache,
             broken: false,
+            batch: Vec::new(alloc),
+            run: Vec::new(alloc),
         })
     }
 
@@ -199,7 +206,7 @@ impl Contents {
             return Err(Refusal::Broken);
         }
         if let Some(image) = self.pending.get(block) {
-            bytes.copy_from_slice(&image.bytes);
+            image.copy_to(bytes);
             return Ok(());
         }
         if let Err(error) = self.cache.read(disk, &self.home, block, bytes) {
@@ -286,12 +293,12 @@ impl Contents {
         self.home.superblock().incarnation()
     }
 
-    /// How many images the next batch can have.
-    pub fn room(&self) -> u64
-        ensures fits { (count : ℕ) → 0 < count → count ≤ result → HasRoom (about_of self.now) count }
-        ensures too_much { (count : ℕ) → result < count → HasNoRoom (about_of self.now) count }
+    /// How many bytes the images of the next batch may take, at least one: of zeros 4, of other bytes 4,100.
+    pub fn left(&self) -> u64
+        ensures left { (size : ℕ) → 0 < size → size ≤ result → HasRoom (about_of self.now) size }
+        ensures too_much { (size : ℕ) → result < size → HasNoRoom (about_of self.now) size }
     {
-        self.journal.room()
+        self.journal.left()
     }
 
     /// Whether a device call failed: then each call is refused with 122, until the disk is opened again.
@@ -328,18 +335,17 @@ impl Contents {
         self.journal.behind(self.border())
     }
 
-    /// Has one batch more, which was journaled on the log half: its images are pending from now on. They are of blocks of
-    /// the volume, and the batch fits.
-    pub(crate) fn add(&mut self, front: u64, staged: Vec<Box<Image>>)
-        requires images { All (λ image. image.block < (geometry_of self.old).blocks) (images_of staged.items) }
-        requires fits { journals.Fits self.old.journal (length staged.items) }
+    /// Has one batch more, which was journaled on the log half and has so many bytes: its images are pending from now on. They
+    /// are of blocks of the volume, and the batch fits.
+    pub(crate) fn add(&mut self, front: u64, staged: Vec<Image>, size: u64)
+        requires images { All (λ image. image.block < (geometry_of self.old).blocks) staged.items }
+        requires size { size ≡ batch_size staged.items }
+        requires fits { journals.Fits self.old.journal staged.items }
         requires limit { front ≤ MAX_NUMBER }
-        ensures ok { self.new ≡ committed self.old front (images_of staged.items) }
-        ensures pends { (b : ℕ) → IsPending self.new.pending b ↔ (IsPending self.old.pending b ⊎ Any (λ image. image.block ≡ b) (images_of staged.items)) }
+        ensures ok { self.new ≡ committed self.old front staged.items }
+        ensures pends { (b : ℕ) → IsPending self.new.pending b ↔ (IsPending self.old.pending b ⊎ Any (λ image. image.block ≡ b) staged.items) }
     {
-        // What fits is fewer than 2^32.
-        let _room = self.journal.room();
-        self.journal.note(front, staged.len() as u32);
+        self.journal.note(front, size);
         self.pending.keep(staged);
     }
 
@@ -350,14 +356,15 @@ impl Contents {
         self.broken = true;
     }
 
-    /// Whether a commit of so many images may go on.
-    pub(crate) fn may_commit(&self, front: u64, count: usize) -> Result<(), Refusal>
-        requires { 0 < count }
+    /// Whether a commit of these images may go on: then the bytes of their batch.
+    pub(crate) fn may_commit(&self, front: u64, images: &[Image]) -> Result<u64, Refusal>
+        requires { AreImages (geometry_of self.now).blocks images.now }
+        ensures size { IfOk result (λ size. size ≡ batch_size images.now) }
         ensures runs { OnOk result ((self.now.broken ≡ false) × (self.now.journal.front < front)) }
-        ensures fits { OnOk result (¬ HasNoRoom (about_of self.now) count) }
+        ensures fits { OnOk result (journals.Fits self.now.journal images.now) }
         ensures broken { IsErrOf result Refusal.Broken ↔ (self.now.broken ≡ true) }
         ensures backwards { IsErrOf result Refusal.Backwards ↔ ((self.now.broken ≡ false) × (front ≤ self.now.journal.front)) }
-        ensures full { IsErrOf result Refusal.Full ↔ ((self.now.broken ≡ false) × (self.now.journal.front < front) × HasNoRoom (about_of self.now) count) }
+        ensures full { IsErrOf result Refusal.Full ↔ ((self.now.broken ≡ false) × (self.now.journal.front < front) × IsTooMuch (about_of self.now) images.now) }
         ensures told { IfErr result IsOfCommitting }
         ensures own { IfErr result (λ r. ¬ IsOfDevice r) }
         ensures cause { IfErr result (λ r. (n : ℕ) → IsCaused n n r) }
@@ -368,10 +375,12 @@ impl Contents {
         if front <= self.front() {
             return Err(Refusal::Backwards);
         }
-        if self.room() < count as u64 {
+        batches_are_small();
+        let size = batch_size(images);
+        if !self.journal.fits(size) {
             return Err(Refusal::Full);
         }
-        Ok(())
+        Ok(size)
     }
 
     /// Puts whole blocks into the volume, and gives the receipt of the member's slot and this front, by the four device
@@ -407,15 +416,15 @@ impl Contents {
 
         ensures broken { IsErrOf result Refusal.Broken ↔ (self.old.broken ≡ true) }
         ensures backwards { IsErrOf result Refusal.Backwards ↔ ((self.old.broken ≡ false) × (front ≤ self.old.journal.front)) }
-        ensures full { IsErrOf result Refusal.Full ↔ ((self.old.broken ≡ false) × (self.old.journal.front < front) × HasNoRoom (about_of self.old) (length images.now)) }
+        ensures full { IsErrOf result Refusal.Full ↔ ((self.old.broken ≡ false) × (self.old.journal.front < front) × IsTooMuch (about_of self.old) images.now) }
         ensures told { IfErr result IsOfCommitting }
         ensures unchanged { IfErr result (λ r. ¬ IsOfDevice r → (self.new ≡ self.old) × (disk.new ≡ disk.old)) }
         ensures device { IfErr result (λ r. IsOfDevice r → self.new ≡ record self.old { journal = record self.old.journal { broken = true }; broken = true }) }
         ensures cause { HasCause (D.failures disk.old) (D.failures disk.new) result }
     {
-        self.may_commit(front, images.len())?;
+        self.may_commit(front, images)?;
         let staged = stage(alloc, images)?;
-        let receipt = match self.journal.append(alloc, disk, front, images) {
+        let receipt = match self.journal.append(&mut self.batch, disk, front, images) {
             Ok(receipt) => receipt,
             Err(refusal) => {
                 self.broken = refusal.is_of_device();

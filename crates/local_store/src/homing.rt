@@ -22,7 +22,6 @@ use disk_model::Disk;
 use flusher::{Plan, Run};
 use gate_journal::{Journal, MAX_NUMBER};
 use home_blocks::{Home, area_part};
-use std::alloc::Global;
 use volume::BLOCK_SIZE;
 
 impl Contents {
@@ -105,12 +104,14 @@ impl Contents {
         let Some(image) = self.pending.get(block) else {
             return Ok(());
         };
-        if let Err(error) = self.home.write_home(disk, block, &image.bytes) {
+        let mut bytes = [0; BLOCK_SIZE as usize];
+        image.copy_to(&mut bytes);
+        if let Err(error) = self.home.write_home(disk, block, &bytes) {
             self.cache.forget(block);
             self.broken = true;
             return Err(Refusal::Device(error));
         }
-        self.cache.renew(block, &image.bytes);
+        self.cache.renew(block, &bytes);
         self.pending.drop_block(block);
         Ok(())
     }
@@ -123,7 +124,6 @@ impl Contents {
     /// and the disk means what it meant.
     pub fn tick_run<D: Disk>(
         &mut self,
-        alloc: Global,
         disk: &mut D,
         plan: &mut Plan,
         most: u32,
@@ -165,7 +165,7 @@ impl Contents {
         let Some(run) = self.next_run(&mut next, most) else {
             return Ok(None);
         };
-        self.bring_run_home(alloc, disk, run)?;
+        self.bring_run_home(disk, run)?;
         *plan = next;
         Ok(Some(run))
     }
@@ -184,12 +184,7 @@ impl Contents {
     }
 
     /// Writes a run of pending blocks home, by one device call. One block needs no memory.
-    fn bring_run_home<D: Disk>(
-        &mut self,
-        alloc: Global,
-        disk: &mut D,
-        run: Run,
-    ) -> Result<(), Refusal>
+    fn bring_run_home<D: Disk>(&mut self, disk: &mut D, run: Run) -> Result<(), Refusal>
         requires on_disk { border_of (geometry_of self.old) ≤ D.size disk.old }
         requires some { 0 < run.count }
         requires within { run.first + run.count ≤ (geometry_of self.old).blocks }
@@ -217,16 +212,11 @@ impl Contents {
         if run.count == 1 {
             return self.bring_home(disk, run.first);
         }
-        self.bring_joined_home(alloc, disk, run)
+        self.bring_joined_home(disk, run)
     }
 
     /// Writes a run of pending blocks home, joined in one buffer, by one device call.
-    fn bring_joined_home<D: Disk>(
-        &mut self,
-        alloc: Global,
-        disk: &mut D,
-        run: Run,
-    ) -> Result<(), Refusal>
+    fn bring_joined_home<D: Disk>(&mut self, disk: &mut D, run: Run) -> Result<(), Refusal>
         requires on_disk { border_of (geometry_of self.old) ≤ D.size disk.old }
         requires within { run.first + run.count ≤ (geometry_of self.old).blocks }
         requires pending { (b : ℕ) → IsWithin run.first run.count b → IsPending self.old.pending b }
@@ -249,13 +239,13 @@ impl Contents {
         ensures device { IfErr result (λ r. IsOfDevice r → self.new ≡ record self.old { broken = true }) }
         ensures cause { HasCause (D.failures disk.old) (D.failures disk.new) result }
     {
-        let bytes = self.pending.joined(alloc, run.first, run.count)?;
-        if let Err(error) = self.home.write_run(disk, run.first, &bytes) {
+        self.pending.join(run.first, run.count, &mut self.run)?;
+        if let Err(error) = self.home.write_run(disk, run.first, &self.run) {
             // A broken store reads nothing, so the cache is left as it is.
             self.broken = true;
             return Err(Refusal::Device(error));
         }
-        renew_run(&mut self.cache, run.first, run.count, &bytes);
+        renew_run(&mut self.cache, run.first, run.count, &self.run);
         self.pending.drop_run(run.first, run.count);
         Ok(())
     }

@@ -7,7 +7,7 @@ ghost use Rattle.flusher.specs.Plan.{IsPending};
 ghost use Rattle.gate_journal.specs.Batch.{AreImages};
 ghost use Rattle.gate_journal.specs.Journal.{IsSettled, behind_border};
 ghost use Rattle.home_blocks.specs.Places.{border_of};
-ghost use Rattle.local_store.specs.About.{HasNoRoom, IsOfVersionTwo, about_of, one_commit_more};
+ghost use Rattle.local_store.specs.About.{IsOfVersionTwo, IsTooMuch, about_of, one_commit_more};
 ghost use Rattle.local_store.specs.Away.{IsCommitOf, IsKeptOver, IsLogOf, batch_of};
 ghost use Rattle.local_store.specs.Meaning.{Means};
 ghost use Rattle.local_store.specs.Overlay.{with_images};
@@ -71,14 +71,14 @@ impl<D: HalvedDisk + Drop> LendingStore<D> {
 
         ensures broken { IsErrOf result Refusal.Broken ↔ (self.old.contents.broken ≡ true) }
         ensures backwards { IsErrOf result Refusal.Backwards ↔ ((self.old.contents.broken ≡ false) × (front ≤ self.old.contents.journal.front)) }
-        ensures full { IsErrOf result Refusal.Full ↔ ((self.old.contents.broken ≡ false) × (self.old.contents.journal.front < front) × HasNoRoom (about_of self.old.contents) (length images.now)) }
+        ensures full { IsErrOf result Refusal.Full ↔ ((self.old.contents.broken ≡ false) × (self.old.contents.journal.front < front) × IsTooMuch (about_of self.old.contents) images.now) }
         ensures told { IfErr result IsOfCommitting }
         ensures own { IfErr result (λ r. ¬ IsOfDevice r) }
         ensures here { OnErr result (IsNone self.new.lent) }
     {
-        self.contents.may_commit(front, images.len())?;
+        let size = self.contents.may_commit(front, images)?;
         let staged = stage(alloc, images)?;
-        let images = Vec::from_slice(alloc, images)?;
+        let images = stage(alloc, images)?;
         let border = self.contents.border();
         let len = self.disk.len();
         let (log, past) = match self.disk.lend_log(border) {
@@ -91,6 +91,7 @@ impl<D: HalvedDisk + Drop> LendingStore<D> {
             len,
             front,
             staged,
+            size,
             was: Snapshot::of(&log),
         });
         Ok(CommitWork {
@@ -127,7 +128,7 @@ impl<D: HalvedDisk + Drop> LendingStore<D> {
         ensures receipt { IfOk result (λ receipt. receipt ≡ record { slot = self.old.contents.home.superblock.slot; front = (batch_of self.old.lent).front }) }
         ensures ok { OnOk result (self.new.contents ≡ committed self.old.contents (batch_of self.old.lent).front (batch_of self.old.lent).images) }
         ensures about { OnOk result (⟦<LendingStore<D> as StoreLike>⟧.about self.new
-            ≡ record (one_commit_more (⟦<LendingStore<D> as StoreLike>⟧.about self.old) (batch_of self.old.lent).front (length (batch_of self.old.lent).images)) { lent = None }) }
+            ≡ record (one_commit_more (⟦<LendingStore<D> as StoreLike>⟧.about self.old) (batch_of self.old.lent).front (batch_of self.old.lent).images) { lent = None }) }
         ensures pends { OnOk result ((b : ℕ) → IsPending self.new.contents.pending b ↔ (IsPending self.old.contents.pending b ⊎ Any (λ image. image.block ≡ b) (batch_of self.old.lent).images)) }
 
         // Where it is the commit that was lent, the store keeps its volume with the images; where memory ran out, as it was.
@@ -156,7 +157,7 @@ impl<D: HalvedDisk + Drop> LendingStore<D> {
         }
         match outcome {
             Ok(receipt) => {
-                self.contents.add(lent.front, lent.staged);
+                self.contents.add(lent.front, lent.staged, lent.size);
                 Ok(receipt)
             }
             Err(gate_journal::Refusal::Memory) => Err(Refusal::Memory),
@@ -209,14 +210,14 @@ impl<D: HalvedDisk + Drop> LendingStore<D> {
             (λ c. Means (meaning_in self.old.contents volume) c ⊎ Means (meaning_after self.old.contents volume front images.now) c) }
         ensures broken { IsErrOf result Refusal.Broken ↔ (self.old.contents.broken ≡ true) }
         ensures backwards { IsErrOf result Refusal.Backwards ↔ ((self.old.contents.broken ≡ false) × (front ≤ self.old.contents.journal.front)) }
-        ensures full { IsErrOf result Refusal.Full ↔ ((self.old.contents.broken ≡ false) × (self.old.contents.journal.front < front) × HasNoRoom (about_of self.old.contents) (length images.now)) }
+        ensures full { IsErrOf result Refusal.Full ↔ ((self.old.contents.broken ≡ false) × (self.old.contents.journal.front < front) × IsTooMuch (about_of self.old.contents) images.now) }
         ensures told { IfErr result IsOfCommitting }
         ensures unchanged { IfErr result (λ r. ¬ IsOfDevice r → self.new.contents ≡ self.old.contents) }
         ensures device { IfErr result (λ r. IsOfDevice r → self.new.contents ≡ record self.old.contents { broken = true }) }
         ensures cause { HasCause (D.failures self.old.disk) (D.failures self.new.disk) result }
     {
         let work = self.lend_commit(alloc, front, images)?;
-        let done = work.journal(alloc);
+        let done = work.journal(&mut Vec::new(alloc));
         self.finish_commit(done)
     }
 }

@@ -11,7 +11,6 @@ ghost use Rattle.local_store.specs.Refusal.{IsOfJournaling};
 
 use disk_model::Disk;
 use gate_journal::{Image, Journal, MAX_NUMBER, Refusal, Slot, Synced};
-use std::alloc::Global;
 use std::marker::Model;
 use std::snapshot::Snapshot;
 
@@ -27,7 +26,7 @@ pub struct CommitWork<L: Disk> {
     ghost rises: { journal.front < front },
     ghost limit: { front ≤ MAX_NUMBER },
     ghost runs: { journal.broken ≡ false },
-    ghost fits: { Fits journal (length images.items) },
+    ghost fits: { Fits journal images.items },
 }
 
 /// A commit that was journaled, or refused. Of the log and the journal as they were, and of the images, contracts alone
@@ -66,17 +65,17 @@ impl<L: Disk> Model for Journaled<L> {
 
 impl<L: Disk> CommitWork<L> {
     /// Appends the batch to the journal, by the four device calls of an append, on the log half alone. Its receipt, or its
-    /// refusal, goes to the store that lent the log.
+    /// refusal, goes to the store that lent the log. The batch is put together in `buffer`, in place of what that held.
     ///
     /// 100 `Memory`: nothing changed. After a refusal of the device the log holds the batches from before, with the new one or
     /// without.
-    pub fn journal(self, alloc: Global) -> Journaled<L>
+    pub fn journal(self, buffer: &mut Vec<u8>) -> Journaled<L>
         ensures was { result.was ≡ self.log }
         ensures before { result.before ≡ self.journal }
         ensures batch { result.batch ≡ record { front = self.front; images = self.images.items } }
         ensures receipt { IfOk result.outcome (λ receipt. receipt ≡ record { slot = self.journal.slot; front = self.front }) }
         ensures settled { L.keeps_model → (batches : List Batch) → IsSettled self.journal batches (L.gives self.log) (L.may_leave_now self.log)
-            → OnOk result.outcome (IsSettled (appended self.journal self.front (length self.images.items)) (batches ++ record { front = self.front; images = self.images.items } ∷ []) (L.gives result.log) (L.may_leave_now result.log)) }
+            → OnOk result.outcome (IsSettled (appended self.journal self.front self.images.items) (batches ++ record { front = self.front; images = self.images.items } ∷ []) (L.gives result.log) (L.may_leave_now result.log)) }
 
         // A stop at any moment of the call leaves the batches from before it, with the new one or without.
         ensures any_moment { L.keeps_model → (batches : List Batch) → IsSettled self.journal batches (L.gives self.log) (L.may_leave_now self.log)
@@ -95,7 +94,7 @@ impl<L: Disk> CommitWork<L> {
             images,
         } = self;
         let (was, before) = (Snapshot::of(&log), Snapshot::of(&journal));
-        let outcome = journal.append(alloc, &mut log, front, &images);
+        let outcome = journal.append(buffer, &mut log, front, &images);
         Journaled {
             log,
             outcome,

@@ -129,8 +129,8 @@ impl<D: HalvedDisk + Drop> StoreLike for LendingStore<D> {
         self.contents.front()
     }
 
-    fn room(&self) -> u64 {
-        self.contents.room()
+    fn left(&self) -> u64 {
+        self.contents.left()
     }
 
     fn is_broken(&self) -> bool {
@@ -158,9 +158,8 @@ impl<D: HalvedDisk + Drop> StoreLike for LendingStore<D> {
         self.contents.tick(&mut self.disk, &mut self.plan)
     }
 
-    fn tick_run(&mut self, alloc: Global, most: u32) -> Result<Option<Run>, Refusal> {
-        self.contents
-            .tick_run(alloc, &mut self.disk, &mut self.plan, most)
+    fn tick_run(&mut self, most: u32) -> Result<Option<Run>, Refusal> {
+        self.contents.tick_run(&mut self.disk, &mut self.plan, most)
     }
 
     fn checkpoint(&mut self) -> Result<(), Refusal> {

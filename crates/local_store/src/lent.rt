@@ -1,4 +1,7 @@
 //! What a store keeps while its log is lent out.
+ghost use Rattle.std.specs.Prelude.{◌≡◌};
+ghost use Rattle.gate_journal.specs.Batch.{batch_size};
+
 use gate_journal::Image;
 use std::snapshot::Snapshot;
 
@@ -12,7 +15,10 @@ pub(crate) struct Lent<P, L> {
     /// The front of the batch that is being journaled.
     pub(crate) front: u64,
     /// Its images, which will be pending.
-    pub(crate) staged: Vec<Box<Image>>,
+    pub(crate) staged: Vec<Image>,
+    /// The bytes of the batch.
+    pub(crate) size: u64,
     /// The log as it was lent; contracts alone see it.
     pub(crate) was: Snapshot<L>,
+    ghost sized: { size ≡ batch_size staged.items },
 }

@@ -1,7 +1,7 @@
 //! The images that are in the current area and not yet home.
-ghost use Rattle.std.specs.Prelude.{◌≡◌, ℕ, ◌+◌, ◌-◌, ◌*◌, ◌<◌, ◌≤◌, Option, Some, None, unwrap_or, All, List, length, replicate, set, map, IfOk, IfSome, IfNone, option_map, ◌↔◌, ◌^◌};
+ghost use Rattle.std.specs.Prelude.{◌≡◌, ℕ, ◌+◌, ◌-◌, ◌*◌, ◌<◌, ◌≤◌, Option, Some, None, unwrap_or, All, List, length, replicate, set, IfOk, OnOk, IfSome, IfNone, option_map, ◌↔◌, ◌^◌};
 ghost use Rattle.flusher.specs.Plan.{IsNext, IsPending, IsRun, IsWithin, NonePending};
-ghost use Rattle.gate_journal.specs.declared.batch.Image.{Image as Imaged};
+ghost use Rattle.gate_journal.specs.Image.{Image as Imaged};
 ghost use Rattle.local_store.specs.Pending.{AreCleared, AreJoined, held, with_all_pending, with_pending};
 ghost use Rattle.volume.specs.Writes.{block_of};
 
@@ -14,10 +14,11 @@ use volume::BLOCK_SIZE;
 /// The bytes of a block.
 pub type Block = [u8; BLOCK_SIZE as usize];
 
-/// The pending images by block: a place for each block of the volume, so that an image that is made takes no more memory.
+/// The pending images by block: a place for each block of the volume, so that an image that is made takes no more memory. They
+/// share the bytes of what was committed.
 #[derive(Debug, Drop)]
 pub(crate) struct Pending {
-    images: Vec<Option<Box<Image>>>,
+    images: Vec<Option<Image>>,
     /// None is pending: nobody has to look.
     none: bool,
 }
@@ -29,18 +30,18 @@ impl Model for Pending {
 
     ghost use Rattle.flusher.specs.Plan.{IsPending, NonePending};
 
-    ghost view = { λ p. map (option_map (λ image. image.value.bytes)) p.images.items };
+    ghost view = { λ p. map (option_map (λ image. image.bytes)) p.images.items };
 
     ghost invariant = { λ p. p.none ≡ true → NonePending (IsPending p.images.items) };
 }
 
-/// Copies of images, to be pending.
-pub(crate) fn stage(alloc: Global, images: &[Image]) -> Result<Vec<Box<Image>>, AllocError>
-    ensures { IfOk result (λ staged. map (λ image. image.value) staged.items ≡ images.now) }
+/// Clones of images, to be pending.
+pub(crate) fn stage(alloc: Global, images: &[Image]) -> Result<Vec<Image>, AllocError>
+    ensures { IfOk result (λ staged. staged.items ≡ images.now) }
 {
     let mut staged = Vec::with_capacity(alloc, images.len())?;
     for image in images {
-        staged.push(Box::new(alloc, *image)?)?;
+        staged.push(image.clone()?)?;
     }
     Ok(staged)
 }
@@ -77,7 +78,7 @@ impl Pending {
     pub(crate) fn get(&self, block: u32) -> Option<&Image>
         ensures { option_map (λ image. image.now.bytes) result ≡ held self.now block }
     {
-        self.images.get(block as usize)?.as_deref()
+        self.images.get(block as usize)?.as_ref()
     }
 
     /// Puts the pending images of a run of blocks over their places in these bytes of it.
@@ -90,7 +91,7 @@ impl Pending {
         for i in 0..count {
             if let Some(image) = self.get(first + i) {
                 let start = i as usize * BLOCK_SIZE as usize;
-                bytes[start..start + BLOCK_SIZE as usize].copy_from_slice(&image.bytes);
+                image.copy_to(&mut bytes[start..start + BLOCK_SIZE as usize]);
             }
         }
     }
@@ -132,27 +133,27 @@ impl Pending {
         run
     }
 
-    /// The images of a run of pending blocks, one behind the other.
-    pub(crate) fn joined(
+    /// Puts the images of a run of pending blocks into a buffer, one behind the other, in place of what it held.
+    pub(crate) fn join(
         &self,
-        alloc: Global,
         first: u32,
         count: u32,
-    ) -> Result<Vec<u8>, AllocError>
+        buffer: &mut Vec<u8>,
+    ) -> Result<(), AllocError>
         requires within { first + count < 2 ^ 32 }
         requires pending { (b : ℕ) → IsWithin first count b → IsPending self.now b }
-        ensures { IfOk result (λ bytes. AreJoined self.now first count bytes.items) }
+        ensures { OnOk result (AreJoined self.now first count buffer.new.items) }
     {
-        let mut bytes = vec![in alloc; 0; count as usize * BLOCK_SIZE as usize]?;
-        self.put_over(first, count, &mut bytes);
-        Ok(bytes)
+        buffer.resize(count as usize * BLOCK_SIZE as usize, 0)?;
+        self.put_over(first, count, buffer);
+        Ok(())
     }
 
     /// The staged images are pending from now on.
-    #[tactic(auto, using(crate::proofs::Boxes::one_more))]
-    pub(crate) fn keep(&mut self, staged: Vec<Box<Image>>)
-        requires { All (λ image. image.value.block < length self.old) staged.items }
-        ensures { self.new ≡ with_pending self.old (map (λ image. image.value) staged.items) }
+    #[tactic(auto, using(crate::proofs::Places::one_more))]
+    pub(crate) fn keep(&mut self, staged: Vec<Image>)
+        requires { All (λ image. image.block < length self.old) staged.items }
+        ensures { self.new ≡ with_pending self.old staged.items }
     {
         for image in staged {
             self.put(image);
@@ -160,18 +161,18 @@ impl Pending {
     }
 
     /// The staged image is pending from now on.
-    #[tactic(auto, using(crate::proofs::Boxes::shown_set))]
-    fn put(&mut self, image: Box<Image>)
-        requires { image.value.block < length self.old }
-        ensures { self.new ≡ set self.old image.value.block (Some image.value.bytes) }
+    #[tactic(auto, using(crate::proofs::Places::shown_set))]
+    fn put(&mut self, image: Image)
+        requires { image.block < length self.old }
+        ensures { self.new ≡ set self.old image.block (Some image.bytes) }
     {
-        let at = image.block as usize;
+        let at = image.block() as usize;
         self.images[at] = Some(image);
         self.none = false;
     }
 
     /// The block is home.
-    #[tactic(auto, using(crate::proofs::Boxes::shown_unset))]
+    #[tactic(auto, using(crate::proofs::Places::shown_unset))]
     pub(crate) fn drop_block(&mut self, block: u32)
         requires { block < length self.old }
         ensures { self.new ≡ set self.old block None }

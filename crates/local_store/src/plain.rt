@@ -13,7 +13,7 @@ use crate::refusal::Refusal;
 use crate::store_like::StoreLike;
 use disk_model::{MemDisk, Part, Script};
 use flusher::{Plan, Run};
-use gate_journal::{Image, Journal, MAX_NUMBER, Slot, Synced};
+use gate_journal::{Image, Journal, MAX_NUMBER, Slot, Synced, batch_size, batches_are_small};
 use home_blocks::Version;
 use std::alloc::{AllocError, Global};
 use std::marker::Model;
@@ -22,7 +22,7 @@ use volume::{BLOCK_SIZE, Geometry};
 /// The bytes that a batch takes beside its images, the closed gate behind it included.
 const BATCH_FRAME: u64 = 14;
 
-/// The bytes that an image takes in a batch.
+/// The most bytes that an image takes in a batch.
 const IMAGE_RECORD: u64 = 4_100;
 
 /// The bytes of a journal area with room for one image.
@@ -108,9 +108,10 @@ fn put(volume: &mut [u8], pending: &mut [Option<()>], images: &[Image])
     ensures pends { (b : ℕ) → IsPending pending.new b ↔ (IsPending pending.old b ⊎ Any (λ image. image.block ≡ b) images.now) }
 {
     for image in images {
-        let start = image.block as usize * BLOCK_SIZE as usize;
-        volume[start..start + BLOCK_SIZE as usize].copy_from_slice(&image.bytes);
-        pending[image.block as usize] = Some(());
+        let block = image.block() as usize;
+        let start = block * BLOCK_SIZE as usize;
+        image.copy_to(&mut volume[start..start + BLOCK_SIZE as usize]);
+        pending[block] = Some(());
     }
 }
 
@@ -140,13 +141,10 @@ fn stamp(
     ensures size { size_of disk.new ≡ size_of disk.old }
     ensures cause { HasCause (failures_of disk.old) (failures_of disk.new) result }
 {
+    batches_are_small();
     let area = Part::new(0, STAMP_AREA);
     let mut journal = Journal::create(disk, area, slot, 1, before)?;
-    let image = Image {
-        block: 0,
-        bytes: [0; BLOCK_SIZE as usize],
-    };
-    Ok(journal.append(alloc, disk, front, &[image])?)
+    Ok(journal.append(&mut Vec::new(alloc), disk, front, &[Image::zeros(0)])?)
 }
 
 impl StoreLike for PlainStore {
@@ -201,8 +199,8 @@ impl StoreLike for PlainStore {
         self.front
     }
 
-    fn room(&self) -> u64 {
-        u64::from(self.geometry.area).saturating_sub(self.used + BATCH_FRAME) / IMAGE_RECORD
+    fn left(&self) -> u64 {
+        u64::from(self.geometry.area).saturating_sub(self.used + BATCH_FRAME)
     }
 
     fn is_broken(&self) -> bool {
@@ -240,14 +238,16 @@ impl StoreLike for PlainStore {
         if front <= self.front {
             return Err(Refusal::Backwards);
         }
-        if self.room() < images.len() as u64 {
+        batches_are_small();
+        let size = batch_size(images);
+        if u64::from(self.geometry.area) - self.used <= size {
             return Err(Refusal::Full);
         }
         match stamp(alloc, &mut self.stamps, self.slot, self.front, front) {
             Ok(receipt) => {
                 put(&mut self.volume, &mut self.pending, images);
                 self.front = front;
-                self.used += BATCH_FRAME - 1 + IMAGE_RECORD * images.len() as u64;
+                self.used += size;
                 Ok(receipt)
             }
             Err(refusal) => {
@@ -268,7 +268,7 @@ impl StoreLike for PlainStore {
         Ok(Some(block))
     }
 
-    fn tick_run(&mut self, _alloc: Global, most: u32) -> Result<Option<Run>, Refusal> {
+    fn tick_run(&mut self, most: u32) -> Result<Option<Run>, Refusal> {
         if self.broken {
             return Err(Refusal::Broken);
         }

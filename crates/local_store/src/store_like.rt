@@ -2,7 +2,7 @@
 ghost use Rattle.std.specs.Prelude.{◌≡◌, ◌⊎◌, ◌+◌, ◌*◌, ◌<◌, ◌≤◌, ◌↔◌, ℕ, List, None, true, false, length, take, drop, is_some, Any, IfOk, IfErr, IfNone, IfSome, OnOk, OnErr, IsErrOf};
 ghost use Rattle.disk_model.specs.Disk.{LeavesOnly};
 ghost use Rattle.gate_journal.specs.Batch.{AreImages};
-ghost use Rattle.local_store.specs.About.{About, HasNeighbours, HasNoRoom, HasRoom, IsOfVersionTwo, IsOneLess, IsWithoutRun, meaning_then, meaning_with, one_checkpoint_more, one_commit_more};
+ghost use Rattle.local_store.specs.About.{About, HasNeighbours, HasNoRoom, HasRoom, IsOfVersionTwo, IsOneLess, IsTooMuch, IsWithoutRun, meaning_then, meaning_with, one_checkpoint_more, one_commit_more};
 ghost use Rattle.local_store.specs.Meaning.{Means};
 ghost use Rattle.local_store.specs.Overlay.{with_images};
 ghost use Rattle.local_store.specs.Refusal.{HasCause, IsOfCheckpoint, IsOfCommitting, IsOfDevice, IsOfReading, IsOfTicking, IsOfTickingRun};
@@ -64,10 +64,10 @@ pub trait StoreLike {
         ensures front { result ≡ (about self.now).front }
         ensures limit { result ≤ MAX_NUMBER };
 
-    /// How many images the next batch can have.
-    fn room(&self) -> u64
-        ensures fits { (count : ℕ) → 0 < count → count ≤ result → HasRoom (about self.now) count }
-        ensures too_much { (count : ℕ) → result < count → HasNoRoom (about self.now) count };
+    /// How many bytes the images of the next batch may take, at least one: of zeros 4, of other bytes 4,100.
+    fn left(&self) -> u64
+        ensures left { (size : ℕ) → 0 < size → size ≤ result → HasRoom (about self.now) size }
+        ensures too_much { (size : ℕ) → result < size → HasNoRoom (about self.now) size };
 
     /// Whether a device call failed, or a commit was given up: then each call is refused with 122.
     fn is_broken(&self) -> bool
@@ -122,7 +122,7 @@ pub trait StoreLike {
         requires version { IsOfVersionTwo (about self.old) }
         requires here { (about self.old).lent ≡ None }
         ensures receipt { IfOk result (λ receipt. receipt ≡ record { slot = (about self.old).slot; front = front }) }
-        ensures ok { OnOk result (about self.new ≡ one_commit_more (about self.old) front (length images.now)) }
+        ensures ok { OnOk result (about self.new ≡ one_commit_more (about self.old) front images.now) }
         ensures pends { OnOk result ((b : ℕ) → is_pending self.new b ↔ (is_pending self.old b ⊎ Any (λ image. image.block ≡ b) images.now)) }
         ensures still { OnErr result ((b : ℕ) → is_pending self.new b ↔ is_pending self.old b) }
         ensures kept { keeps_model → (volume : List ℕ) → keeps self.old volume → OnOk result (keeps self.new (with_images volume images.now)) }
@@ -132,7 +132,7 @@ pub trait StoreLike {
             (λ c. Means (meaning_with (about self.old) volume) c ⊎ Means (meaning_then (about self.old) volume front images.now) c) }
         ensures broken { IsErrOf result Refusal.Broken ↔ ((about self.old).broken ≡ true) }
         ensures backwards { IsErrOf result Refusal.Backwards ↔ (((about self.old).broken ≡ false) × (front ≤ (about self.old).front)) }
-        ensures full { IsErrOf result Refusal.Full ↔ (((about self.old).broken ≡ false) × ((about self.old).front < front) × HasNoRoom (about self.old) (length images.now)) }
+        ensures full { IsErrOf result Refusal.Full ↔ (((about self.old).broken ≡ false) × ((about self.old).front < front) × IsTooMuch (about self.old) images.now) }
         ensures told { IfErr result IsOfCommitting }
         ensures unchanged { IfErr result (λ r. ¬ IsOfDevice r → (about self.new ≡ about self.old) × ((volume : List ℕ) → keeps self.old volume → keeps self.new volume) × ((b : ℕ) → is_pending self.new b ↔ is_pending self.old b)) }
         ensures device { IfErr result (λ r. IsOfDevice r → about self.new ≡ record (about self.old) { broken = true }) }
@@ -161,7 +161,7 @@ pub trait StoreLike {
     ///
     /// 122 `Broken` exactly where a device call failed before; 100 `Memory` where there is no room for the run's bytes, of
     /// which one block needs none: nothing changed; and what the device refuses: then the store is broken.
-    fn tick_run(&mut self, alloc: Global, most: u32) -> Result<Option<Run>, Refusal>
+    fn tick_run(&mut self, most: u32) -> Result<Option<Run>, Refusal>
         requires most { 0 < most }
         requires version { IsOfVersionTwo (about self.old) }
         ensures home { IfOk result (λ given. IfSome given (λ run. IsWithoutRun most run (is_pending self.old) (is_pending self.new))) }

@@ -16,8 +16,8 @@ pub record AreFlagBits : Type 0 where
   pub handshake : HANDSHAKE_FLAGS ≡ 2 ^ 0 + 2 ^ 1
   pub newstyle : FIXED_NEWSTYLE ≡ 2 ^ 0
   pub no_zeroes : FIXED_NEWSTYLE_NO_ZEROES ≡ 2 ^ 0 + 2 ^ 1
-  -- HAS_FLAGS, SEND_FLUSH, SEND_FUA, CAN_MULTI_CONN
-  pub transmission : TRANSMISSION_FLAGS ≡ 2 ^ 0 + 2 ^ 2 + 2 ^ 3 + 2 ^ 8
+  -- HAS_FLAGS, SEND_FLUSH, SEND_FUA, SEND_WRITE_ZEROES, CAN_MULTI_CONN
+  pub transmission : TRANSMISSION_FLAGS ≡ 2 ^ 0 + 2 ^ 2 + 2 ^ 3 + 2 ^ 6 + 2 ^ 8
   pub fua : FLAG_FUA ≡ 2 ^ 0
   pub no_hole : FLAG_NO_HOLE ≡ 2 ^ 1
 

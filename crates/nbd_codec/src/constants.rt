@@ -72,8 +72,8 @@ pub const MINIMUM_BLOCK: u32 = 1;
 /// The size of a request's range that serves best, in bytes.
 pub const PREFERRED_BLOCK: u32 = 4096;
 
-/// HAS_FLAGS, SEND_FLUSH, SEND_FUA and CAN_MULTI_CONN: bits 0, 2, 3 and 8.
-pub const TRANSMISSION_FLAGS: u16 = 0x010d;
+/// HAS_FLAGS, SEND_FLUSH, SEND_FUA, SEND_WRITE_ZEROES and CAN_MULTI_CONN: bits 0, 2, 3, 6 and 8.
+pub const TRANSMISSION_FLAGS: u16 = 0x014d;
 /// The zeros behind the answer to EXPORT_NAME.
 pub const EXPORT_ZEROS: usize = 124;
 

@@ -15,7 +15,7 @@ pub(crate) struct Export {
     pub size: u64,
     /// The longest payload, in bytes.
     pub max_payload: u32,
-    /// The bytes of the journal area in which zeros are marked, and 0 where none are: then no WRITE_ZEROES of a byte is done.
+    /// The bytes of a journal area, in which each WRITE_ZEROES has to fit.
     pub area: u32,
 }
 

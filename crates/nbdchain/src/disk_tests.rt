@@ -14,7 +14,7 @@ struct DiskRow {
 /// The bytes of the superblock pair and of 8 blocks, behind which area 0 lies.
 const AREA: usize = 8_192 + 8 * 4_096;
 
-const DISK_ROWS: [DiskRow; 3] = [
+const DISK_ROWS: [DiskRow; 4] = [
     DiskRow {
         script: "new 1 8 4096",
         at: 0,
@@ -41,6 +41,12 @@ const DISK_ROWS: [DiskRow; 3] = [
             (0, "01000000000000000300000002000000000103"),
             (4_113, "0000000102"),
         ],
+    },
+    DiskRow {
+        script: "new 1 8 4096\nsession 1 0\nbytes 1 25609513 0003 0006 0000000000000004 0000000000000000 00001000\nrun",
+        at: AREA,
+        len: 8_214,
+        pieces: &[(0, "0100000000000000010000000180000000")],
     },
 ];
 

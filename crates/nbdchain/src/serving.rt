@@ -4,7 +4,8 @@
 ghost use Rattle.std.specs.Prelude.{◌≡◌, ◌⊎◌, [], ◌∷◌, ℕ, List, All, map, slice_get, IfOk, IfSome};
 ghost use Rattle.disk_model.specs.Disk.{LeavesOnly};
 ghost use Rattle.folder.specs.Found.{IsRunning, member_in};
-ghost use Rattle.life.specs.Begun.{BeginsWith};
+ghost use Rattle.gate_journal.specs.Runs.{OnlyReads};
+ghost use Rattle.life.specs.Begun.{BeginsWith, HasVersionTwo};
 ghost use Rattle.local_store.specs.About.{IsOfVersionTwo};
 ghost use Rattle.local_store.specs.Meaning.{Meaning, Means};
 ghost use Rattle.nbdchain.specs.Serving.{GoesOnFrom};
@@ -16,6 +17,7 @@ use configurations::{Epoch, Record};
 use disk_model::{Disk, FileDisk};
 use folder::{FolderDisks, Opened, Refused, restart};
 use gate_journal::Slot;
+use home_blocks::superblocks_are_one;
 use local_store::{Store, StoreLike, disks_mean_one};
 use log::{Log, info};
 use server::{listen, serve};
@@ -200,7 +202,7 @@ where
 
 /// A world of one goes on from the configuration's disk and the members' disks that returned, as `restart` has it: it
 /// begins with what the source among them means, and has no clients. Once the source is recorded, its disk is brought to
-/// version 2; of the others nothing is written.
+/// version 2, if it is of version 1; one of version 2 is only read.
 fn begin_from<D: Disk + Drop>(
     alloc: Global,
     config: D,
@@ -208,11 +210,15 @@ fn begin_from<D: Disk + Drop>(
 ) -> Result<Begun<D>, Unbegun<D>>
     ensures goes_on { D.keeps_model → IfOk result (λ b. GoesOnFrom ⟦<Store<D> as StoreLike>⟧.about ⟦<Store<D> as StoreLike>⟧.keeps ⟦<Store<D> as StoreLike>⟧.may_leave_now
         (D.gives config) (map D.gives disks.items) b.place b.world) }
+    // The source's disk is only read where it is of version 2.
+    ensures reads { D.keeps_model → IfOk result (λ b. IfSome (slice_get disks.items b.place) (λ disk. HasVersionTwo (D.gives disk)
+        → All (λ member. OnlyReads D.gives D.may_leave_now D.moment D.may_have_left_since disk member.node.store.disk) b.world.chain.members)) }
     // What a stop at any moment of the call leaves of the source's disk, it might have left before, or it means the same.
     ensures any_moment { D.keeps_model → IfOk result (λ b. IfSome (slice_get disks.items b.place) (λ disk. All (λ member. (meaning : Meaning) → Means meaning (D.gives disk)
         → LeavesOnly D.moment D.may_have_left_since disk member.node.store.disk (λ c. D.may_leave_now disk c ⊎ Means meaning c)) b.world.chain.members)) }
 {
     disks_mean_one();
+    superblocks_are_one();
     let mut opened = match restart(alloc, config, disks) {
         Ok(opened) => opened,
         Err(refused) => return Err(Unbegun::Refused(refused)),

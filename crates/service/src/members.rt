@@ -504,22 +504,21 @@ impl<S: StoreLike + Drop> Service<S> {
         self.asks_floor || self.is_pressed || self.is_full || self.unjournaled() >= MANY_KNOWN
     }
 
-    /// How many images the next batch of the member's store can have.
-    fn room(&self) -> u64 {
+    /// How many bytes the images of the next batch of the member's store may take.
+    fn left(&self) -> u64 {
         if !self.has_member() {
             return 0;
         }
-        self.world.store(ONLY).room()
+        self.world.store(ONLY).left()
     }
 
-    /// Notes that a commit took its images from so much room: once half of the area is full, pending blocks are to go home.
+    /// Notes that a commit took its images from so many bytes: once half of the area is full, pending blocks are to go home.
     fn note_journaled(&mut self, before: u64)
         ensures { self.new ≡ self.old }
     {
-        let room = self.room();
-        let half = u64::from(self.world.geometry().area) / (2 * IMAGE_RECORD);
-        if room < half {
-            let images = before.saturating_sub(room);
+        let left = self.left();
+        if left < u64::from(self.world.geometry().area) / 2 {
+            let images = before.saturating_sub(left) / IMAGE_RECORD;
             let more = images.saturating_mul(HOMES_AN_IMAGE);
             self.homes_owed = self.homes_owed.saturating_add(more);
         }
@@ -595,7 +594,7 @@ impl<S: StoreLike + Drop> Service<S> {
         if self.is_full {
             return self.empty_area();
         }
-        let before = self.room();
+        let before = self.left();
         if !self.begin() {
             return false;
         }

@@ -4,7 +4,7 @@ ghost use Rattle.std.specs.Prelude.{◌<◌, ◌≤◌};
 use crate::refusal::Refusal;
 use crate::sim::Sim;
 use disk_model::{Cut, Event};
-use life::{Answer, Deed, Era, Lived, Step, live};
+use life::{Answer, Answers, Deed, Era, Lived, Step, live};
 use std::alloc::Global;
 use std::io::Write;
 use std::mem;
@@ -85,7 +85,7 @@ impl Kept {
     }
 
     /// Lives it once more, and tells whether each deed is answered as it was.
-    fn live<T: Write>(mut self, told: &mut T) -> Result<(), Refusal> {
+    fn live<T: Write>(&mut self, told: &mut T) -> Result<(), Refusal> {
         if self.is_broken_off {
             return Ok(writeln!(
                 told,
@@ -106,11 +106,7 @@ impl Kept {
         if self.members == 0 || self.members > 8 {
             return Ok(());
         }
-        let Ok(lived) = live(self.alloc, self.geometry, self.members, &self.eras) else {
-            return Err(Refusal::Memory);
-        };
-        let Lived { world, answers } = lived;
-        let _stores = world.abandon();
+        let answers = answers_of(self.alloc, self.geometry, self.members, &self.eras)?;
         for era in &answers {
             for answer in &era.items {
                 add_line(text, answer)?;
@@ -118,6 +114,24 @@ impl Kept {
         }
         Ok(())
     }
+}
+
+/// What a life of these eras answers.
+fn answers_of(
+    alloc: Global,
+    geometry: Geometry,
+    members: u8,
+    eras: &[Era],
+) -> Result<Vec<Answers>, Refusal>
+    requires some { 0 < members }
+    requires few { members ≤ 8 }
+{
+    let Ok(lived) = live(alloc, geometry, members, eras) else {
+        return Err(Refusal::Memory);
+    };
+    let Lived { world, answers } = lived;
+    let _stores = world.abandon();
+    Ok(answers)
 }
 
 /// Adds an answer as a line.
@@ -129,7 +143,7 @@ impl Sim {
     /// Lives what was kept once more, and tells what came of it.
     pub(crate) fn tell_again<T: Write>(&mut self, told: &mut T) -> Result<(), Refusal> {
         match self.kept.take() {
-            Some(kept) => kept.live(told),
+            Some(mut kept) => kept.live(told),
             None => Ok(()),
         }
     }

@@ -24,6 +24,8 @@ pub enum RequestKind {
     Write,
     Fua,
     Flush,
+    Zero,
+    ForcedZero,
 }
 
 impl RequestKind {
@@ -34,6 +36,8 @@ impl RequestKind {
             RequestKind::Write => (0, 1),
             RequestKind::Fua => (FUA, 1),
             RequestKind::Flush => (0, 3),
+            RequestKind::Zero => (0, 6),
+            RequestKind::ForcedZero => (FUA, 6),
         }
     }
 }

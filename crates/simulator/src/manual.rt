@@ -11,7 +11,7 @@ pub struct Usage {
 }
 
 /// All commands, a line for each form.
-pub const COMMANDS: [Usage; 31] = [
+pub const COMMANDS: [Usage; 33] = [
     Usage {
         words: "new M N P",
         does: "a chain of M members (1 to 8), N blocks (1 to 65,536), payloads of up to P bytes: the first command",
@@ -35,6 +35,14 @@ pub const COMMANDS: [Usage; 31] = [
     Usage {
         words: "flush S C",
         does: "it sends a FLUSH",
+    },
+    Usage {
+        words: "zero S C O L",
+        does: "it sends a WRITE_ZEROES of L bytes at offset O",
+    },
+    Usage {
+        words: "fzero S C O L",
+        does: "the same with FUA",
     },
     Usage {
         words: "run",

@@ -25,7 +25,8 @@ pub enum ScriptCommand {
         session: SessionId,
         member: u64,
     },
-    /// `write S C O H`, `fua S C O H`, `read S C O L`, `flush S C`: a request from a session's client.
+    /// `write S C O H`, `fua S C O H`, `read S C O L`, `flush S C`, `zero S C O L`, `fzero S C O L`: a request from a session's
+    /// client.
     Request {
         session: SessionId,
         request: ClientRequest,
@@ -129,33 +130,46 @@ pub fn parse(alloc: Global, line: &[u8]) -> Result<Option<ScriptCommand>, LineEr
     }
     let text = str::from_utf8(line).map_err(|_| LineError::NotText)?;
     let words: Vec<&str> = text.split(' ').collect(alloc)?;
-    let command = match words.as_slice() {
-        ["new" | "connect" | "session", ..] => beginning(&words)?,
-        ["write" | "fua" | "read" | "flush", ..] => request_command(alloc, &words)?,
-        ["bytes", session, first, others @ ..] => ScriptCommand::Bytes {
+    command_of(alloc, &words).map(Some)
+}
+
+/// The command of these words.
+fn command_of(alloc: Global, words: &[&str]) -> Result<ScriptCommand, LineError> {
+    match words {
+        ["new" | "connect" | "session", ..] => beginning(words),
+        ["write" | "fua" | "read" | "flush" | "zero" | "fzero", ..] => {
+            request_command(alloc, words)
+        }
+        ["bytes", session, first, others @ ..] => Ok(ScriptCommand::Bytes {
             session: SessionId(number(session)?),
             piece: joined(alloc, first, others)?,
-        },
-        ["bgroup", member, most] => ScriptCommand::Act {
+        }),
+        ["run"] => Ok(ScriptCommand::Run),
+        ["state"] => Ok(ScriptCommand::State),
+        ["fail" | "stopat" | "cut" | "return", ..] => crash_command(words),
+        _ => chain_command(words),
+    }
+}
+
+/// A step of a member, or of two.
+fn chain_command(words: &[&str]) -> Result<ScriptCommand, LineError> {
+    match words {
+        ["bgroup", member, most] => Ok(ScriptCommand::Act {
             act: MemberAct::Begin {
                 most: number(most)?,
             },
             member: number(member)?,
-        },
-        ["pass", from, to] => ScriptCommand::Pass {
+        }),
+        ["pass", from, to] => Ok(ScriptCommand::Pass {
             from: number(from)?,
             to: number(to)?,
-        },
-        ["run"] => ScriptCommand::Run,
-        ["state"] => ScriptCommand::State,
-        ["fail" | "stopat" | "cut" | "return", ..] => crash_command(&words)?,
-        [act, member] => ScriptCommand::Act {
+        }),
+        [act, member] => Ok(ScriptCommand::Act {
             act: member_act(act)?,
             member: number(member)?,
-        },
-        _ => return Err(LineError::Malformed),
-    };
-    Ok(Some(command))
+        }),
+        _ => Err(LineError::Malformed),
+    }
 }
 
 /// A world or a session begins.
@@ -191,8 +205,15 @@ fn request_command(alloc: Global, words: &[&str]) -> Result<ScriptCommand, LineE
         }
         ["read", session, cookie, offset, len] => {
             let head = head_of(RequestKind::Read, session, cookie, offset)?;
-            let length = length(len)?;
-            Ok(head.with(length, Vec::new(alloc)))
+            bare_request(alloc, head, len)
+        }
+        ["zero", session, cookie, offset, len] => {
+            let head = head_of(RequestKind::Zero, session, cookie, offset)?;
+            bare_request(alloc, head, len)
+        }
+        ["fzero", session, cookie, offset, len] => {
+            let head = head_of(RequestKind::ForcedZero, session, cookie, offset)?;
+            bare_request(alloc, head, len)
         }
         ["flush", session, cookie] => {
             let head = head_of(RequestKind::Flush, session, cookie, "0")?;
@@ -277,6 +298,12 @@ fn request(head: RequestHead, payload: Vec<u8>) -> Result<ScriptCommand, LineErr
     }
     let length = payload.len() as u32;
     Ok(head.with(length, payload))
+}
+
+/// A request of that many bytes, which carries none.
+fn bare_request(alloc: Global, head: RequestHead, len: &str) -> Result<ScriptCommand, LineError> {
+    let length = length(len)?;
+    Ok(head.with(length, Vec::new(alloc)))
 }
 
 /// What a member is told by this word.

@@ -5,7 +5,7 @@ use crate::comparing::{prints, same, same_at};
 use crate::folders::{new_folder, path};
 use disk_model::{Cut, Disk, DiskError, Event, FileDisk, MemDisk, Script};
 use folder::{Failure, FileName, FolderDisks, Layout, Opened, Refusal, format, open, restart};
-use gate_journal::{Image, PAIR_SIZE, Slot};
+use gate_journal::{PAIR_SIZE, Slot};
 use home_blocks::Version;
 use local_store::{Store, StoreLike};
 use std::alloc::Global;

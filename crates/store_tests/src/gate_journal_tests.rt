@@ -3,17 +3,11 @@ ghost use Rattle.std.specs.Prelude.{◌≡◌, ◌+◌, ◌≤◌};
 
 use crate::comparing::{prints, same, same_at};
 use crate::disks::new_disk;
+use crate::images::{image, is_of};
 use disk_model::{Cut, Disk, DiskError, Event, Part};
-use gate_journal::{IMAGE_SIZE, Image, Journal, MAX_NUMBER, Refusal, Slot, Synced};
+use gate_journal::{Batch, IMAGE_SIZE, Image, Journal, MAX_NUMBER, Refusal, Slot, Synced};
 use std::alloc::Global;
 use std::process::Abort;
-
-fn image(block: u32, byte: u8) -> Image {
-    Image {
-        block,
-        bytes: [byte; IMAGE_SIZE],
-    }
-}
 
 // Appends what the journal takes.
 fn append<D: Disk>(
@@ -29,7 +23,23 @@ fn append<D: Disk>(
     ensures size { D.size disk.new ≡ D.size disk.old }
 {
     assert!(rt; journal.are_images(images) && journal.front() < front && front <= MAX_NUMBER);
-    journal.append(alloc, disk, front, images)
+    journal.append(&mut Vec::new(alloc), disk, front, images)
+}
+
+// An image of zeros takes 4 bytes of a batch, and any other 4,100; a clone has the same bytes.
+#[test]
+fn an_image_and_its_clone(rt: HostRuntime) {
+    let alloc = rt.alloc();
+    for (byte, is_zeros, size) in [(0, true, 4), (7, false, 4_100)] {
+        let copy = image(&rt, alloc, 3, byte).clone().expect(&rt, "memory");
+        let told = (copy.block(), copy.is_zeros(), copy.size());
+        same_at(&rt, told, (3, is_zeros, size), byte);
+        let mut bytes = vec![in alloc; 1; 2].expect(&rt, "memory");
+        copy.append_to(&mut bytes).expect(&rt, "memory");
+        same_at(&rt, bytes.len(), 4_098, byte);
+        same_at(&rt, bytes.starts_with(&[1, 1]), true, byte);
+        same_at(&rt, bytes.ends_with(&[byte; IMAGE_SIZE]), true, byte);
+    }
 }
 
 // A stop in a call of `append`, after so many bytes of it, and how many batches are found then, where a cut left all
@@ -54,21 +64,23 @@ fn found_after(rt: &impl Abort, alloc: Global, slot: Slot, event: Event, cut: Cu
     let mut disk = new_disk(rt, alloc, 5 + TWO);
     let mut journal = Journal::create(&mut disk, part, slot, 4, 6).expect(rt, "a journal");
     same(rt, disk.calls(), 2);
-    let told = append(rt, alloc, &mut journal, &mut disk, 9, &[image(0, 7)]);
+    let images = [image(rt, alloc, 0, 7)];
+    let told = append(rt, alloc, &mut journal, &mut disk, 9, &images);
     let receipt = told.expect(rt, "a receipt");
     same(rt, (receipt.front(), disk.calls()), (9, 6));
     disk.arm(event).expect(rt, "memory");
-    let told = append(rt, alloc, &mut journal, &mut disk, 11, &[image(3, 8)]);
+    let images = [image(rt, alloc, 3, 8)];
+    let told = append(rt, alloc, &mut journal, &mut disk, 11, &images);
     same(rt, told.err(), Some(Refusal::Device(DiskError::Stopped)));
-    let again = append(rt, alloc, &mut journal, &mut disk, 11, &[image(3, 8)]);
+    let again = append(rt, alloc, &mut journal, &mut disk, 11, &images);
     same(rt, again.err(), Some(Refusal::Broken));
     disk.cut(cut);
 
     let (_, batches) = Journal::open(alloc, &mut disk, part, slot, 4, 6).expect(rt, "a journal");
-    let wanted = [(9, image(0, 7)), (11, image(3, 8))];
-    for (batch, (front, image)) in batches.iter().zip(wanted) {
+    let wanted = [(9, 0, 7), (11, 3, 8)];
+    for (batch, (front, block, byte)) in batches.iter().zip(wanted) {
         same(rt, batch.front(), front);
-        same(rt, batch.images(), [image].as_slice());
+        is_of(rt, batch.images(), block, byte);
     }
     batches.len()
 }
@@ -96,7 +108,8 @@ fn append_fails(rt: &impl Abort, alloc: Global, call: u64) -> Option<Refusal> {
     let mut disk = new_disk(rt, alloc, TWO);
     let mut journal = Journal::create(&mut disk, part, slot, 1, 0).expect(rt, "a journal");
     disk.arm(Event::FailAt { call }).expect(rt, "memory");
-    let told = append(rt, alloc, &mut journal, &mut disk, 1, &[image(0, 1)]);
+    let images = [image(rt, alloc, 0, 1)];
+    let told = append(rt, alloc, &mut journal, &mut disk, 1, &images);
     let again = journal.read_all(alloc, &mut disk);
     same(rt, again.err(), Some(Refusal::Broken));
     same(rt, Some(disk.calls()), call.checked_add(2));
@@ -109,7 +122,8 @@ fn read_fails(rt: &impl Abort, alloc: Global, call: u64) -> Option<Refusal> {
     let part = Part::new(0, TWO);
     let mut disk = new_disk(rt, alloc, TWO);
     let mut journal = Journal::create(&mut disk, part, slot, 1, 0).expect(rt, "a journal");
-    let told = append(rt, alloc, &mut journal, &mut disk, 1, &[image(0, 1)]);
+    let images = [image(rt, alloc, 0, 1)];
+    let told = append(rt, alloc, &mut journal, &mut disk, 1, &images);
     let _receipt = told.expect(rt, "a receipt");
     let batches = journal.read_all(alloc, &mut disk).expect(rt, "the batches");
     same(rt, (batches.len(), disk.calls()), (1, 10));
@@ -205,29 +219,81 @@ fn damage(rt: HostRuntime) {
     same(&rt, opened(&rt, alloc, 0, &[]), Err(Refusal::Damaged));
 }
 
+// The batch of a block of zeros behind an empty volume, and the closed gate behind it: what `zero` of block 0 leaves.
+const MARK: [u8; 18] = *b"\x01\0\0\0\0\0\0\0\x01\0\0\0\x01\x80\0\0\0\0";
+
+// A block of zeros is written as a mark, so that an area takes it that has no room for a whole one.
+#[test]
+fn a_mark_is_written(rt: HostRuntime) {
+    let alloc = rt.alloc();
+    let slot = Slot::new(0).expect(&rt, "a slot");
+    let part = Part::new(0, 18);
+    let mut disk = new_disk(&rt, alloc, 18);
+    let mut journal = Journal::create(&mut disk, part, slot, 8, 0).expect(&rt, "a journal");
+    same(&rt, journal.left(), 4);
+    let whole = [image(&rt, alloc, 0, 1)];
+    let told = append(&rt, alloc, &mut journal, &mut disk, 1, &whole);
+    same(&rt, told.err(), Some(Refusal::Full));
+    let zeros = [image(&rt, alloc, 0, 0)];
+    let told = append(&rt, alloc, &mut journal, &mut disk, 1, &zeros);
+    let _receipt = told.expect(&rt, "a receipt");
+    same(&rt, journal.left(), 0);
+    let mut bytes = [0; 18];
+    disk.read(0, &mut bytes).expect(&rt, "the disk reads");
+    same(&rt, bytes, MARK);
+    let (_, batches) = Journal::open(alloc, &mut disk, part, slot, 8, 0).expect(&rt, "a journal");
+    let read: Option<&Batch> = batches.first();
+    is_of(&rt, read.map(Batch::images).unwrap_or_default(), 0, 0);
+}
+
+// Marks behind a first batch of the front 7 with a whole block 1 of zeros: a second's front, its count and its numbers; the
+// area's length; and the last front, where it isn't damage.
+const MARKS: [(u64, u32, &[u32], u32, Option<u64>); 7] = [
+    (8, 1, &[0x8000_0003], 4_131, Some(8)),
+    (8, 1, &[0x8000_0003], 4_130, None),
+    (8, 2, &[0x8000_0003, 0x8000_0001], 4_135, Some(8)),
+    (8, 2, &[0x8000_0003, 0x8000_0003], 4_135, None),
+    (8, 1, &[0x8000_0004], 4_131, None),
+    (8, 1, &[3], 4_131, None),
+    (8, 2, &[0x8000_0003], 4_131, None),
+];
+
+#[test]
+fn marks_are_read(rt: HostRuntime) {
+    let alloc = rt.alloc();
+    for (front, count, numbers, area, last) in &MARKS {
+        let mut bytes = Vec::new(alloc);
+        encode(&rt, &mut bytes, 7, 1, &[1]);
+        encode(&rt, &mut bytes, *front, *count, &[]);
+        for number in *numbers {
+            bytes
+                .extend_from_slice(&number.to_be_bytes())
+                .expect(&rt, "memory");
+        }
+        let is = opened(&rt, alloc, *area, &bytes);
+        same_at(&rt, is, last.ok_or(Refusal::Damaged), (front, count, area));
+    }
+}
+
 #[test]
 fn full(rt: HostRuntime) {
     let alloc = rt.alloc();
     let slot = Slot::new(7).expect(&rt, "a slot");
-    for (area, room, told) in [
-        (4_113, 0, Some(Refusal::Full)),
-        (4_114, 1, None),
-        (8_213, 1, None),
-        (8_214, 2, None),
+    for (area, left, told, behind) in [
+        (13, 0, Some(Refusal::Full), 0),
+        (4_113, 4_099, Some(Refusal::Full), 4_099),
+        (4_114, 4_100, None, 0),
+        (8_213, 8_199, None, 4_086),
+        (8_214, 8_200, None, 4_087),
     ] {
         let part = Part::new(0, area);
         let mut disk = new_disk(&rt, alloc, area);
         let mut journal = Journal::create(&mut disk, part, slot, 1, 0).expect(&rt, "a journal");
-        same_at(&rt, journal.room(), room, area);
-        let first = append(
-            &rt,
-            alloc,
-            &mut journal,
-            &mut disk,
-            MAX_NUMBER,
-            &[image(0, 1)],
-        );
+        same_at(&rt, journal.left(), left, area);
+        let images = [image(&rt, alloc, 0, 1)];
+        let first = append(&rt, alloc, &mut journal, &mut disk, MAX_NUMBER, &images);
         same_at(&rt, first.err(), told, area);
+        same_at(&rt, journal.left(), behind, area);
         same(&rt, journal.part(), part);
     }
 }

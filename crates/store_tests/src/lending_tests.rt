@@ -8,6 +8,7 @@ ghost use Rattle.local_store.specs.Store.{geometry_of};
 
 use crate::comparing::{same, same_at};
 use crate::disks::new_disk;
+use crate::images::image;
 use disk_model::{Cut, DiskError, Event, MemDisk};
 use flusher::Run;
 use gate_journal::{IMAGE_SIZE, Image, Slot};
@@ -52,19 +53,10 @@ fn lending(rt: &impl Abort, alloc: Global, fails: Option<u64>) -> LendingStore<M
 }
 
 // The blocks 2 and 3.
-fn two(byte: u8) -> [Image; 2]
+fn two(rt: &impl Abort, alloc: Global, byte: u8) -> [Image; 2]
     ensures { AreImages 8 result }
 {
-    [
-        Image {
-            block: 2,
-            bytes: [byte; IMAGE_SIZE],
-        },
-        Image {
-            block: 3,
-            bytes: [byte; IMAGE_SIZE],
-        },
-    ]
+    [image(rt, alloc, 2, byte), image(rt, alloc, 3, byte)]
 }
 
 // The byte of which the block consists.
@@ -92,9 +84,20 @@ fn lend(rt: &impl Abort, alloc: Global, store: &mut LendingStore<MemDisk>) -> Co
     requires blocks { (geometry_of store.old.contents).blocks ≡ 8 }
 {
     of_version_two(rt, store);
-    let work = store.lend_commit(alloc, 1, &two(7)).expect(rt, "a commit");
+    let images = two(rt, alloc, 7);
+    let work = store.lend_commit(alloc, 1, &images).expect(rt, "a commit");
     assert!(rt; store.is_lent());
     work
+}
+
+// What a disk means that was cut: the front, and the byte of which block 3 consists.
+fn found(rt: &impl Abort, alloc: Global, mut disk: MemDisk) -> (u64, u8) {
+    disk.cut(Cut::None);
+    let Ok(found) = Store::open(alloc, disk) else {
+        panic!(rt; "no store")
+    };
+    let mut found = LendingStore::of(found);
+    (found.front(), read(rt, &mut found, 3))
 }
 
 #[test]
@@ -106,7 +109,7 @@ fn a_lent_commit_is_finished(rt: HostRuntime) {
     same(&rt, (read(&rt, &mut store, 2), store.front()), (0, 0));
     of_version_two(&rt, &store);
     same(&rt, store.tick(), Ok(None));
-    let done = work.journal(alloc);
+    let done = work.journal(&mut Vec::new(alloc));
     assert!(rt; store.is_log_of(&done));
     let receipt = store.finish_commit(done).expect(&rt, "a receipt");
     same(&rt, (receipt.slot().number(), receipt.front()), (0, 1));
@@ -115,22 +118,17 @@ fn a_lent_commit_is_finished(rt: HostRuntime) {
     same(&rt, read(&rt, &mut store, 3), 7);
     let run = Run { first: 2, count: 2 };
     of_version_two(&rt, &store);
-    same(&rt, store.tick_run(alloc, 8), Ok(Some(run)));
+    same(&rt, store.tick_run(8), Ok(Some(run)));
     same(&rt, store.disk().calls(), 28);
-    let mut disk = store.into_disk();
-    disk.cut(Cut::None);
-    let Ok(found) = Store::open(alloc, disk) else {
-        panic!(rt; "no store")
-    };
-    let mut found = LendingStore::of(found);
-    same(&rt, (found.front(), read(&rt, &mut found, 3)), (1, 7));
+    same(&rt, found(&rt, alloc, store.into_disk()), (1, 7));
 }
 
 #[test]
 fn a_log_is_taken_back(rt: HostRuntime) {
     let alloc = rt.alloc();
     let mut store = lending(&rt, alloc, None);
-    let done = lend(&rt, alloc, &mut store).journal(alloc);
+    let work = lend(&rt, alloc, &mut store);
+    let done = work.journal(&mut Vec::new(alloc));
     assert!(rt; store.is_log_of(&done));
     store.take_back(done);
     same(
@@ -147,7 +145,8 @@ fn a_log_is_taken_back(rt: HostRuntime) {
 fn a_refused_journaling_breaks_the_store(rt: HostRuntime) {
     let alloc = rt.alloc();
     let mut store = lending(&rt, alloc, Some(2));
-    let done = lend(&rt, alloc, &mut store).journal(alloc);
+    let work = lend(&rt, alloc, &mut store);
+    let done = work.journal(&mut Vec::new(alloc));
     assert!(rt; store.is_log_of(&done));
     let fault = Refusal::Device(DiskError::SyncFault);
     same(&rt, store.finish_commit(done).err(), Some(fault));

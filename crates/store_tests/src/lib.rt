@@ -27,6 +27,8 @@ mod gate_journal_tests;
 #[cfg(test)]
 mod home_blocks_tests;
 #[cfg(test)]
+mod images;
+#[cfg(test)]
 mod lending_tests;
 #[cfg(test)]
 mod local_store_tests;

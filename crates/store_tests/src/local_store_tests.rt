@@ -7,6 +7,7 @@ ghost use Rattle.local_store.specs.Store.{geometry_of};
 
 use crate::comparing::{prints, same, same_at};
 use crate::disks::{new_disk, stretch};
+use crate::images::image;
 use disk_model::{Cut, Disk, DiskError, Event, MemDisk};
 use flusher::Plan;
 use gate_journal::{IMAGE_SIZE, Image, MAX_NUMBER, Slot, Synced};
@@ -65,29 +66,17 @@ fn formatted(rt: &impl Abort, alloc: Global, area: u32) -> Rig {
 }
 
 // The blocks 0 and 1.
-pub(crate) fn two(first: u8, second: u8) -> [Image; 2]
+pub(crate) fn two(rt: &impl Abort, alloc: Global, first: u8, second: u8) -> [Image; 2]
     ensures { AreImages 8 result }
 {
-    [
-        Image {
-            block: 0,
-            bytes: [first; IMAGE_SIZE],
-        },
-        Image {
-            block: 1,
-            bytes: [second; IMAGE_SIZE],
-        },
-    ]
+    [image(rt, alloc, 0, first), image(rt, alloc, 1, second)]
 }
 
 // The block 1.
-fn one(byte: u8) -> [Image; 1]
+fn one(rt: &impl Abort, alloc: Global, byte: u8) -> [Image; 1]
     ensures { AreImages 8 result }
 {
-    [Image {
-        block: 1,
-        bytes: [byte; IMAGE_SIZE],
-    }]
+    [image(rt, alloc, 1, byte)]
 }
 
 // The store's disk is long enough, for its 8 blocks.
@@ -205,7 +194,7 @@ fn a_formatted_disk_is_opened(rt: HostRuntime) {
         same(&rt, rig.read(&rt, block), Ok(0));
     }
     let receipt = rig
-        .commit(&rt, MAX_NUMBER, &two(1, 2))
+        .commit(&rt, MAX_NUMBER, &two(&rt, alloc, 1, 2))
         .expect(&rt, "a receipt");
     same(
         &rt,
@@ -225,9 +214,11 @@ const BATCH: [(usize, &[u8]); 5] = [
 
 #[test]
 fn a_commit_writes_its_batch(rt: HostRuntime) {
-    let mut rig = formatted(&rt, rt.alloc(), LEAST);
+    let alloc = rt.alloc();
+    let mut rig = formatted(&rt, alloc, LEAST);
     same(&rt, rig.disk.calls(), 22);
-    let _receipt = rig.commit(&rt, 1, &two(7, 8)).expect(&rt, "a receipt");
+    let images = two(&rt, alloc, 7, 8);
+    let _receipt = rig.commit(&rt, 1, &images).expect(&rt, "a receipt");
     same(&rt, rig.disk.calls(), 26);
     for (at, bytes) in &BATCH {
         same_at(&rt, stretch(&rig.disk, *at, bytes.len()), *bytes, at);
@@ -236,12 +227,15 @@ fn a_commit_writes_its_batch(rt: HostRuntime) {
 
 #[test]
 fn a_checkpoint_writes_a_superblock(rt: HostRuntime) {
-    let mut rig = formatted(&rt, rt.alloc(), LEAST);
-    let _receipt = rig.commit(&rt, 1, &two(7, 8)).expect(&rt, "a receipt");
+    let alloc = rt.alloc();
+    let mut rig = formatted(&rt, alloc, LEAST);
+    let images = two(&rt, alloc, 7, 8);
+    let _receipt = rig.commit(&rt, 1, &images).expect(&rt, "a receipt");
     rig.checkpoint(&rt).expect(&rt, "a checkpoint");
     same(&rt, rig.disk.calls(), 37);
     same(&rt, stretch(&rig.disk, 4_096, 56), SECOND.as_slice());
-    let _receipt = rig.commit(&rt, 2, &one(9)).expect(&rt, "a receipt");
+    let images = one(&rt, alloc, 9);
+    let _receipt = rig.commit(&rt, 2, &images).expect(&rt, "a receipt");
     same(
         &rt,
         stretch(&rig.disk, 49_174, 9),
@@ -252,9 +246,11 @@ fn a_checkpoint_writes_a_superblock(rt: HostRuntime) {
 // A store behind a checkpoint and a commit of block 1.
 fn checkpointed(rt: &impl Abort, alloc: Global) -> Rig {
     let mut rig = formatted(rt, alloc, LEAST);
-    let _receipt = rig.commit(rt, 1, &two(7, 8)).expect(rt, "a receipt");
+    let images = two(rt, alloc, 7, 8);
+    let _receipt = rig.commit(rt, 1, &images).expect(rt, "a receipt");
     rig.checkpoint(rt).expect(rt, "a checkpoint");
-    let _receipt = rig.commit(rt, 2, &one(9)).expect(rt, "a receipt");
+    let images = one(rt, alloc, 9);
+    let _receipt = rig.commit(rt, 2, &images).expect(rt, "a receipt");
     same(rt, rig.disk.calls(), 41);
     rig
 }
@@ -334,22 +330,21 @@ fn opens(rt: HostRuntime) {
 
 // Whether a commit of block 1 at each of these fronts is refused so.
 fn are_refused(rt: &impl Abort, rig: &mut Rig, fronts: &[(u64, Refusal)]) {
+    let images = one(rt, rig.alloc, 9);
     for (front, told) in fronts {
         assert!(rt; *front <= MAX_NUMBER);
-        same_at(
-            rt,
-            rig.commit(rt, *front, &one(9)).err(),
-            Some(*told),
-            front,
-        );
+        let is = rig.commit(rt, *front, &images).err();
+        same_at(rt, is, Some(*told), front);
     }
 }
 
 #[test]
 fn refusals(rt: HostRuntime) {
-    let mut rig = formatted(&rt, rt.alloc(), LEAST);
+    let alloc = rt.alloc();
+    let mut rig = formatted(&rt, alloc, LEAST);
     are_refused(&rt, &mut rig, &[(0, Refusal::Backwards)]);
-    let _receipt = rig.commit(&rt, 4, &two(7, 8)).expect(&rt, "a receipt");
+    let images = two(&rt, alloc, 7, 8);
+    let _receipt = rig.commit(&rt, 4, &images).expect(&rt, "a receipt");
     are_refused(
         &rt,
         &mut rig,
@@ -361,7 +356,8 @@ fn refusals(rt: HostRuntime) {
     );
     rig.checkpoint(&rt).expect(&rt, "a checkpoint");
     are_refused(&rt, &mut rig, &[(4, Refusal::Backwards)]);
-    let _receipt = rig.commit(&rt, 5, &one(9)).expect(&rt, "a receipt");
+    let images = one(&rt, alloc, 9);
+    let _receipt = rig.commit(&rt, 5, &images).expect(&rt, "a receipt");
 }
 
 const TEXTS: [(Refusal, Option<u16>, &str); 9] = [
@@ -399,8 +395,9 @@ enum Doing {
 
 // Does it: a commit is of block 1 at front 2, and a read of block 7.
 fn refused(rt: &impl Abort, rig: &mut Rig, doing: Doing) -> Option<Refusal> {
+    let images = one(rt, rig.alloc, 9);
     match doing {
-        Doing::Commit => rig.commit(rt, 2, &one(9)).err(),
+        Doing::Commit => rig.commit(rt, 2, &images).err(),
         Doing::Tick => rig.tick(rt).err(),
         Doing::Checkpoint => rig.checkpoint(rt).err(),
         Doing::Read => rig.read(rt, 7).err(),
@@ -410,7 +407,8 @@ fn refused(rt: &impl Abort, rig: &mut Rig, doing: Doing) -> Option<Refusal> {
 // A store behind a commit of blocks 0 and 1 at front 1.
 fn committed(rt: &impl Abort, alloc: Global) -> Rig {
     let mut rig = formatted(rt, alloc, ROOMY);
-    let _receipt = rig.commit(rt, 1, &two(7, 8)).expect(rt, "a receipt");
+    let images = two(rt, alloc, 7, 8);
+    let _receipt = rig.commit(rt, 1, &images).expect(rt, "a receipt");
     rig
 }
 
@@ -554,23 +552,19 @@ fn stops(rt: HostRuntime) {
 fn no_memory(rt: HostRuntime) {
     let alloc = rt.alloc();
     let mut rig = formatted(&rt, alloc, ROOMY);
+    let images = two(&rt, alloc, 7, 8);
     let before = rig.disk.calls();
-    let front = match rig.commit(&rt, 1, &two(7, 8)) {
+    let front = match rig.commit(&rt, 1, &images) {
         Ok(receipt) => receipt.front(),
         Err(Refusal::Memory) => {
             same(&rt, (rig.disk.calls(), rig.store.front()), (before, 0));
             same(&rt, rig.read(&rt, 1), Ok(0));
-            rig.commit(&rt, 1, &two(7, 8))
-                .expect(&rt, "a receipt")
-                .front()
+            rig.commit(&rt, 1, &images).expect(&rt, "a receipt").front()
         }
         Err(refusal) => {
             same(&rt, refusal, Refusal::Device(DiskError::Memory));
-            same(
-                &rt,
-                rig.commit(&rt, 1, &two(7, 8)).err(),
-                Some(Refusal::Broken),
-            );
+            let again = rig.commit(&rt, 1, &images).err();
+            same(&rt, again, Some(Refusal::Broken));
             0
         }
     };

@@ -33,7 +33,8 @@ fn first(rt: &impl Abort, alloc: Global) -> Store<MemDisk> {
         panic!(rt; "no store")
     };
     assert!(rt; store.geometry().blocks == 8);
-    let _receipt = store.commit(alloc, 1, &two(7, 8)).expect(rt, "a receipt");
+    let images = two(rt, alloc, 7, 8);
+    let _receipt = store.commit(alloc, 1, &images).expect(rt, "a receipt");
     let mut disk = store.into_disk();
     assert!(rt; disk.len() > 24);
     disk.write_at(24, b"\x01").expect(rt, "the disk writes");

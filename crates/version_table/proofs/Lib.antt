@@ -1,4 +1,5 @@
 mod BlockLemmas
+mod LastWhole
 mod MarkLemmas
 mod TableLemmas
 pub mod Whole

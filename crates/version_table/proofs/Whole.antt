@@ -1,13 +1,13 @@
 -- A block that a write has whole doesn't depend on what it was before: lemmas that the crates above cite.
-use Rattle.std.proofs.Common.{◌≡◌, ℕ, ◌+◌, ◌-◌, ◌*◌, ◌<◌, ◌≤◌, true, false, List, [], ◌∷◌, length, get_or, take, drop, sym, ◌∙◌, ap, arith, inl, inr}
+use Rattle.std.proofs.Common.{◌≡◌, ℕ, ◌+◌, ◌-◌, ◌*◌, ◌<◌, ◌≤◌, true, false, List, [], ◌∷◌, length, get_or, take, sym, ◌∙◌, ap, arith, inl, inr}
 use Rattle.std.specs.Prelude.{◌||◌, All, fold}
 use Rattle.std.specs.List.{list_any}
 use Rattle.std.proofs.lemmas.Bool.{cases_Bool, false≢true}
 use Rattle.std.proofs.lemmas.Bool.Decides.{nat_tests}
-use Rattle.std.proofs.lemmas.List.{same_lists, get_or-map, get_or-take, length-map, length-take}
+use Rattle.std.proofs.lemmas.List.{get_or-map, get_or-take, length-map, length-take}
 use Rattle.std.proofs.lemmas.List.Elements.{All-head, All-tail}
 use Rattle.std.proofs.lemmas.List.Folds.{list_any_at, list_any_none}
-use Rattle.volume.specs.Volumes.{get_or-patched_within, get_or-range, length-patched, length-range, range-patched_same}
+use Rattle.volume.specs.Volumes.{block_of-patched_whole, length-patched, range-patched_same}
 use Rattle.volume.specs.Writes.{Fits, IsTouched, Placed, block_of, patched}
 use Rattle.version_table.specs.Held.{Held, writes_upto}
 use Rattle.version_table.specs.Whole.{has_whole}
@@ -24,18 +24,12 @@ untouched_is_not_whole b w apart = elim (cases_Bool (has_whole b w)) [
 ]
 
 -- the block that the write has whole is the write's, over each volume
-own_block : (volume other : List ℕ) (w : Placed) (b : ℕ) → length volume ≡ length other → Fits (length volume) w → has_whole b w ≡ true
+pub own_block : (volume other : List ℕ) (w : Placed) (b : ℕ) → length volume ≡ length other → Fits (length volume) w → has_whole b w ≡ true
     → block_of (patched volume w) b ≡ block_of (patched other w) b
-unfolding block_of
 own_block volume other w b long fits whole =
     let from : w.offset ≤ 4096 * b = grind (arith, nat_tests) in
     let upto : 4096 * b + 4096 ≤ w.offset + length w.bytes = grind (arith, nat_tests) in
-    let fits_other : Fits (length other) w = omega arith in
-    same_lists _ _ (length-range (4096 * b) 4096 (patched volume w) (patched other w) (length-patched volume w fits ∙ long ∙ sym (length-patched other w fits_other))) (λ k d lt.
-    let below : k < 4096 = omega (arith, lt, length-take 4096 (drop (4096 * b) (patched volume w))) in
-    rw (get_or-range (4096 * b) 4096 (patched volume w) k d below, get_or-range (4096 * b) 4096 (patched other w) k d below)
-    (get_or-patched_within volume w fits (4096 * b + k) d (omega arith) (omega arith)
-    ∙ sym (get_or-patched_within other w fits_other (4096 * b + k) d (omega arith) (omega arith))))
+    block_of-patched_whole volume w b fits from upto ∙ sym (block_of-patched_whole other w b (omega arith) from upto)
 
 -- volumes that have the same block have the same one after writes
 same_after : (volume other : List ℕ) (ws : List Placed) (b : ℕ) → length volume ≡ length other → All (Fits (length volume)) ws → block_of volume b ≡ block_of other b

@@ -1,9 +1,9 @@
-ghost use Rattle.std.specs.Prelude.{◌≡◌, ℕ, List, [], ◌∷◌, ◌+◌, ◌-◌, ◌*◌, ◌<◌, ◌≤◌, ◌^◌, ◌++◌, ◌↔◌, ◌⊎◌, fold, length, slice_index_or, All, IsTrue, IfSome, IfNone, OnOk, OnErr, IsErrOf};
+ghost use Rattle.std.specs.Prelude.{◌≡◌, ℕ, List, [], ◌∷◌, ◌+◌, ◌-◌, ◌*◌, ◌<◌, ◌≤◌, ◌^◌, ◌++◌, ◌↔◌, ◌⊎◌, fold, length, slice_index_or, true, All, Contains, IsTrue, is_some, IfSome, IfNone, OnOk, OnErr, IsErrOf};
 ghost use Rattle.std.specs.VecDeque.Iter.{deque_iter_rest, deque_iter_steps};
 ghost use Rattle.std.specs.Iterator.Runs.{YieldsRefsInOrder};
 ghost use Rattle.std.specs.List.{AllWithin, list_any};
 ghost use Rattle.volume.specs.Writes.{Placed, Fits, patched, block_of, IsTouched};
-ghost use Rattle.version_table.specs.Whole.{has_whole};
+ghost use Rattle.version_table.specs.Whole.{ends_whole, has_whole};
 ghost use Rattle.version_table.specs.declared.kept.Kept.{Kept};
 ghost use Rattle.version_table.specs.Held.{Held, applied_of, with_write, forgotten_to, kept_after, writes_upto, IsFullFor, IsClean, IsNumbered};
 
@@ -182,6 +182,28 @@ impl Table {
             tested = number;
         }
         false
+    }
+
+    /// The last of the writes up to the number `j` that touches the block, where it has the whole block: then the block after them is
+    /// the write's own. `j` lies between the forgotten front and `applied()`. Only the writes that touch the block are looked at.
+    pub fn whole_at(&self, block: u32, j: u64) -> Option<&Write>
+        requires kept { self.now.forgotten ≤ j }
+        requires applied { j ≤ applied_of self.now }
+        ensures there { is_some result ≡ ends_whole block (writes_upto self.now j) }
+        ensures whole { IfSome result (λ w. has_whole block w.now ≡ true) }
+        ensures one { IfSome result (λ w. Contains (writes_upto self.now j) w.now) }
+        ensures value { IfSome result (λ w. (volume : List ℕ) → All (Fits (length volume)) (writes_upto self.now j)
+            → block_of (fold patched volume (writes_upto self.now j)) block ≡ block_of (patched volume w.now) block) }
+    {
+        let mut last = self.front;
+        while let Some(number) = self.next_touching(block, last, j) {
+            last = number;
+        }
+        if last == self.front {
+            return None;
+        }
+        let write = &self.get(last).write;
+        has_whole(write, block).then_some(write)
     }
 
     /// Whether no write above the number `k` touches a block of the `len` bytes from `offset` on. They lie within the

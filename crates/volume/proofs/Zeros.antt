@@ -1,15 +1,7 @@
 -- Zeros, of which no byte is kept.
-use Rattle.std.proofs.Common.{◌≡◌, ◌==◌, ℕ, zero, suc, ◌+◌, ◌-◌, ◌≤◌, true, List, [], ◌∷◌, length, take, drop, replicate, refl, ap, ◌∙◌, sym, arith}
+use Rattle.std.proofs.Common.{◌≡◌, ℕ, zero, suc, ◌+◌, ◌-◌, ◌≤◌, true, List, take, drop, replicate, refl, ap, ◌∙◌, sym, arith}
 use Rattle.std.proofs.lemmas.List.{drop-replicate, take-replicate}
-use Rattle.std.proofs.lemmas.Bool.{and_parts}
 use Rattle.volume.specs.Body.{is_zeros}
-
-pub zeros_are : (bytes : List ℕ) → is_zeros bytes ≡ true → replicate (length bytes) 0 ≡ bytes
-zeros_are [] is = refl
-zeros_are (byte ∷ bytes) is =
-    let (first, rest) = and_parts (byte == 0) (is_zeros bytes) is in
-    let none : 0 ≡ byte = grind (arith, first) in
-    ap (λ (l : List ℕ). 0 ∷ l) (zeros_are bytes rest) ∙ ap (λ (n : ℕ). n ∷ bytes) none
 
 pub are_zeros : (n : ℕ) → is_zeros (replicate n 0) ≡ true
 are_zeros zero = refl

@@ -1,13 +1,14 @@
 -- What writes make of a volume, its blocks and its ranges: lemmas for the crates above.
-use Rattle.std.proofs.Common.{◌≡◌, ℕ, zero, suc, ◌+◌, ◌-◌, ◌*◌, ◌<◌, ◌≤◌, List, [], ◌∷◌, length, get_or, take, drop, replicate, refl, sym, ◌∙◌, ap, rules, arith, inl, inr}
+use Rattle.std.proofs.Common.{◌≡◌, ◌==◌, ℕ, zero, suc, ◌+◌, ◌-◌, ◌*◌, ◌<◌, ◌≤◌, true, List, [], ◌∷◌, length, get_or, take, drop, replicate, refl, sym, ◌∙◌, ap, rules, arith, inl, inr}
 use Rattle.std.specs.Prelude.{All, filter, fold}
 use Rattle.std.proofs.lemmas.List.{places, same_lists, length-take, length-drop, length-replicate, get_or-take, get_or-drop, take-append-drop, take-replicate, drop-replicate, take_all}
 use Rattle.std.proofs.lemmas.List.Sums.{fold_push, fold_more, fold-append}
 use Rattle.std.proofs.lemmas.List.Elements.{All-head, All-tail}
-use Rattle.std.proofs.lemmas.Bool.{cases_lt, cases_Bool, both_ways}
+use Rattle.std.proofs.lemmas.Bool.{and_parts, cases_lt, cases_Bool, both_ways}
 use Rattle.std.proofs.Math.Seq.{take-add}
 use Rattle.std.proofs.Math.Nat.{mul-zero, mul-suc}
 use Rattle.std.proofs.lemmas.Bool.Decides.{nat_tests}
+use Rattle.volume.specs.Body.{is_zeros}
 use Rattle.volume.specs.Laws.{OneMoreIsLast, FrontsGoByOne, FrontsGoOn, WritesKeepLength, VolumesHaveTheirSize, BlocksAreWhole, BlocksMakeVolumes, TestAgrees, UntouchedBlocksStay, BlocksFollowTheirWrites, BlocksBeginAsZeros, UnreachedRangesStay, WritesReadBack, BlocksMakeTheWrite}
 use Rattle.volume.specs.Writes.{Placed, Fits, patched, volume_of, block_of, IsTouched, touches}
 
@@ -146,6 +147,34 @@ range-zeros offset len size inside = rw (drop-replicate {X = ℕ} offset size 0)
 pub block_of-volume_of-nil : BlocksBeginAsZeros
 unfolding block_of
 block_of-volume_of-nil size b inside = range-zeros (4096 * b) 4096 size (omega arith)
+
+-- a block that the write has whole is the write's own bytes
+pub block_of-patched_whole : (volume : List ℕ) (w : Placed) (block : ℕ) → w.offset + length w.bytes ≤ length volume → w.offset ≤ 4096 * block → 4096 * block + 4096 ≤ w.offset + length w.bytes
+    → block_of (patched volume w) block ≡ take 4096 (drop (4096 * block - w.offset) w.bytes)
+unfolding block_of
+block_of-patched_whole volume w block fits from upto =
+    let whole : length (take 4096 (drop (4096 * block) (patched volume w))) ≡ 4096 = omega (arith, length-take 4096 (drop (4096 * block) (patched volume w)), length-drop (4096 * block) (patched volume w), length-patched volume w fits) in
+    let own : length (take 4096 (drop (4096 * block - w.offset) w.bytes)) ≡ 4096 = omega (arith, length-take 4096 (drop (4096 * block - w.offset) w.bytes), length-drop (4096 * block - w.offset) w.bytes) in
+    same_lists _ _ (whole ∙ sym own) (λ k d lt.
+    let below : k < 4096 = omega arith in
+    let place : 4096 * block + k - w.offset ≡ 4096 * block - w.offset + k = omega arith in
+    get_or-range (4096 * block) 4096 (patched volume w) k d below ∙ get_or-patched_within volume w fits (4096 * block + k) d (omega arith) (omega arith)
+    ∙ ap (λ i. get_or w.bytes i d) place ∙ sym (get_or-range (4096 * block - w.offset) 4096 w.bytes k d below))
+
+-- bytes that are all zero
+pub zeros_are : (bytes : List ℕ) → is_zeros bytes ≡ true → replicate (length bytes) 0 ≡ bytes
+zeros_are [] is = refl
+zeros_are (byte ∷ bytes) is =
+    let (first, rest) = and_parts (byte == 0) (is_zeros bytes) is in
+    let none : 0 ≡ byte = grind (arith, first) in
+    ap (λ (l : List ℕ). 0 ∷ l) (zeros_are bytes rest) ∙ ap (λ (n : ℕ). n ∷ bytes) none
+
+-- a block that a write of zeros alone has whole
+pub block_of-patched_zeros : (volume : List ℕ) (w : Placed) (block : ℕ) → w.offset + length w.bytes ≤ length volume → w.offset ≤ 4096 * block → 4096 * block + 4096 ≤ w.offset + length w.bytes
+    → is_zeros w.bytes ≡ true → block_of (patched volume w) block ≡ replicate 4096 0
+block_of-patched_zeros volume w block fits from upto zeros =
+    block_of-patched_whole volume w block fits from upto ∙ ap (λ (l : List ℕ). take 4096 (drop (4096 * block - w.offset) l)) (sym (zeros_are w.bytes zeros))
+    ∙ range-zeros (4096 * block - w.offset) 4096 (length w.bytes) (omega arith)
 
 pub patched_from_blocks : BlocksMakeTheWrite
 patched_from_blocks n volume new w long long_new fits touched untouched =

@@ -1,4 +1,4 @@
-ghost use Rattle.std.specs.Prelude.{◌≡◌, ◌↔◌, ℕ, ◌+◌, ◌*◌, ◌≤◌, ◌<◌, ◌^◌, IfOk, IsTrue, List, length, replicate};
+ghost use Rattle.std.specs.Prelude.{◌≡◌, ◌↔◌, ℕ, ◌+◌, ◌*◌, ◌≤◌, ◌<◌, ◌^◌, IfOk, IfSome, IsTrue, is_none, List, length, replicate};
 ghost use Rattle.volume.specs.Body.{is_zeros, kept_of};
 
 use crate::geometry::BLOCK_SIZE;
@@ -105,6 +105,25 @@ impl Write {
         match &self.body {
             Body::Given(payload) => payload.clone(),
             Body::Zeros(len) => Ok(Bytes::from_vec(vec![in alloc; 0; *len as usize]?)?),
+        }
+    }
+
+    /// The whole block of the volume that the write has, which shares the write's bytes. `None` where the write is of zeros alone.
+    /// The write has each byte of the block.
+    pub fn share_block(&self, block: u32) -> Result<Option<Bytes>, AllocError>
+        requires from { self.now.offset ≤ 4096 * block }
+        requires upto { 4096 * block + 4096 ≤ self.now.offset + length self.now.bytes }
+        ensures bytes { IfOk result (λ given. IfSome given (λ bytes. (volume : List ℕ)
+            → self.now.offset + length self.now.bytes ≤ length volume → block_of (patched volume self.now) block ≡ bytes)) }
+        ensures len { IfOk result (λ given. IfSome given (λ bytes. length bytes ≡ 4096)) }
+        ensures zeros { IfOk result (λ given. is_none given ≡ is_zeros self.now.bytes) }
+    {
+        match &self.body {
+            Body::Given(payload) => {
+                let from = (u64::from(block) * BLOCK_SIZE - self.offset) as usize;
+                Ok(Some(payload.slice(from..from + BLOCK_SIZE as usize)?))
+            }
+            Body::Zeros(_) => Ok(None),
         }
     }
 }

@@ -31,11 +31,12 @@ module _ {S : Type 0} (c : Chained S) (export : Export) (queues : List (List Dem
   abbrev pub beginning : Seen S
   beginning = record { chain = c; sessions = record { board = c.id; export = export; clients = [] }; queues = queues }
 
-  pub begun_joined : export.size ≡ bytes_of c → export.max_payload ≡ c.geometry.max_payload → IsJoined beginning
-  begun_joined size payload = record {
+  pub begun_joined : export.size ≡ bytes_of c → export.max_payload ≡ c.geometry.max_payload → export.area ≡ c.geometry.area → IsJoined beginning
+  begun_joined size payload area = record {
     board = refl;
     size = size;
     payload = payload;
+    area = area;
     places = All-nil (λ (client : Client). client.at < length c.members);
     queues = ap length none ∙ length-replicate (length c.members) [];
     demands = subst (All (All (IsOfVolume c.id (bytes_of c)))) (sym none) (All-replicate (All (IsOfVolume c.id (bytes_of c))) (length c.members) [] (All-nil (IsOfVolume c.id (bytes_of c))));

@@ -88,6 +88,7 @@ joined_so old new alike places queues joined = record {
   board = places.board ∙ joined.board ∙ sym alike.id;
   size = ap (λ e. e.size) places.export ∙ joined.size ∙ ap (λ g. 4096 * g.blocks) (sym alike.geometry);
   payload = ap (λ e. e.max_payload) places.export ∙ joined.payload ∙ ap (λ g. g.max_payload) (sym alike.geometry);
+  area = ap (λ e. e.area) places.export ∙ joined.area ∙ ap (λ g. g.area) (sym alike.geometry);
   places = rw alike.many (of_map (λ c. c.at) (λ at. at < length old.chain.members) new.sessions.clients
       (subst (All (λ at. at < length old.chain.members)) (sym places.places) (All-map (λ at. at < length old.chain.members) (λ c. c.at) old.sessions.clients joined.places)));
   queues = ap length queues ∙ joined.queues ∙ sym alike.many;

@@ -37,6 +37,7 @@ module _ {S : Type 0} (w : Seen S) (joined : IsJoined w) where
     board = fed.places.board ∙ joined.board;
     size = ap (λ export. export.size) fed.places.export ∙ joined.size;
     payload = ap (λ export. export.max_payload) fed.places.export ∙ joined.payload;
+    area = ap (λ export. export.area) fed.places.export ∙ joined.area;
     places = at_members (length w.chain.members) w.sessions.clients sessions.clients fed.places.places joined.places;
     queues = length-set w.queues at later ∙ joined.queues;
     demands = All-set (All (IsOfVolume w.chain.id (bytes_of w.chain))) w.queues at later

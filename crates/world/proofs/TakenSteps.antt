@@ -95,6 +95,7 @@ joined_taken old new at demand rest room lost replies outputs events here queues
       board = so.board;
       size = so.size;
       payload = so.payload;
+      area = so.area;
       places = so.places;
       queues = ap length queues ∙ length-set old.queues at rest ∙ so.queues;
       demands = subst (All (All (IsOfVolume new.chain.id (bytes_of new.chain)))) (sym queues)

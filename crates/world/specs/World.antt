@@ -32,6 +32,7 @@ pub record IsJoined {S : Type 0} (w : Seen S) : Type 0 where
   pub board : w.sessions.board ≡ w.chain.id
   pub size : w.sessions.export.size ≡ bytes_of w.chain
   pub payload : w.sessions.export.max_payload ≡ w.chain.geometry.max_payload
+  pub area : w.sessions.export.area ≡ w.chain.geometry.area
   pub places : All (λ client. client.at < length w.chain.members) w.sessions.clients
   pub queues : length w.queues ≡ length w.chain.members
   pub demands : All (All (IsOfVolume w.chain.id (bytes_of w.chain))) w.queues

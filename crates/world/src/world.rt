@@ -38,14 +38,15 @@ impl<S: StoreLike + Drop> World<S> {
     ghost use Rattle.world.specs.World.{HasNoClients, IsJoined, Shows};
     ghost use Rattle.world_model.specs.Chain.{View};
 
-    /// The world of a chain, without clients. Their sessions will be at the chain's volume.
+    /// The world of a chain, without clients. Their sessions will be at the chain's volume, and are offered zeros as they fit into a
+    /// member's journal area.
     ///
     /// Where memory runs out, it hands the chain back.
     pub fn new(alloc: Global, chain: Chain<S>) -> Result<World<S>, Chain<S>>
         ensures chain { IfOk result (λ world. world.chain ≡ chain) }
         ensures sessions { IfOk result (λ world. world.sessions ≡ record {
           board = chain.id;
-          export = record { size = 4096 * chain.geometry.blocks; max_payload = chain.geometry.max_payload; area = 0 };
+          export = record { size = 4096 * chain.geometry.blocks; max_payload = chain.geometry.max_payload; area = chain.geometry.area };
           clients = [];
         }) }
         ensures queues { IfOk result (λ world. world.queues ≡ replicate (length chain.members) []) }
@@ -56,10 +57,13 @@ impl<S: StoreLike + Drop> World<S> {
             return Err(chain);
         };
         let geometry = chain.geometry();
-        // No journal marks zeros yet.
-        let area = 0;
-        let size = geometry.size();
-        let clients = Clients::new(alloc, chain.board(), size, geometry.max_payload, area);
+        let clients = Clients::new(
+            alloc,
+            chain.board(),
+            geometry.size(),
+            geometry.max_payload,
+            geometry.area,
+        );
         Ok(World {
             alloc,
             chain,

@@ -1,7 +1,7 @@
-use Rattle.std.proofs.Common.{◌≡◌, ◌+◌, ◌<◌, ◌++◌, ◌∷◌, [], ℕ, List, get_or, inl, inr, length, ap, refl, sym, ◌∙◌, arith}
+use Rattle.std.proofs.Common.{◌≡◌, ◌+◌, ◌<◌, ◌++◌, ◌∷◌, [], ℕ, List, get_or, inl, inr, length, ap, sym, ◌∙◌, arith}
 use Rattle.std.proofs.lemmas.Bool.{cases_lt}
 use Rattle.std.proofs.lemmas.List.{get_or_append_left, get_or_push, length-append}
-use Rattle.gate_journal.specs.declared.batch.Image.{Image}
+use Rattle.gate_journal.specs.Image.{Image}
 use Rattle.benches.proofs.commits.images_of.Goals as goal
 
 -- the images of blocks in turn, and the next
@@ -23,7 +23,7 @@ pub loop-index-preserved : goal.loop-index-preserved
 loop-index-preserved c =
     record {
       many = ap length c.in_ok-push.ensures.items ∙ length-append c.loop-index.images.items _ ∙ ap (λ (n : ℕ). n + 1) c.loop-index.invariant.many;
-      blocks = one_more c.loop-index.images.items c.push.new.self.items _ c.args.first c.loop-index.index c.in_ok-push.ensures.items c.loop-index.invariant.many refl c.loop-index.invariant.blocks;
+      blocks = one_more c.loop-index.images.items c.push.new.self.items _ c.args.first c.loop-index.index c.in_ok-push.ensures.items c.loop-index.invariant.many (ap (λ (i : Image). i.block) c.new.ensures) c.loop-index.invariant.blocks;
     }
 
 pub returns : goal.returns

@@ -1,10 +1,12 @@
-use Rattle.std.proofs.Common.{◌≡◌, ◌<◌, arith, length, subst, sym, ◌∙◌}
+use Rattle.std.proofs.Common.{◌≡◌, ◌<◌, arith, subst, sym, ◌∙◌}
 use Rattle.std.specs.Prelude.{All, map}
-use Rattle.gate_journal.specs.declared.batch.Image.{Image}
+use Rattle.gate_journal.specs.Image.{Image}
+use Rattle.local_store.specs.About.{HasRoom}
 use Rattle.version_table.specs.Held.{writes_upto}
+use Rattle.chain_steps.specs.Steps.{group_size}
 use Rattle.chain_core.specs.Groups.{IsTouchedList}
 use Rattle.chain_core.specs.Node.{size_of}
-use Rattle.chain_core.proofs.Counting.{ascending, covers, few_images, images_once, images_within, list_within, some_images}
+use Rattle.chain_core.proofs.Counting.{all_touched, ascending, covers, few_bytes, images_at_most, images_once, images_within, list_within, some_images}
 use Rattle.chain_core.proofs.Images.{upto_fits}
 use Rattle.chain_core.proofs.StoreReads.{first, run_first}
 use Rattle.chain_core.proofs.groups.group_of.Goals as goal
@@ -43,7 +45,9 @@ returns-in-Ok-images_of-clause-group g c =
     let above : c.args.table.now.forgotten < c.in-Ok.front = omega (arith, c.in-Ok.ensures.from, c.if-front-forgotten.false, c.forgotten.ensures) in
     let applied = c.requires.applied in
     let upto = c.in-Ok.ensures.upto in
+    let writes = writes_upto c.args.table.now c.in-Ok.front in
     let some = some_images c.args.table.now c.in-Ok.front images list blocks touched above (omega (arith, upto, applied)) c.requires.bytes in
+    let fits : HasRoom about (group_size writes images) = c.left-left.ensures.left (group_size writes images) (omega (arith, some)) (few_bytes c.args.table.now c.in-Ok.front images list blocks touched c.left-left.result c.in-Ok.ensures.few) in
     record {
       above = above;
       upto = upto;
@@ -52,8 +56,9 @@ returns-in-Ok-images_of-clause-group g c =
         within = images_within about.geometry.blocks images list blocks (list_within c.args.table.now c.in-Ok.front about.geometry.blocks list touched (upto_fits (size_of about) c.args.table.now c.in-Ok.front c.requires.inside));
         once = images_once images (ascending c.args.table.now c.in-Ok.front images list blocks touched);
       };
-      fits = c.room-room.ensures.fits (length images) some (few_images c.args.table.now c.in-Ok.front images list blocks touched c.room-room.result c.in-Ok.ensures.few);
-      greatest = λ below. record { room = c.room-room.result; too_much = c.room-room.ensures.too_much; more = c.in-Ok.ensures.greatest below };
+      fits = fits;
+      room = omega (arith, fits, images_at_most writes images c.in-Ok-images_of.ensures.blank (all_touched c.args.table.now c.in-Ok.front images list blocks touched));
+      greatest = λ below. record { left = c.left-left.result; too_much = c.left-left.ensures.too_much; more = c.in-Ok.ensures.greatest below };
     }
 
 pub returns-in-Ok-images_of-clause-images : goal.returns-in-Ok-images_of-clause-images

@@ -5,23 +5,16 @@ use Rattle.disk_model.specs.Memory.{given_of, has_stopped, may_be_left}
 use Rattle.disk_model.specs.declared.memory.MemDisk.{MemDisk}
 use Rattle.home_blocks.specs.Home.{HoldsSuperblock, settled_holds}
 use Rattle.home_blocks.specs.Superblock.{Superblock}
-use Rattle.local_store.specs.About.{About, migrated}
 use Rattle.local_store.specs.Meaning.{Meaning, Means}
 use Rattle.local_store.specs.Refusal.{IsOfDevice}
 use Rattle.local_store.specs.Store.{meaning_in}
 use Rattle.local_store.specs.declared.refusal.Refusal as store
 use Rattle.local_store.specs.declared.refusal.Refusal.TheVariants as stores
-use Rattle.volume.specs.declared.geometry.Geometry.{Geometry}
 use Rattle.life.specs.Begun.{AreOfMember, BeginsWith, MeansStill}
 use Rattle.life.specs.Refusal.{IsOfReopening}
 use Rattle.life.proofs.Starting.{IsStore, about_of_store, keeps_volume, leaves_now}
-use Rattle.life.proofs.Returning.{reopened, reopening_of_memory}
+use Rattle.life.proofs.Returning.{migrated_as, reopened, reopening_of_memory}
 use Rattle.life.proofs.recovering.recover.Goals as goal
-
--- a store that is ready is of the member that it was of, with the sizes and the front that it had
-ready_as : (a b : About) → (a ≡ b) ⊎ (a ≡ migrated b) → (P : ℕ → ℕ → Geometry → ℕ → Type 0) → P a.slot a.incarnation a.geometry a.front → P b.slot b.incarnation b.geometry b.front
-ready_as a b (inl same) P is = subst (λ (x : About). P x.slot x.incarnation x.geometry x.front) same is
-ready_as a b (inr moved) P is = subst (λ (x : About). P x.slot x.incarnation x.geometry x.front) moved is
 
 -- the device's refusals may come of a return
 device_reopens : (r : store.Refusal) → IsOfDevice r → IsOfReopening r
@@ -50,8 +43,8 @@ returns-in-Ok-alone-clause-goes_on c =
       meaning,
       was.2,
       subst (AreOfMember about_of_store meaning) (sym c.in-Ok-alone.ensures.store)
-          (own c.in-Ok-ready.store meaning (ready_as now before c.in-Ok-ready.ensures.about (λ slot incarnation geometry front. (now.slot ≡ slot) × (now.incarnation ≡ incarnation)) (refl, refl))),
-      ready_as now before c.in-Ok-ready.ensures.about (λ slot incarnation geometry front. BeginsWith about_of_store keeps_volume leaves_now geometry front was.0 c.in-Ok-alone.world) (c.in-Ok-alone.ensures.begins tt was.0 (c.in-Ok-ready.ensures.kept was.0 was.1)),
+          (own c.in-Ok-ready.store meaning (migrated_as now before c.in-Ok-ready.ensures.about (λ slot incarnation geometry front. (now.slot ≡ slot) × (now.incarnation ≡ incarnation)) (refl, refl))),
+      migrated_as now before c.in-Ok-ready.ensures.about (λ slot incarnation geometry front. BeginsWith about_of_store keeps_volume leaves_now geometry front was.0 c.in-Ok-alone.world) (c.in-Ok-alone.ensures.begins tt was.0 (c.in-Ok-ready.ensures.kept was.0 was.1)),
     )
   where
     own : (s : IsStore) (meaning : Meaning) → ((about_of_store s).slot ≡ meaning.slot) × ((about_of_store s).incarnation ≡ meaning.incarnation) → AreOfMember about_of_store meaning (s ∷ [])

@@ -1,22 +1,20 @@
-use Rattle.std.proofs.Common.{◌≡◌, ◌⊎◌, ℕ, zero, suc, List, [], ◌∷◌, Option, None, Some, All, map, ap, inl, inr, subst, sym}
+use Rattle.std.proofs.Common.{◌≡◌, ◌⊎◌, ◌∙◌, ℕ, zero, suc, List, [], ◌∷◌, Option, None, Some, All, map, ap, inl, inr, subst, sym}
 use Rattle.std.specs.Prelude.{IfSome, slice_get}
 use Rattle.disk_model.specs.Disk.{LeavesOnly}
 use Rattle.disk_model.specs.Moments.{then_run, weaker}
 use Rattle.gate_journal.specs.Runs.{OnlyReads}
-use Rattle.local_store.specs.About.{About, about_of, meaning_with, migrated}
+use Rattle.home_blocks.specs.Home.{HoldsSuperblock, settled_holds}
+use Rattle.home_blocks.specs.Superblock.{Superblock}
+use Rattle.local_store.specs.About.{about_of, meaning_with}
 use Rattle.local_store.specs.Meaning.{Meaning, Means}
 use Rattle.local_store.specs.Store.{IsStored}
 use Rattle.local_store.specs.declared.store.Store.{Store}
 use Rattle.chain.specs.Member.{Linked}
-use Rattle.life.specs.Begun.{BeginsWith}
+use Rattle.life.specs.Begun.{BeginsWith, HasVersionTwo}
+use Rattle.life.proofs.Returning.{migrated_as}
 use Rattle.volume.specs.declared.geometry.Geometry.{Geometry}
 use Rattle.folder.specs.Disks.{IsSourceOf}
 use Rattle.nbdchain.proofs.serving.begin_from.Goals as goal
-
--- a store that was brought to version 2, if it wasn't yet, has the sizes and the front that it had
-brought_as : (now before : About) → (now ≡ before) ⊎ (now ≡ migrated before) → (P : Geometry → ℕ → Type 0) → P now.geometry now.front → P before.geometry before.front
-brought_as now before (inl same) P is = subst (λ (a : About). P a.geometry a.front) same is
-brought_as now before (inr moved) P is = subst (λ (a : About). P a.geometry a.front) moved is
 
 -- The disk at a place was read, and then only what means the same was left of it.
 module _ {D S M : Type 0} (gives : D → List ℕ) (may_leave : D → List ℕ → Type 0) (moment : D → ℕ) (left_since : D → ℕ → List ℕ → Type 0) (disk_of : S → D) (store_of : M → S) where
@@ -41,6 +39,34 @@ module _ {D S M : Type 0} (gives : D → List ℕ) (may_leave : D → List ℕ �
       subst (Stays d) (sym (are k x below)) (stays d mid new m one (subst (Means m) (sym same) means) reads run)
   source_stays (d ∷ ds) (suc k) bytes mid new m one there means reads run members are = source_stays ds k bytes mid new m one there means reads run members are
 
+-- the disk at a place, if its bytes have this, was only read, and each member has it
+module _ {D S M : Type 0} (gives : D → List ℕ) (may_leave : D → List ℕ → Type 0) (moment : D → ℕ) (left_since : D → ℕ → List ℕ → Type 0) (disk_of : S → D) (store_of : M → S) (Has : List ℕ → Type 0) where
+  abbrev Reads : D → S → Type 0
+  Reads disk store = OnlyReads gives may_leave moment left_since disk (disk_of store)
+
+  read_by_all : (disks : List D) (place : ℕ) (mid new : S) → IfSome (slice_get disks place) (λ d. Reads d mid)
+      → ((d : D) → Reads d mid → Has (gives d) → new ≡ mid) → (members : List M) → All (λ x. store_of x ≡ new) members
+      → IfSome (slice_get disks place) (λ d. Has (gives d) → All (λ x. Reads d (store_of x)) members)
+  read_by_all [] place mid new run still members are = tt
+  read_by_all (d ∷ ds) zero mid new run still members are = λ has k x below. subst (Reads d) (sym (are k x below ∙ still d run has)) run
+  read_by_all (d ∷ ds) (suc k) mid new run still members are = read_by_all ds k mid new run still members are
+
+pub returns-in-Ok-world_of_one-clause-reads : goal.returns-in-Ok-world_of_one-clause-reads
+returns-in-Ok-world_of_one-clause-reads g c = λ keeps.
+    let on = c.in-Ok.ensures.goes_on keeps in
+    let opened = c.in-Ok.opened in
+    let new = c.migrate.new.self in
+    subst (λ (place : ℕ). IfSome (slice_get c.args.disks.items place) (λ d. HasVersionTwo (g.D.Disk.gives d) → All (λ (m : Linked (Store g.row.D.Denot g.D.Disk)). Reads g.D.Disk.gives g.D.Disk.may_leave_now g.D.Disk.moment g.D.Disk.may_have_left_since (λ (s : Store g.row.D.Denot g.D.Disk). s.disk) (λ (m : Linked (Store g.row.D.Denot g.D.Disk)). m.node.store) HasVersionTwo d m.node.store) c.in-Ok-world_of_one.world.chain.members))
+    (sym (ap (λ o. o.place) c.migrate.ensures.same))
+    (read_by_all g.D.Disk.gives g.D.Disk.may_leave_now g.D.Disk.moment g.D.Disk.may_have_left_since (λ (s : Store g.row.D.Denot g.D.Disk). s.disk) (λ (m : Linked (Store g.row.D.Denot g.D.Disk)). m.node.store) HasVersionTwo
+    c.args.disks.items opened.place opened.store new.store (c.in-Ok.ensures.reads keeps)
+    (λ d read (sb, holds, two).
+    let own = opened.store.contents.home.superblock in
+    let here : HoldsSuperblock own (g.D.Disk.gives d) = subst (HoldsSuperblock own) read.same (settled_holds on.kept.superblock) in
+    let same : sb ≡ own = c.superblocks_are_one.ensures sb own (g.D.Disk.gives d) holds here in
+    ap (λ o. o.store) (c.migrate.ensures.untouched (sym (ap (λ (s : Superblock). s.version) same) ∙ two)).1)
+    c.in-Ok-world_of_one.world.chain.members c.in-Ok-world_of_one.ensures.same)
+
 pub world_of_one-requires-clause-keeps : goal.world_of_one-requires-clause-keeps
 world_of_one-requires-clause-keeps g c = λ keeps. let on = c.in-Ok.ensures.goes_on keeps in (on.volume, c.in_default.ensures.kept keeps on.volume on.kept)
 
@@ -49,14 +75,14 @@ returns-in-Ok-world_of_one-clause-goes_on g c = λ keeps.
     let on = c.in-Ok.ensures.goes_on keeps in
     let before = about_of c.in-Ok.opened.store.contents in
     let meaning = meaning_with before on.volume in
-    let Begins : Geometry → ℕ → Type 0 = λ geometry front. BeginsWith (λ (s : Store g.row.D.Denot g.D.Disk). about_of s.contents) (λ s v. IsStored s.contents v (g.D.Disk.gives s.disk) (g.D.Disk.may_leave_now s.disk)) (λ s. g.D.Disk.may_leave_now s.disk)
+    let Begins : ℕ → ℕ → Geometry → ℕ → Type 0 = λ slot incarnation geometry front. BeginsWith (λ (s : Store g.row.D.Denot g.D.Disk). about_of s.contents) (λ s v. IsStored s.contents v (g.D.Disk.gives s.disk) (g.D.Disk.may_leave_now s.disk)) (λ s. g.D.Disk.may_leave_now s.disk)
     geometry front on.volume c.in-Ok-world_of_one.world in
     record {
       old = on.old;
       recorded = on.recorded;
       meaning = meaning;
       source = subst (λ (place : ℕ). IsSourceOf on.old.members (map g.D.Disk.gives c.args.disks.items) place meaning) (sym (ap (λ o. o.place) c.migrate.ensures.same)) on.source;
-      begins = brought_as (about_of c.migrate.new.self.store.contents) before c.in_default.ensures.about Begins (c.in-Ok-world_of_one.ensures.begins keeps on.volume (c.in_default.ensures.kept keeps on.volume on.kept));
+      begins = migrated_as (about_of c.migrate.new.self.store.contents) before c.in_default.ensures.about Begins (c.in-Ok-world_of_one.ensures.begins keeps on.volume (c.in_default.ensures.kept keeps on.volume on.kept));
     }
 
 pub returns-in-Ok-world_of_one-clause-any_moment : goal.returns-in-Ok-world_of_one-clause-any_moment

@@ -61,3 +61,6 @@ returns-in_default-clause-done g c =
 
 pub returns-in_default-clause-under_way : goal.returns-in_default-clause-under_way
 returns-in_default-clause-under_way g c = rw (← c.self.view_is) c.sound.ensures.under_way
+
+pub returns-clause-under_way : goal.returns-clause-under_way
+returns-clause-under_way g c = rw (← c.self.view_is) c.sound.ensures.under_way

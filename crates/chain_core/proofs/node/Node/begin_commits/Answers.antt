@@ -1,8 +1,8 @@
-use Rattle.std.proofs.Common.{◌≡◌, ◌+◌, ◌<◌, ℕ, List, None, Some, arith, length, refl, subst, sym}
+use Rattle.std.proofs.Common.{◌≡◌, ◌+◌, ◌<◌, ℕ, List, None, Some, arith, refl, subst, sym}
 use Rattle.std.proofs.Math.Nat.{le_refl}
 use Rattle.disk_model.specs.Moments.{started}
-use Rattle.gate_journal.specs.Batch.{AreImages}
-use Rattle.gate_journal.specs.declared.batch.Image.{Image}
+use Rattle.gate_journal.specs.Batch.{AreImages, images_size}
+use Rattle.gate_journal.specs.Image.{Image}
 use Rattle.local_store.specs.About.{HasRoom, meaning_with}
 use Rattle.local_store.specs.Meaning.{Means}
 use Rattle.version_table.specs.Held.{writes_upto}
@@ -40,7 +40,7 @@ invariant_of-self g c =
       above = group.above;
       known = omega (arith, group.upto, c.min.ensures, c.forgotten-durable.ensures, c.self.invariant.behind);
       images = subst (λ a. AreImages a.geometry.blocks c.in-Ok-Some.commit.images) (sym read.tells) group.images;
-      room = subst (λ a. HasRoom a (length c.in-Ok-Some.commit.images)) (sym read.tells) group.fits;
+      room = subst (λ a. HasRoom a (images_size c.in-Ok-Some.commit.images)) (sym read.tells) group.room;
     })
     (λ premise volume keep.
     let (was, kept_was, long) = (c.self.invariant.running runs).keeps premise in

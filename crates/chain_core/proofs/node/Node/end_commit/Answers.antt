@@ -1,10 +1,10 @@
 use Rattle.std.proofs.Common.{◌≡◌, ◌⊎◌, ◌∙◌, ℕ, List, Err, Some, arith, ap, subst, sym}
-use Rattle.std.specs.Prelude.{Any, IfSome, IsSomeAnd, ◌↔◌, fold, length}
+use Rattle.std.specs.Prelude.{Any, IfSome, IsSomeAnd, ◌↔◌, fold}
 use Rattle.std.proofs.lemmas.Bool.{both_ways}
 use Rattle.disk_model.specs.Disk.{LeavesOnly}
-use Rattle.gate_journal.specs.Batch.{AreImages}
+use Rattle.gate_journal.specs.Batch.{AreImages, images_size}
 use Rattle.gate_journal.specs.Receipt.{Receipt}
-use Rattle.gate_journal.specs.declared.batch.Image.{Image}
+use Rattle.gate_journal.specs.Image.{Image}
 use Rattle.local_store.specs.Overlay.{with_images}
 use Rattle.local_store.specs.declared.refusal.Refusal.{Refusal}
 use Rattle.version_table.specs.Held.{writes_upto}
@@ -35,7 +35,7 @@ invariant_of-self-in-Ok g c =
     let here : c.self.inside.commit ≡ Some (record { front = c.commit.inside.front; images = c.commit.inside.images.items }) = grind (arith, c.in-Some.is, c.in-Some.ensures.value, c.commit.view_is) in
     let images = c.deref.ensures.value in
     rw (c.forget_to.ensures, c.take.ensures.after) (sound_ended _ _ _ c.self.invariant _ here (g.S.StoreLike.about c.commit-2.new.self) (g.S.StoreLike.keeps c.commit-2.new.self)
-    (c.in-Ok.ensures.ok ∙ ap (λ (l : List Image). one_commit_more (g.S.StoreLike.about c.self.inside.store) c.commit.inside.front (length l)) images)
+    (c.in-Ok.ensures.ok ∙ ap (λ (l : List Image). one_commit_more (g.S.StoreLike.about c.self.inside.store) c.commit.inside.front l) images)
     (λ premise volume keep. subst (λ (l : List Image). g.S.StoreLike.keeps c.commit-2.new.self (with_images volume l)) images (c.in-Ok.ensures.kept premise volume keep)))
 
 pub returns-in-Ok-clause-kept : goal.returns-in-Ok-clause-kept
@@ -73,12 +73,12 @@ pub cause_of-cause-requires : goal.cause_of-cause-requires
 cause_of-cause-requires g c =
     let here : c.self.inside.commit ≡ Some (record { front = c.commit.inside.front; images = c.commit.inside.images.items }) = grind (arith, c.in-Some.is, c.in-Some.ensures.value, c.commit.view_is) in
     let way = c.self.invariant.under_way _ here in
-    let many : length c.deref.result.now ≡ length c.commit.inside.images.items = ap (λ (l : List Image). length l) c.deref.ensures.value in
+    let size : images_size c.deref.result.now ≡ images_size c.commit.inside.images.items = ap images_size c.deref.ensures.value in
     let runs = (c.self.invariant.running (way_runs _ _ _ c.self.invariant _ here)).whole in
     commit_cause c.in-Err.refusal c.in-Err.ensures.told
     (λ is. both_ways _ runs (c.in-Err.ensures.broken.0 (ap (λ (r : Refusal). Err r) is)))
     (λ is. let back = (c.in-Err.ensures.backwards.0 (ap (λ (r : Refusal). Err r) is)).1 in omega (arith, back, way.above, c.self.invariant.front))
-    (λ is. let full = (c.in-Err.ensures.full.0 (ap (λ (r : Refusal). Err r) is)).2 in omega (arith, full, way.room, many))
+    (λ is. let full = (c.in-Err.ensures.full.0 (ap (λ (r : Refusal). Err r) is)).2 in omega (arith, full, way.room, size))
 
 pub returns-in-Ok-clause-pends : goal.returns-in-Ok-clause-pends
 returns-in-Ok-clause-pends g c =

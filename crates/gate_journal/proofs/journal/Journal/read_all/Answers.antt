@@ -18,4 +18,4 @@ returns-in-Ok-clause-settled g c = λ keeps batches settled.
     let bytes = g.D.Disk.gives c.args.disk.now in
     let found = c.in-Ok.batches.items in
     one_reading s.blocks s.before found batches (inside s.part bytes)
-    (subst (λ (j : State). HoldsBatches j.blocks j.before found (inside j.part bytes)) c.self.view_is (c.in-Ok.ensures.held keeps)) settled.holds
+    (subst (λ (j : State). HoldsBatches j.blocks j.before found (inside j.part bytes)) c.self.view_is (c.in-Ok.ensures.held keeps).0) settled.holds

@@ -36,7 +36,7 @@ returns-clause-settled g c = λ keeps batches batch.
     let first = c.write_durably.new.disk in
     let last = c.write_durably-2.new.disk in
     subst (λ (s : State). IsSettled s batches (g.D.Disk.gives c.args.disk.now) (g.D.Disk.may_leave_now c.args.disk.now) → IsEncoded s batch c.args.body.now
-    → OnOk c.write_durably-2.result (IsSettled (appended s batch.front (length batch.images)) (batches ++ batch ∷ []) (g.D.Disk.gives c.write_durably-2.new.disk) (g.D.Disk.may_leave_now c.write_durably-2.new.disk))) c.self.view_is
+    → OnOk c.write_durably-2.result (IsSettled (appended s batch.front batch.images) (batches ++ batch ∷ []) (g.D.Disk.gives c.write_durably-2.new.disk) (g.D.Disk.may_leave_now c.write_durably-2.new.disk))) c.self.view_is
     (λ settled encoded. on_ok_both c.write_durably-2.result
     (settled_new _ batches batch c.args.body.now settled encoded (disk.gives first) (c.in_ok-write_durably.ensures.gives keeps) (disk.gives last) (disk.may_leave_now last))
     (c.write_durably-2.ensures.gives keeps) (c.write_durably-2.ensures.durable keeps))

@@ -1,42 +1,31 @@
-use Rattle.std.proofs.Common.{◌≡◌, ◌⊎◌, ◌<◌, ℕ, List, Option, ◌∙◌, ap, arith, inl, inr, length, refl, subst, sym}
+use Rattle.std.proofs.Common.{◌≡◌, ◌⊎◌, ◌+◌, ◌<◌, ℕ, List, Option, ◌∙◌, ap, arith, inl, inr, length, refl, subst, sym}
 use Rattle.std.specs.Prelude.{All, Any, ◌↔◌}
 use Rattle.std.proofs.lemmas.Bool.{cases_lt}
 use Rattle.std.proofs.lemmas.List.{length-map}
 use Rattle.flusher.specs.Plan.{IsPending}
 use Rattle.gate_journal.specs.Journal as journal
-use Rattle.local_store.specs.Away.{images_of}
 use Rattle.local_store.specs.Pending.{with_pending}
 use Rattle.local_store.specs.Store.{IsSound, State, geometry_of}
-use Rattle.local_store.proofs.Boxes.{Boxed, staged_fit}
 use Rattle.local_store.proofs.Pends.{pends}
 use Rattle.local_store.proofs.Sound.{sound_committed}
 use Rattle.local_store.proofs.contents.Contents.add.Goals as goal
 
-pub overflow_cast-len : goal.overflow_cast-len
-overflow_cast-len c =
-    let fits = subst (λ (s : State). journal.Fits s.journal (length c.args.staged.items)) (sym c.self.view_is) c.requires.fits in
-    elim (cases_lt c.room-room.result (length c.args.staged.items)) [
-      | inl more ↦ absurd (omega (arith, c.room-room.ensures.too_much (length c.args.staged.items) more, fits))
-      | inr few ↦ omega (arith, few, c.room-room.ensures.small, c.len.ensures)
-    ]
-
 pub keep-requires : goal.keep-requires
 keep-requires c =
     let blocks : (geometry_of c.args.self.now).blocks ≡ length c.self.inside.pending = ap (λ (s : State). (geometry_of s).blocks) (sym c.self.view_is) ∙ sym c.self.invariant.table in
-    staged_fit (length c.self.inside.pending) c.args.staged.items (images_of c.args.staged.items) refl (subst (λ (n : ℕ). All (λ image. image.block < n) (images_of c.args.staged.items)) blocks c.requires.images)
+    subst (λ (n : ℕ). All (λ image. image.block < n) c.args.staged.items) blocks c.requires.images
 
 pub invariant_of-self : goal.invariant_of-self
 invariant_of-self c =
     let here : State = record { home = c.self.inside.home; journal = c.self.inside.journal; pending = c.self.inside.pending; cache = c.self.inside.cache; broken = c.self.inside.broken } in
-    let count : length (images_of c.args.staged.items) ≡ c.len.result = omega (arith, length-map c.args.staged.items (λ (i : Boxed). i.value), c.args.staged.ok.0, c.len.ensures) in
     subst (λ (j : journal.State). IsSound (record { home = c.self.inside.home; journal = j; pending = c.keep.new.self; cache = c.self.inside.cache; broken = c.self.inside.broken }))
-    (ap (journal.appended c.self.inside.journal c.args.front) count ∙ sym c.note.ensures)
-    (subst (λ (p : List (Option (List ℕ))). IsSound (record { home = c.self.inside.home; journal = journal.appended c.self.inside.journal c.args.front (length (images_of c.args.staged.items)); pending = p; cache = c.self.inside.cache; broken = c.self.inside.broken })) (sym c.keep.ensures)
-    (sound_committed here c.args.front (images_of c.args.staged.items) c.self.invariant c.requires.limit))
+    (ap (λ (n : ℕ). record c.self.inside.journal { front = c.args.front; end = c.self.inside.journal.end + n }) (sym c.requires.size) ∙ sym c.note.ensures)
+    (subst (λ (p : List (Option (List ℕ))). IsSound (record { home = c.self.inside.home; journal = journal.appended c.self.inside.journal c.args.front (c.args.staged.items); pending = p; cache = c.self.inside.cache; broken = c.self.inside.broken })) (sym c.keep.ensures)
+    (sound_committed here c.args.front (c.args.staged.items) c.self.invariant c.requires.limit))
 
 pub returns-clause-pends : goal.returns-clause-pends
 returns-clause-pends c =
-    let images = images_of c.args.staged.items in
+    let images = c.args.staged.items in
     let blocks : (geometry_of c.args.self.now).blocks ≡ length c.self.inside.pending = ap (λ (s : State). (geometry_of s).blocks) (sym c.self.view_is) ∙ sym c.self.invariant.table in
     λ b.
     subst (λ (p : List (Option (List ℕ))). IsPending p b ↔ (IsPending c.args.self.now.pending b ⊎ Any (λ image. image.block ≡ b) images)) (sym c.keep.ensures)

@@ -1,7 +1,7 @@
 use Rattle.std.proofs.Common.{ap, arith}
 use Rattle.flusher.proofs.Places.{run_has_place}
 use Rattle.local_store.specs.Store.{State, geometry_of}
-use Rattle.local_store.proofs.Boxes.{some_next}
+use Rattle.local_store.proofs.Places.{some_next}
 use Rattle.local_store.proofs.contents.Contents.next_run.Goals as goal
 
 pub returns-clause-within : goal.returns-clause-within

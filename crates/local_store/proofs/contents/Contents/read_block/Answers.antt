@@ -8,8 +8,8 @@ use Rattle.local_store.proofs.contents.Contents.read_block.Goals as goal
 
 pub returns-in-Some-clause-read : goal.returns-in-Some-clause-read
 returns-in-Some-clause-read g c = λ keeps v.
-    subst (λ (s : State). IsStored s v (g.D.Disk.gives c.args.disk.now) (g.D.Disk.may_leave_now c.args.disk.now) → c.copy_from_slice.new.self ≡ block_of v c.args.block) c.self.view_is
-    (λ was. c.copy_from_slice.ensures.after ∙ was.region.waits.image c.args.block c.in-Some.image.now.bytes (sym c.in-Some.ensures))
+    subst (λ (s : State). IsStored s v (g.D.Disk.gives c.args.disk.now) (g.D.Disk.may_leave_now c.args.disk.now) → c.copy_to.new.bytes ≡ block_of v c.args.block) c.self.view_is
+    (λ was. c.copy_to.ensures.copied ∙ was.region.waits.image c.args.block c.in-Some.image.now.bytes (sym c.in-Some.ensures))
 
 pub returns-clause-stored : goal.returns-clause-stored
 returns-clause-stored g c = λ keeps v.
@@ -25,8 +25,8 @@ returns-clause-read g c = λ keeps v.
 
 pub returns-in-Some-clause-home_read : goal.returns-in-Some-clause-home_read
 returns-in-Some-clause-home_read g c = λ keeps v batches.
-    subst (λ (s : State). IsHomeKept s v batches (g.D.Disk.gives c.args.disk.now) (g.D.Disk.may_leave_now c.args.disk.now) → c.copy_from_slice.new.self ≡ block_of v c.args.block) c.self.view_is
-    (λ was. c.copy_from_slice.ensures.after ∙ was.region.waits.image c.args.block c.in-Some.image.now.bytes (sym c.in-Some.ensures))
+    subst (λ (s : State). IsHomeKept s v batches (g.D.Disk.gives c.args.disk.now) (g.D.Disk.may_leave_now c.args.disk.now) → c.copy_to.new.bytes ≡ block_of v c.args.block) c.self.view_is
+    (λ was. c.copy_to.ensures.copied ∙ was.region.waits.image c.args.block c.in-Some.image.now.bytes (sym c.in-Some.ensures))
 
 pub returns-in-Some-clause-home_moment : goal.returns-in-Some-clause-home_moment
 returns-in-Some-clause-home_moment g c = λ keeps v batches was. home_at_rest c.args.disk.now was (g.met.D.Disk.only_now keeps c.args.disk.now)

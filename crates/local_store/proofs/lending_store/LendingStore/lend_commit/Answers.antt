@@ -7,7 +7,7 @@ use Rattle.disk_model.specs.Moments.{goes_on}
 use Rattle.gate_journal.specs.Batch.{Batch}
 use Rattle.gate_journal.specs.Journal as journal
 use Rattle.gate_journal.specs.Journal.{IsSettled}
-use Rattle.gate_journal.specs.declared.batch.Image.{Image}
+use Rattle.gate_journal.specs.Image.{Image}
 use Rattle.home_blocks.specs.Places.{disk_size_of}
 use Rattle.local_store.specs.About.{about_of}
 use Rattle.local_store.specs.Away.{IsKeptOver, IsLent, batch_in, twin_of}
@@ -15,7 +15,7 @@ use Rattle.local_store.specs.Kept.{stored_means}
 use Rattle.local_store.specs.Meaning.{Means}
 use Rattle.local_store.specs.Store.{geometry_of, meaning_in}
 use Rattle.local_store.specs.declared.lent.Lent.{Lent}
-use Rattle.local_store.proofs.Away.{for_some, has_room, kept_here, lent_over, lent_settled, on_err, stored_here, stored_untouched}
+use Rattle.local_store.proofs.Away.{for_some, kept_here, lent_over, lent_settled, on_err, stored_here, stored_untouched}
 use Rattle.local_store.proofs.Stored.{at_rest}
 use Rattle.local_store.proofs.lending_store.LendingStore.lend_commit.Goals as goal
 
@@ -42,7 +42,7 @@ invariant_of-self-2 g c =
         room = subst (λ (n : ℕ). disk_size_of (geometry_of s.contents) ≤ n) (sym c.len-len.ensures) (s.here c.requires.here);
         within = subst (λ (images : List Image). All (λ image. image.block < (geometry_of s.contents).blocks) images) (sym staged) c.requires.images.within;
         limit = c.requires.limit;
-        fits = has_room s.contents _ _ c.in_ok-may_commit.ensures.fits (ap (λ (l : List Image). length l) staged) (sym (ap (λ (j : journal.State). j.part.len) c.twin-journal.ensures.twin) ∙ c.twin-journal.ensures.area);
+        fits = subst (journal.Fits s.contents.journal) (sym staged) c.in_ok-size.ensures.fits;
       });
     }
 
@@ -85,8 +85,8 @@ returns-clause-kept g c = λ keeps v kept.
       subst (λ (x : g.row.D-Log.Denot). IsSettled (twin_of s.contents) was.batches (g.D.Log.Disk.gives x) (g.D.Log.Disk.may_leave_now x)) (sym c.of.ensures) (lent_settled s.contents v halves long (g.met.D.Disk.leaves_gives keeps home) was),
     )
 
-pub returns-in_err-may_commit-clause-at_rest : goal.returns-in_err-may_commit-clause-at_rest
-returns-in_err-may_commit-clause-at_rest g c = λ keeps v was. on_err c.from_residual.result (at_rest c.args.self.now.disk was.stands was (g.met.D.Disk.only_now keeps c.args.self.now.disk))
+pub returns-in_err-size-clause-at_rest : goal.returns-in_err-size-clause-at_rest
+returns-in_err-size-clause-at_rest g c = λ keeps v was. on_err c.from_residual.result (at_rest c.args.self.now.disk was.stands was (g.met.D.Disk.only_now keeps c.args.self.now.disk))
 
 pub returns-in_err-staged-clause-at_rest : goal.returns-in_err-staged-clause-at_rest
 returns-in_err-staged-clause-at_rest g c = λ keeps v was. on_err c.from_residual-in_err-staged.result (at_rest c.args.self.now.disk was.stands was (g.met.D.Disk.only_now keeps c.args.self.now.disk))

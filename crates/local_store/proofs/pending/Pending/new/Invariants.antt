@@ -1,6 +1,6 @@
 use Rattle.std.proofs.Common.{◌≡◌, replicate}
 use Rattle.std.specs.Prelude.{None}
-use Rattle.local_store.proofs.Boxes.{shown}
+use Rattle.local_store.proofs.Places.{shown}
 use Rattle.local_store.proofs.pending.Pending.new.Given as goal
 
 abbrev pub invariant-loop : goal.invariant-loop

@@ -11,10 +11,9 @@ loop-i-preserved c =
     elim c.match-get.branch [
       | in-Some w ↦
           let count : i * 4096 + 4096 - i * 4096 ≡ 4096 = omega arith in
-          let whole : length w.in-Some.image.now.bytes ≡ 4096
-          = omega (arith, c.loop-i-test.true, c.loop-i.invariant.size, w.copy_from_slice.ensures.len, ap length w.copy_from_slice.ensures.after, length-take (i * 4096 + 4096 - i * 4096) (drop (i * 4096) bytes), length-drop (i * 4096) bytes) in
+          let whole : length w.in-Some.image.now.bytes ≡ 4096 = w.copy_to.ensures.long in
           subst OverNext
-          (sym (w.bytes-is ∙ part_is_patched _ _ (4096 * i) bytes w.copy_from_slice.new.self w.in-Some.image.now.bytes (omega arith) (count ∙ sym whole) w.copy_from_slice.ensures.after))
+          (sym (w.bytes-is ∙ part_is_patched _ _ (4096 * i) bytes w.copy_to.new.bytes w.in-Some.image.now.bytes (omega arith) (count ∙ sym whole) w.copy_to.ensures.copied))
           (over_pending c.args.self.now c.args.first c.args.count c.args.bytes.now bytes i c.loop-i.invariant w.in-Some.image.now.bytes c.loop-i-test.true whole w.in-Some.ensures)
       | in_default w ↦ subst OverNext (sym w.bytes-is) (over_home c.args.self.now c.args.first c.args.count c.args.bytes.now bytes i c.loop-i.invariant w.in_default.ensures)
     ]

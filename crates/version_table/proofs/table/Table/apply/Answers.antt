@@ -1,6 +1,6 @@
 use Rattle.std.proofs.Common.{arith, ap, sym, ◌∙◌, ◌≡◌, ◌+◌, ◌*◌, length}
 use Rattle.volume.specs.Body.{kept_of}
-use Rattle.volume.specs.Writes.{Placed, Fits}
+use Rattle.volume.specs.Writes.{Fits}
 use Rattle.version_table.proofs.TableLemmas.{AreStored-push}
 use Rattle.version_table.specs.Held.{Held, applied_of}
 use Rattle.version_table.proofs.table.Table.apply.Goals as goal

@@ -1,6 +1,6 @@
 use Rattle.std.proofs.Common.{◌≡◌, ℕ, true, replicate, ap, sym, ◌∙◌}
 use Rattle.volume.specs.Body.{is_zeros}
-use Rattle.volume.proofs.Zeros.{zeros_are}
+use Rattle.volume.specs.Volumes.{zeros_are}
 use Rattle.volume.proofs.write.Write.new.Goals as goal
 
 pub returns-then-is_zeros-clause-bytes : goal.returns-then-is_zeros-clause-bytes
