@@ -90,7 +90,7 @@ module _ {S : Type 0} (about : S → About) (old : Chained S) (above : List (Lin
       let same = passes_same slot member.node node next.acks left sent replies did in
       subst (λ l. AllZip IsSame l acked) (sym were) (same_behind above (member ∷ next ∷ below) (told ∷ behind ∷ below) (
         record { one = same.0; store = same.1; front = refl; muster = refl; receipt = refl },
-        (record { one = record { board = refl; place = refl; incarnation = refl; turned = refl; holds = refl }; store = refl; front = refl; muster = refl; receipt = refl }, are_same below),
+        (record { one = record { board = refl; place = refl; incarnation = refl; turned = λ on. on; holds = refl }; store = refl; front = refl; muster = refl; receipt = refl }, are_same below),
       ))
 
   head_idle : (us : List (Linked S)) → IfSome (slice_get (us ++ member ∷ next ∷ below) 0) (λ m. m.puts ≡ []) → IfSome (slice_get (us ++ told ∷ behind ∷ below) 0) (λ m. m.puts ≡ [])

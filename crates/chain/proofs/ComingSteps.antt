@@ -57,7 +57,7 @@ pub record IsSame {S : Type 0} (m g : Linked S) : Type 0 where
 
 module _ {S : Type 0} where
   pub is_same : (m : Linked S) → IsSame m m
-  is_same m = record { one = record { board = refl; place = refl; incarnation = refl; turned = refl; holds = refl }; store = refl; front = refl; muster = refl; receipt = refl }
+  is_same m = record { one = record { board = refl; place = refl; incarnation = refl; turned = λ on. on; holds = refl }; store = refl; front = refl; muster = refl; receipt = refl }
 
   same_then : (m g h : Linked S) → IsSame m g → IsSame g h → IsSame m h
   same_then m g h one two = record {
@@ -65,7 +65,7 @@ module _ {S : Type 0} where
       board = two.one.board ∙ one.one.board;
       place = two.one.place ∙ one.one.place;
       incarnation = two.one.incarnation ∙ one.one.incarnation;
-      turned = two.one.turned ∙ one.one.turned;
+      turned = λ on. two.one.turned (one.one.turned on);
       holds = two.one.holds ∙ one.one.holds;
     };
     store = two.store ∙ one.store;
@@ -92,7 +92,7 @@ module _ {S : Type 0} where
 
   pub same_puts : (sent : List Envelope) (ms : List (Linked S)) → AllZip IsSame ms (with_puts sent ms)
   same_puts sent [] = tt
-  same_puts sent (m ∷ ms) = (record { one = record { board = refl; place = refl; incarnation = refl; turned = refl; holds = refl }; store = refl; front = refl; muster = refl; receipt = refl }, are_same ms)
+  same_puts sent (m ∷ ms) = (record { one = record { board = refl; place = refl; incarnation = refl; turned = λ on. on; holds = refl }; store = refl; front = refl; muster = refl; receipt = refl }, are_same ms)
 
   recorded_same : (m g : Linked S) → IsSame m g → recorded_as g ≡ recorded_as m
   recorded_same m g same = rw (same.one.place, same.one.incarnation) refl
@@ -113,7 +113,7 @@ module _ {S : Type 0} where
   in_same about id seat chain geometry m g same is = record {
     board = same.one.board ∙ is.board;
     told = ap (λ p. p.chain) same.one.place ∙ is.told;
-    turned = same.one.turned ∙ is.turned;
+    turned = same.one.turned is.turned;
     free = same.one.holds ∙ is.free;
     sizes = ap (λ s. (about s).geometry) same.store ∙ is.sizes;
     front = rw same.front is.front;
@@ -202,7 +202,7 @@ module _ {S : Type 0} (about : S → About) (keeps : S → List ℕ → Type 0) 
         let g : Member = record own { node = (stop cause own.node).node } in
         let node : own.node ≡ member.node.state = ap (λ (x : Member). x.node) so.is in
         goes_on (MemberDoes (Stop cause)) events (above ++ halted cause ∷ below) (twin.over ++ g ∷ twin.under) refl
-        (subst (λ l. AllZip IsSame l (above ++ halted cause ∷ below)) (sym were) (same_behind above (member ∷ below) (halted cause ∷ below) (record { one = record { board = refl; place = refl; incarnation = refl; turned = refl; holds = refl }; store = refl; front = refl; muster = refl; receipt = refl }, are_same below)))
+        (subst (λ l. AllZip IsSame l (above ++ halted cause ∷ below)) (sym were) (same_behind above (member ∷ below) (halted cause ∷ below) (record { one = record { board = refl; place = refl; incarnation = refl; turned = λ on. on; holds = refl }; store = refl; front = refl; muster = refl; receipt = refl }, are_same below)))
         (twin.others (halted cause) g below twin.under (shown_still about keeps may_leave_now old member (halted cause) own g so (ap (λ (x : Member). record x { node = (stop cause x.node).node }) so.is) refl refl refl refl (λ runs. let clash : Some cause ≡ None = runs in absurd (cc))) twin.rest)
         (record { above = twin.over; old = own; new = g; below = twin.under; were = twin.are; are = refl; change = (other, subst (λ (n : NodeState). ArePutOut (stop cause n).out.replies events) (sym node) put_out, refl) })
 
@@ -281,7 +281,7 @@ module _ {S : Type 0} (about : S → About) (keeps : S → List ℕ → Type 0) 
         goes_on PutApplied [] (above ++ applied member n origin write left ∷ with_puts sent below) (t.over ++ g ∷ sent_on k t.under) refl
         (subst (λ l. AllZip IsSame l (above ++ applied member n origin write left ∷ with_puts sent below)) (sym were)
         (same_behind above (member ∷ below) (applied member n origin write left ∷ with_puts sent below)
-        (record { one = record { board = refl; place = refl; incarnation = refl; turned = refl; holds = refl }; store = refl; front = refl; muster = refl; receipt = refl }, same_puts sent below)))
+        (record { one = record { board = refl; place = refl; incarnation = refl; turned = λ on. on; holds = refl }; store = refl; front = refl; muster = refl; receipt = refl }, same_puts sent below)))
         (t.others (applied member n origin write left) g (with_puts sent below) (sent_on k t.under) (applied_so member own so (known_there s stands t.over own t.under t.are) n origin write left) (shown_on k sent below t.under carries t.rest))
         (record { above = t.over; member = own; below = t.under; entry = k; puts = puts_in left; were = t.are; first = puts; are = refl }, refl)
 

@@ -1,15 +1,15 @@
 -- What becomes of a member that takes a message.
-use Rattle.std.proofs.Common.{◌≡◌, ◌⊎◌, ℕ, ◌+◌, ◌≤◌, Bool, true, false, cond, max, List, [], ◌∷◌, ◌++◌, map, drop, refl, ap, sym, subst, ◌∙◌, arith, inl, inr}
+use Rattle.std.proofs.Common.{◌≡◌, ◌⊎◌, ℕ, ◌+◌, ◌≤◌, Bool, true, false, cond, max, List, [], ◌∷◌, ◌++◌, length, map, drop, refl, ap, sym, subst, ◌∙◌, arith, inl, inr}
 use Rattle.std.specs.Prelude.{All, IfErr, IfNone, IfOk, IfSome, Option, None, Some, Result, Ok, Err, nat_le, nat_lt, is_some, slice_get}
 use Rattle.std.proofs.lemmas.Bool.{cases_Bool, cond-true, cond-false, le-ltb, leb-true}
 use Rattle.std.proofs.lemmas.List.{append-nil}
-use Rattle.std.proofs.lemmas.List.Elements.{All-append, All-nil, All-cons, All-head, All-tail}
+use Rattle.std.proofs.lemmas.List.Elements.{All-append, All-nil, All-cons, All-head, All-tail, All-weaker}
 use Rattle.flush_barrier.specs.Reply.{GivenReply}
 use Rattle.version_table.specs.declared.kept.Origin.{Origin}
 use Rattle.volume.specs.Writes.{Placed}
 use Rattle.chain_steps.specs.Node.{Delivery, NodeState, Out, Refused, Stepped, Taken, epoch_of, is_stopped, last_of}
-use Rattle.chain_steps.specs.Place.{incarnation_in, is_head, successor_of}
-use Rattle.chain_steps.specs.Steps.{ack, apply, deliver, is_full, know, number, number_from, origin_of, put, send, silent, stop, take_message}
+use Rattle.chain_steps.specs.Place.{incarnation_in, is_head, predecessor_of, successor_of}
+use Rattle.chain_steps.specs.Steps.{ack, apply, deliver, is_full, know, number, number_from, origin_of, put, send, silent, stop, take_message, take_turn, turn}
 use Rattle.chain_steps.specs.declared.cause.Cause.{Cause}
 use Rattle.chain_steps.specs.declared.cause.Cause.TheVariants as causes
 use Rattle.chain_steps.specs.declared.message.Envelope.{Envelope}
@@ -17,7 +17,7 @@ use Rattle.chain_steps.specs.declared.message.Message.{Message}
 use Rattle.chain_steps.specs.declared.message.Message.TheVariants.{Put, Ack, Turn, Submit}
 use Rattle.chain_steps.specs.declared.message.Sent.{Sent}
 use Rattle.chain_core.specs.Node.{IsDelivered, IsStep, Seen}
-use Rattle.chain.specs.Links.{IsAckOf, IsPutInside, IsPutOf}
+use Rattle.chain.specs.Links.{IsAck, IsAckOf, IsPutInside, IsPutOf, IsSubmitInside, IsSubmitOf, IsTurn}
 use Rattle.local_store.specs.About.{About}
 use Rattle.chain_core.specs.Node.{size_of}
 use Rattle.chain_core.specs.Refusal.{number_of}
@@ -80,33 +80,37 @@ number_is slot ticket write node stepped is =
     (λ other same. inl (taken_same (stop causes.Disorder node) stepped same))
 
 -- what holds of each of these holds of what a message does
-message_elim : (P : Stepped → Type 0) (slot : ℕ) (message : Message) (node : NodeState) (stepped : Stepped) → P (silent node) → P (stop causes.Disorder node)
+message_elim : (P : Stepped → Type 0) (slot : ℕ) (message : Message) (node : NodeState) (stepped : Stepped) → P (silent node) → P (stop causes.Disorder node) → (IsTurn message → P (turn node))
     → ((n : ℕ) (origin : Origin) (write : Placed) → P (apply n origin write node)) → ((told known : ℕ) → P (know told known node)) → take_message slot message node ≡ Taken stepped → P stepped
-message_elim P slot (Put n origin write) node stepped rests halts applies knows is = elim (put_is n origin write node stepped is) [
+message_elim P slot (Put n origin write) node stepped rests halts turns applies knows is = elim (put_is n origin write node stepped is) [
   | inl over ↦ subst P (sym over.1) rests
   | inr (inl halt) ↦ subst P (sym halt) halts
   | inr (inr does) ↦ subst P (sym does) (applies n origin write)
 ]
-message_elim P slot (Ack front) node stepped rests halts applies knows is = elim (ack_is front node stepped is) [
+message_elim P slot (Ack front) node stepped rests halts turns applies knows is = elim (ack_is front node stepped is) [
   | inl halt ↦ subst P (sym halt) halts
   | inr does ↦ subst P (sym does) (knows front (max node.known front))
 ]
-message_elim P slot (Turn applied) node stepped rests halts applies knows is = subst P (sym (taken_same (silent node) stepped is)) rests
-message_elim P slot (Submit ticket write) node stepped rests halts applies knows is = elim (number_is slot ticket write node stepped is) [
+message_elim P slot (Turn applied) node stepped rests halts turns applies knows is = subst P (sym (taken_same (take_turn node) stepped is)) (either node.turned)
+  where
+    either : (on : Bool) → P (cond on (silent node) (turn node))
+    either true = rests
+    either false = turns tt
+message_elim P slot (Submit ticket write) node stepped rests halts turns applies knows is = elim (number_is slot ticket write node stepped is) [
   | inl halt ↦ subst P (sym halt) halts
   | inr does ↦ subst P (sym does.are) (applies (last_of node + 1) (origin_of slot does.incarnation ticket) write)
 ]
 
-pub deliver_elim : (P : Stepped → Type 0) (slot : ℕ) (envelope : Envelope) (node : NodeState) (stepped : Stepped) → P (silent node) → P (stop causes.Disorder node)
+pub deliver_elim : (P : Stepped → Type 0) (slot : ℕ) (envelope : Envelope) (node : NodeState) (stepped : Stepped) → P (silent node) → P (stop causes.Disorder node) → (IsTurn envelope.message → P (turn node))
     → ((n : ℕ) (origin : Origin) (write : Placed) → P (apply n origin write node)) → ((told known : ℕ) → P (know told known node)) → deliver slot envelope node ≡ Taken stepped → P stepped
-deliver_elim P slot envelope node stepped rests halts applies knows is =
+deliver_elim P slot envelope node stepped rests halts turns applies knows is =
     by_test (is_stopped node) _ _ (Taken stepped) (P stepped) is
     (λ on none. not_refused 154 stepped none)
     (λ off rest. by_test (nat_lt envelope.epoch (epoch_of node)) _ _ (Taken stepped) (P stepped) rest
     (λ older same. subst P (sym (taken_same (silent node) stepped same)) rests)
     (λ newer more. by_test (nat_lt (epoch_of node) envelope.epoch) _ _ (Taken stepped) (P stepped) more
     (λ early none. not_refused 152 stepped none)
-    (λ here now. message_elim P slot envelope.message node stepped rests halts applies knows now)))
+    (λ here now. message_elim P slot envelope.message node stepped rests halts turns applies knows now)))
 
 -- a message of the member's epoch, while it runs
 pub deliver_here : (slot : ℕ) (envelope : Envelope) (node : NodeState) → node.stopped ≡ None → envelope.epoch ≡ epoch_of node → deliver slot envelope node ≡ take_message slot envelope.message node
@@ -123,22 +127,61 @@ pub record StaysOne (old new : NodeState) : Type 0 where
   pub board : new.board ≡ old.board
   pub place : new.place ≡ old.place
   pub incarnation : new.incarnation ≡ old.incarnation
-  pub turned : new.turned ≡ old.turned
+  pub turned : old.turned ≡ true → new.turned ≡ true
   pub holds : new.holds ≡ old.holds
 
 same_one : (node : NodeState) → StaysOne node node
-same_one node = record { board = refl; place = refl; incarnation = refl; turned = refl; holds = refl }
+same_one node = record { board = refl; place = refl; incarnation = refl; turned = λ on. on; holds = refl }
 
 pub delivered_one : (slot : ℕ) (envelope : Envelope) (node : NodeState) (stepped : Stepped) → deliver slot envelope node ≡ Taken stepped → StaysOne node stepped.node
 delivered_one slot envelope node stepped is = deliver_elim (λ s. StaysOne node s.node) slot envelope node stepped (same_one node)
-    (record { board = refl; place = refl; incarnation = refl; turned = refl; holds = refl }) (λ n origin write. record { board = refl; place = refl; incarnation = refl; turned = refl; holds = refl })
-    (λ told known. record { board = refl; place = refl; incarnation = refl; turned = refl; holds = refl }) is
+    (record { board = refl; place = refl; incarnation = refl; turned = λ on. on; holds = refl }) (λ is. record { board = refl; place = refl; incarnation = refl; turned = λ on. refl; holds = refl }) (λ n origin write. record { board = refl; place = refl; incarnation = refl; turned = λ on. on; holds = refl })
+    (λ told known. record { board = refl; place = refl; incarnation = refl; turned = λ on. on; holds = refl }) is
 
 -- it runs on as it did, or it stopped by disorder
 pub runs_or_halts : (slot : ℕ) (envelope : Envelope) (node : NodeState) (stepped : Stepped) → deliver slot envelope node ≡ Taken stepped
     → (stepped.node.stopped ≡ node.stopped) ⊎ (stepped ≡ stop causes.Disorder node)
-runs_or_halts slot envelope node stepped is = deliver_elim (λ s. (s.node.stopped ≡ node.stopped) ⊎ (s ≡ stop causes.Disorder node)) slot envelope node stepped (inl refl) (inr refl)
+runs_or_halts slot envelope node stepped is = deliver_elim (λ s. (s.node.stopped ≡ node.stopped) ⊎ (s ≡ stop causes.Disorder node)) slot envelope node stepped (inl refl) (inr refl) (λ is. inl refl)
     (λ n origin write. inl refl) (λ told known. inl refl) is
+
+-- ---- a link without a Turn
+
+-- a Turn alone sends more than one message
+one_or_none : (on : Bool) (to : Option ℕ) (message : Message) (node : NodeState) → length (cond on (send to message node) []) ≤ 1
+one_or_none false to message node = omega arith
+one_or_none true None message node = omega arith
+one_or_none true (Some slot) message node = omega arith
+
+few_sends : (slot : ℕ) (envelope : Envelope) (node : NodeState) (stepped : Stepped) → ¬ IsTurn envelope.message → deliver slot envelope node ≡ Taken stepped → length stepped.out.messages ≤ 1
+few_sends slot envelope node stepped none is = deliver_elim (λ s. length s.out.messages ≤ 1) slot envelope node stepped (omega arith) (omega arith) (λ turn. absurd (none turn))
+    (λ n origin write. one_or_none node.turned (successor_of node.place) (Put n origin write) node) (λ told known. one_or_none true (predecessor_of node.place) (Ack told) node) is
+
+put_no_turn : (size : ℕ) (message : Message) → IsPutInside size message → ¬ IsTurn message
+put_no_turn size (Put n origin write) is = λ turn. turn
+put_no_turn size (Ack front) is = absurd is
+put_no_turn size (Turn applied) is = absurd is
+put_no_turn size (Submit ticket write) is = absurd is
+
+ack_no_turn : (message : Message) → IsAck message → ¬ IsTurn message
+ack_no_turn (Put n origin write) is = absurd is
+ack_no_turn (Ack front) is = λ turn. turn
+ack_no_turn (Turn applied) is = absurd is
+ack_no_turn (Submit ticket write) is = absurd is
+
+submit_no_turn : (size : ℕ) (message : Message) → IsSubmitInside size message → ¬ IsTurn message
+submit_no_turn size (Put n origin write) is = absurd is
+submit_no_turn size (Ack front) is = absurd is
+submit_no_turn size (Turn applied) is = absurd is
+submit_no_turn size (Submit ticket write) is = λ turn. turn
+
+pub puts_no_turn : (epoch size : ℕ) (link : List Envelope) → All (IsPutOf epoch size) link → All (λ envelope. ¬ IsTurn envelope.message) link
+puts_no_turn epoch size link puts = All-weaker (IsPutOf epoch size) (λ envelope. ¬ IsTurn envelope.message) (λ envelope of. put_no_turn size envelope.message of.1) link puts
+
+pub acks_no_turn : (epoch : ℕ) (link : List Envelope) → All (IsAckOf epoch) link → All (λ envelope. ¬ IsTurn envelope.message) link
+acks_no_turn epoch link acks = All-weaker (IsAckOf epoch) (λ envelope. ¬ IsTurn envelope.message) (λ envelope of. ack_no_turn envelope.message of.1) link acks
+
+pub submits_no_turn : (epoch size : ℕ) (link : List Envelope) → All (IsSubmitOf epoch size) link → All (λ envelope. ¬ IsTurn envelope.message) link
+submits_no_turn epoch size link submits = All-weaker (IsSubmitOf epoch size) (λ envelope. ¬ IsTurn envelope.message) (λ envelope of. submit_no_turn size envelope.message of.1) link submits
 
 -- ---- a call that takes a message
 
@@ -163,6 +206,15 @@ module _ {S : Type 0} (slot : ℕ) (old new : Seen S) (out : Out) (link : List E
   delivered_so (Taken stepped) (inl is) = inl (stepped, refl, is)
   delivered_so (Taken stepped) (inr is) = inr is
   delivered_so (Refused n) none = absurd none
+
+  -- it sends one message at most, where no Turn stands on the link
+  pub few_delivered : All (λ x. ¬ IsTurn x.message) link → IsDelivered old new out (deliver slot envelope old.state) → length out.messages ≤ 1
+  few_delivered none is =
+      let first = All-head (λ (x : Envelope). ¬ IsTurn x.message) envelope (drop 1 link) (subst (All (λ (x : Envelope). ¬ IsTurn x.message)) (first_of link envelope here) none) in
+      elim (delivered_so (deliver slot envelope old.state) is) [
+        | inl step ↦ subst (λ (o : Out). length o.messages ≤ 1) (sym step.2.sent) (few_sends slot envelope old.state step.0 first step.1)
+        | inr halt ↦ subst (λ (o : Out). length o.messages ≤ 1) (sym halt.sent) (omega arith)
+      ]
 
   halts_by : (cause : Cause) → (cause ≡ causes.Memory) ⊎ (deliver slot envelope old.state ≡ Taken (stop cause old.state)) → IsStep old new out (stop cause old.state)
       → (to : List Envelope) → PassesTo slot old new link link to to out.replies
@@ -276,7 +328,7 @@ pub passes_same : {S : Type 0} (slot : ℕ) (old new : Seen S) (link left sent :
 passes_same slot old new link left sent replies (inl is) =
     (rw is.are (delivered_one slot is.envelope old.state is.stepped is.taken), ap (λ n. n.store) is.are)
 passes_same slot old new link left sent replies (inr is) =
-    (rw is.are (record { board = refl; place = refl; incarnation = refl; turned = refl; holds = refl }), ap (λ n. n.store) is.are)
+    (rw is.are (record { board = refl; place = refl; incarnation = refl; turned = λ on. on; holds = refl }), ap (λ n. n.store) is.are)
 
 -- the messages that are left were on the link
 passes_left : {S : Type 0} (P : Envelope → Type 0) (slot : ℕ) (old new : Seen S) (link left sent : List Envelope) (replies : List GivenReply) → Passes slot old new link left sent replies → All P link → All P left
@@ -297,7 +349,7 @@ module _ {S V : Type 0} (items : V → List GivenReply) (slot : ℕ) (old new : 
   all_passed (Err refusal) none some refused = refused
 
   still : new ≡ old → StaysOne old.state new.state × (new.store ≡ old.store)
-  still same = rw same (record { board = refl; place = refl; incarnation = refl; turned = refl; holds = refl }, refl)
+  still same = rw same (record { board = refl; place = refl; incarnation = refl; turned = λ on. on; holds = refl }, refl)
 
   pub passed_same : (r : Result (Option V) Refusal) → Passed r → StaysOne old.state new.state × (new.store ≡ old.store)
   passed_same (Ok None) is = still is.1.0

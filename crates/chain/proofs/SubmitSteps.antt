@@ -95,7 +95,7 @@ module _ {S : Type 0} (about : S → About) (old : Chained S) (one : List (Linke
 
   given_same : AllZip IsSame old.members (head ∷ below)
   given_same = subst (λ l. AllZip IsSame old.members l) without (subst (λ l. AllZip IsSame l (one ++ gives ∷ other)) (sym were) (same_behind one (sender ∷ other) (gives ∷ other)
-      (record { one = record { board = refl; place = refl; incarnation = refl; turned = refl; holds = refl }; store = refl; front = refl; muster = refl; receipt = refl }, are_same other)))
+      (record { one = record { board = refl; place = refl; incarnation = refl; turned = λ on. on; holds = refl }; store = refl; front = refl; muster = refl; receipt = refl }, are_same other)))
 
   numbered_same : AllZip IsSame old.members numbered
   numbered_same =
@@ -477,7 +477,7 @@ module _ {S : Type 0} (about : S → About) (old : Chained S) (from : ℕ) (f f1
 
   lent_same : AllZip IsSame old.members lent
   lent_same =
-      let one : IsSame f f1 = rw out (record { one = record { board = refl; place = refl; incarnation = refl; turned = refl; holds = refl }; store = refl; front = refl; muster = refl; receipt = refl }) in
+      let one : IsSame f f1 = rw out (record { one = record { board = refl; place = refl; incarnation = refl; turned = λ on. on; holds = refl }; store = refl; front = refl; muster = refl; receipt = refl }) in
       subst (λ l. AllZip IsSame l lent) (sym here.split) (subst (λ l. AllZip IsSame (here.one ++ f ∷ here.other) l) (sym (here.setting f1)) (same_behind here.one (f ∷ here.other) (f1 ∷ here.other) (one, are_same here.other)))
 
   lent_in : IsFormed about old → All (IsIn about old.id old.seat old.chain old.geometry) lent

@@ -56,6 +56,12 @@ IsSubmitInside size (Ack front) = ⊥
 IsSubmitInside size (Turn applied) = ⊥
 IsSubmitInside size (Submit ticket write) = Fits size write × (0 < length write.bytes)
 
+abbrev pub IsTurn : Message → Type 0
+IsTurn (Put n origin write) = ⊥
+IsTurn (Ack front) = ⊥
+IsTurn (Turn applied) = Unit {0}
+IsTurn (Submit ticket write) = ⊥
+
 -- it is of this epoch
 abbrev pub IsPutOf : ℕ → ℕ → Envelope → Type 0
 IsPutOf epoch size envelope = (envelope.epoch ≡ epoch) × IsPutInside size envelope.message

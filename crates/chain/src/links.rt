@@ -5,7 +5,7 @@ ghost use Rattle.chain_core.specs.Node.{IsInside, size_of};
 ghost use Rattle.chain_core.specs.Refusal.{number_of};
 ghost use Rattle.chain_steps.specs.Node.{epoch_of};
 ghost use Rattle.chain.specs.Chain.{IsOfOneVolume};
-ghost use Rattle.chain.specs.Links.{IsAckOf, IsPutOf, IsSubmitOf};
+ghost use Rattle.chain.specs.Links.{IsAckOf, IsPutOf, IsSubmitOf, IsTurn};
 ghost use Rattle.chain.specs.Passing.{AckComes, AreOf, HasNone, HeadTakes, IsRefused, PassesTo, PutComes, Refuses, SubmitComes, replies_in};
 
 use crate::chain::Chain;
@@ -37,15 +37,16 @@ pub(crate) fn send(messages: Vec<Sent>, to: &mut VecDeque<Envelope>)
     }
 }
 
-/// A member takes the first message of a link, from the member at a slot, and what it sends goes on another link. Where it
-/// stops, the message stays.
+/// A member takes the first message of a link on which no Turn stands, from the member at a slot, and what it sends goes on
+/// another link. Where it stops, the message stays.
 fn pass<S: StoreLike + Drop>(
     node: &mut Node<S>,
     from: Slot,
     link: &mut VecDeque<Envelope>,
     to: &mut VecDeque<Envelope>,
 ) -> Result<Option<Vec<Served>>, Refusal>
-    requires { All (λ envelope. IsInside (size_of (S.about node.old.store)) envelope.message) link.old.items }
+    requires inside { All (λ envelope. IsInside (size_of (S.about node.old.store)) envelope.message) link.old.items }
+    requires no_turn { All (λ envelope. ¬ IsTurn envelope.message) link.old.items }
     ensures none { IfOk result (λ taken. IfNone taken ((link.old.items ≡ []) × ((node.new ≡ node.old) × ((link.new.items ≡ link.old.items) × (to.new.items ≡ to.old.items))))) }
     ensures some { IfOk result (λ taken. IfSome taken (λ replies. PassesTo from node.old node.new link.old.items link.new.items to.old.items to.new.items replies.items)) }
     ensures refused { IfErr result (λ r. IsRefused from node.old.state link.old.items (number_of r) × ((node.new ≡ node.old) × ((link.new.items ≡ link.old.items) × (to.new.items ≡ to.old.items)))) }

@@ -1,3 +1,4 @@
+mod Again
 mod Answering
 mod ArmedSteps
 mod Blanks

@@ -1,5 +1,5 @@
 -- What holds of every member holds after each change.
-use Rattle.std.proofs.Common.{◌≡◌, ℕ, ◌≤◌, ◌+◌, ◌-◌, ◌<◌, List, [], ◌∷◌, ◌++◌, Bool, true, false, length, ap, refl, inl, inr, subst, arith}
+use Rattle.std.proofs.Common.{◌≡◌, ℕ, ◌≤◌, ◌+◌, ◌-◌, ◌<◌, List, [], ◌∷◌, ◌++◌, Bool, true, false, length, ap, refl, sym, ◌∙◌, inl, inr, subst, arith}
 use Rattle.std.specs.Prelude.{All, None, Some, filter, map, max, nat_lt, not, ◌==◌, ◌&&◌}
 use Rattle.std.proofs.lemmas.Bool.Decides.{nat_tests}
 use Rattle.std.proofs.lemmas.Bool.{cases_Bool}
@@ -13,7 +13,7 @@ use Rattle.version_table.specs.declared.kept.Origin.{Origin}
 use Rattle.volume.specs.Writes.{Fits, Placed}
 use Rattle.chain_steps.specs.Node.{NodeState, Taken, durable_of, last_of}
 use Rattle.chain_steps.specs.Steps.{ack, apply, is_full, know, number, origin_of}
-use Rattle.chain_steps.specs.Place.{incarnation_in, is_head}
+use Rattle.chain_steps.specs.Place.{Standing, incarnation_in, is_head}
 use Rattle.chain_steps.specs.Waiting.{IsOf, board_of, bound, is_paid_flush, is_paid_write, is_up_to, learned, waits_for}
 use Rattle.chain_steps.specs.declared.found.Found.{Found}
 use Rattle.chain_steps.specs.declared.found.Found.TheVariants.{Raised, Looked}
@@ -60,10 +60,11 @@ All-kept P f keeps (x ∷ xs) all = All-cons P (f x) (map f xs) (keeps x (All-he
 pub number_left : (write : Placed) (node : NodeState) → is_full write node ≡ false → last_of node < MAX_NUMBER
 number_left write node room = grind (arith, nat_tests)
 
--- no front is kept
-pub sound_idle : (about : About) (keeps : Keeping) (node : NodeState) → IsSound about keeps node → IsSound about keeps (record node { found = None })
-sound_idle about keeps node is = record {
-  slot = is.slot;
+-- it stands elsewhere in a chain, at its slot, and keeps no front
+pub sound_placed : (about : About) (keeps : Keeping) (node : NodeState) → IsSound about keeps node → (place : Standing) (turned holds : Bool) → place.slot ≡ node.place.slot
+    → IsSound about keeps (record node { place = place; turned = turned; holds = holds; found = None })
+sound_placed about keeps node is place turned holds same = record {
+  slot = is.slot ∙ sym same;
   incarnation = is.incarnation;
   front = is.front;
   behind = is.behind;
@@ -80,6 +81,10 @@ sound_idle about keeps node is = record {
   resting = is.resting;
   journals = is.journals;
 }
+
+-- no front is kept
+pub sound_idle : (about : About) (keeps : Keeping) (node : NodeState) → IsSound about keeps node → IsSound about keeps (record node { found = None })
+sound_idle about keeps node is = sound_placed about keeps node is node.place node.turned node.holds refl
 
 -- the token of a write has its board, and asks for no range
 pub own_submitted : (board : BoardId) (ticket epoch : ℕ) (token : WriteToken) → board_of token ≡ board → IsOf board (waits_for ticket epoch token)
@@ -216,6 +221,13 @@ module _ (about : About) (keeps : Keeping) (node : NodeState) (is : IsSound abou
         resting = is.resting;
         journals = λ premise volume keep c here. let way = is.under_way c here in rw (upto_more n write origin c.front (omega (arith, way.known, is.ahead))) (is.journals premise volume keep c here);
       }
+
+  -- its Turn has come, tokens went, and no front is kept
+  pub sound_turned : (passes : Waiting → Bool) → IsSound about keeps (record node { turned = true; waiting = filter passes node.waiting; found = None })
+  sound_turned passes =
+      let waiting = filter passes node.waiting in
+      let left = sound_waiting waiting (All-filter passes (IsOf node.board) node.waiting is.owed) (All-filter passes (IsAskedInside (size_of about)) node.waiting is.asked) in
+      sound_placed about keeps (record node { waiting = waiting }) left node.place true node.holds refl
 
   -- more is known, tokens went, and no front is kept
   pub sound_known : (known : ℕ) (passes : Waiting → Bool) → node.known ≤ known → known ≤ last_of node → IsSound about keeps (record node { known = known; waiting = filter passes node.waiting; found = None })

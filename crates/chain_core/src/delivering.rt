@@ -47,7 +47,7 @@ impl<S: StoreLike + Drop> Node<S> {
                 write,
             } => self.put(*number, *origin, write),
             Message::Ack { front } => Ok(self.ack(*front)),
-            Message::Turn { .. } => Ok(self.nothing()),
+            Message::Turn { .. } => Ok(self.take_turn()),
             Message::Submit { ticket, write } => self.number(from, *ticket, write),
         }
     }

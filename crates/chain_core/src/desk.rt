@@ -1,6 +1,6 @@
 ghost use Rattle.std.specs.Prelude.{◌≡◌, ◌<◌, ◌≤◌, ◌+◌, ◌^◌, ◌++◌, [], ◌∷◌, List, All, Some, None, filter, length, map, not, vec_len, vec_capacity, IfErr, IfOk, OnErr, OnOk};
 ghost use Rattle.chain_core.specs.Reads.{answered};
-ghost use Rattle.chain_steps.specs.Waiting.{IsOf, IsOfDue, asked_range, bound, is_read, is_due, learned, reply_to, waits_for};
+ghost use Rattle.chain_steps.specs.Waiting.{IsOf, IsOfDue, asked_range, bound, is_due, is_outdated, is_read, learned, reply_to, waits_for};
 ghost use Rattle.chain_steps.specs.declared.waiting.Waiting.{Waiting as Token};
 ghost use Rattle.chain_steps.specs.declared.waiting.Waiting.TheVariants.{Flush, Read};
 ghost use Rattle.flush_barrier.specs.declared.error_code.ErrorCode.TheVariants.{Io};
@@ -132,6 +132,25 @@ impl Desk {
             served.push_reserved(Served::new(reply));
         }
         served
+    }
+
+    /// How many writes have no number yet, of those that were submitted in an older epoch than this one.
+    pub(crate) fn count_outdated(&self, epoch: u64) -> usize
+        ensures count { result ≡ length (filter (is_outdated epoch) self.now) }
+        ensures few { result < 2 ^ 63 }
+    {
+        self.tokens.count_outdated(epoch)
+    }
+
+    /// Refuses these with EIO, in the order in which they were taken, into a list that has room for them.
+    pub(crate) fn refuse_outdated(&mut self, alloc: Global, epoch: u64, served: &mut Vec<Served>)
+        requires room { vec_len served.old + length (filter (is_outdated epoch) self.old) ≤ vec_capacity served.old }
+        ensures refused { served.new.items ≡ served.old.items ++ map (reply_to (Some Io)) (filter (is_outdated epoch) self.old) }
+        ensures left { self.new ≡ filter (λ w. not (is_outdated epoch w)) self.old }
+    {
+        while let Some(reply) = self.tokens.next_outdated(alloc, epoch, ErrorCode::Io) {
+            served.push_reserved(Served::new(reply));
+        }
     }
 
     /// The ranges that the READs ask for, in the order in which they were taken: the first byte of each, and how many.

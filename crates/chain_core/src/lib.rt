@@ -20,6 +20,7 @@ mod out;
 mod reading;
 mod reads;
 mod refusal;
+mod turning;
 
 pub use node::Node;
 pub use out::{Out, Served};

@@ -25,6 +25,14 @@ member_at chain (Some at) = slice_get chain.members at
 abbrev pub incarnation_in : Record → ℕ → Option ℕ
 incarnation_in chain slot = option_map (λ m. m.incarnation) (member_at chain (place_in chain slot))
 
+abbrev pub is_it : ℕ → Option ℕ → Bool
+is_it incarnation None = false
+is_it incarnation (Some other) = other == incarnation
+
+-- the member of this incarnation stands in the chain, at its slot
+abbrev pub is_of : Standing → ℕ → Bool
+is_of place incarnation = is_it incarnation (incarnation_in place.chain place.slot)
+
 -- the slot behind a place, and before it
 abbrev pub slot_behind : Record → Option ℕ → Option ℕ
 slot_behind chain None = None

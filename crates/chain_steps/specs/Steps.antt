@@ -1,18 +1,19 @@
 -- The steps of one member of a chain.
-use Rattle.std.specs.Prelude.{◌≡◌, ◌↔◌, ℕ, ◌+◌, ◌*◌, ◌<◌, ◌≤◌, max, Bool, ◌&&◌, ◌||◌, ◌==◌, not, nat_lt, nat_le, if◌then◌else◌, Option, Some, None, List, [], ◌∷◌, ◌++◌, length, map, filter, fold, take, drop, All, AllPairs, Any}
+use Rattle.std.specs.Prelude.{◌≡◌, ◌↔◌, ℕ, ◌+◌, ◌*◌, ◌<◌, ◌≤◌, max, Bool, true, false, ◌&&◌, ◌||◌, ◌==◌, not, nat_lt, nat_le, if◌then◌else◌, Option, Some, None, List, [], ◌∷◌, ◌++◌, length, map, filter, fold, take, drop, All, AllPairs, Any}
 use Rattle.std.specs.List.{count_by, list_any}
 use Rattle.flush_barrier.specs.Owed.{Owed, OwedAt}
+use Rattle.configurations.specs.Record.{Record}
 use Rattle.flush_barrier.specs.declared.error_code.ErrorCode.TheVariants.{Io}
 use Rattle.gate_journal.specs.Image.{Image}
 use Rattle.gate_journal.specs.declared.batch.TheConstants.{MAX_NUMBER}
-use Rattle.version_table.specs.Held.{data_of, forgotten_to, with_write, writes_upto}
+use Rattle.version_table.specs.Held.{data_of, forgotten_to, kept_after, with_write, writes_upto}
 use Rattle.version_table.specs.Whole.{has_whole}
 use Rattle.volume.specs.Body.{is_zeros, kept_of}
 use Rattle.version_table.specs.declared.kept.Origin.{Origin}
 use Rattle.volume.specs.Writes.{Placed, IsTouched, block_of, patched, touches}
 use Rattle.chain_steps.specs.Node.{Delivery, NodeState, Refused, Stepped, Taken, durable_of, epoch_of, is_stopped, last_of}
-use Rattle.chain_steps.specs.Place.{head_of, incarnation_in, is_head, predecessor_of, successor_of}
-use Rattle.chain_steps.specs.Waiting.{bound, is_committed, is_paid_flush, is_paid_write, is_read, learned, reply_to, reply_with, waits_for}
+use Rattle.chain_steps.specs.Place.{head_of, incarnation_in, is_head, is_of, predecessor_of, successor_of}
+use Rattle.chain_steps.specs.Waiting.{bound, is_committed, is_outdated, is_paid_flush, is_paid_write, is_read, learned, reply_to, reply_with, waits_for}
 use Rattle.chain_steps.specs.declared.cause.Cause.{Cause}
 use Rattle.chain_steps.specs.declared.cause.Cause.TheVariants.{Disorder}
 use Rattle.chain_steps.specs.declared.found.Found.{Found}
@@ -125,11 +126,35 @@ know told known node = record {
 abbrev pub ack : ℕ → NodeState → Stepped
 ack front node = if nat_lt (last_of node) front then stop Disorder node else know front (max node.known front) node
 
+-- what the member doesn't know to be committed, and the Turn behind it
+abbrev pub again : NodeState → List Message
+again node = map (λ k. Put k.number k.origin k.write) (kept_after node.table node.known) ++ Turn (last_of node) ∷ []
+
+-- these messages in an epoch for a member, if there is one
+abbrev pub send_all : Option ℕ → ℕ → List Message → List Sent
+send_all None epoch messages = []
+send_all (Some slot) epoch messages = map (λ message. record { to = slot; envelope = record { epoch = epoch; message = message } }) messages
+
+-- Turn: the member's writes without a number that were submitted in an older epoch are refused with EIO, and what isn't known to
+-- be committed goes to the successor once more, with the Turn behind it.
+abbrev pub turn : NodeState → Stepped
+turn node = record {
+  node = record node { turned = true; waiting = filter (λ w. not (is_outdated (epoch_of node) w)) node.waiting; found = None };
+  out = record {
+    messages = send_all (successor_of node.place) (epoch_of node) (again node);
+    replies = map (reply_to (Some Io)) (filter (is_outdated (epoch_of node)) node.waiting);
+  };
+}
+
+-- a second Turn of an epoch is passed over
+abbrev pub take_turn : NodeState → Stepped
+take_turn node = if node.turned then silent node else turn node
+
 -- a message of this epoch, from the member at the slot
 abbrev pub take_message : ℕ → Message → NodeState → Delivery
 take_message slot (Put n origin write) node = put n origin write node
 take_message slot (Ack front) node = Taken (ack front node)
-take_message slot (Turn applied) node = Taken (silent node)
+take_message slot (Turn applied) node = Taken (take_turn node)
 take_message slot (Submit ticket write) node = number slot ticket write node
 
 -- Deliver: 154 once stopped; a message of an older epoch is dropped, one of a later is 152.
@@ -139,6 +164,21 @@ deliver slot envelope node =
     else (if nat_lt envelope.epoch (epoch_of node) then Taken (silent node)
     else (if nat_lt (epoch_of node) envelope.epoch then Refused 152
     else take_message slot envelope.message node))
+
+-- the member in the chain that it is told: it waits for the Turn, and holds for no joiner
+abbrev pub placed : Record → NodeState → NodeState
+placed chain node = record node { place = record { slot = node.place.slot; chain = chain }; turned = false; holds = false; found = None }
+
+-- the head has its Turn at once
+abbrev pub starts : NodeState → Stepped
+starts node = if is_head node.place then turn node else silent node
+
+-- Told: 154 once stopped; a record whose epoch isn't above the member's changes nothing; one without this member is 151.
+abbrev pub told : Record → NodeState → Delivery
+told chain node =
+    if is_stopped node then Refused 154
+    else (if nat_le chain.epoch (epoch_of node) then Taken (silent node)
+    else (if is_of (placed chain node).place node.incarnation then Taken (starts (placed chain node)) else Refused 151))
 
 -- Raise, Look: the front that was found is kept.
 abbrev pub keep : Found → NodeState → NodeState

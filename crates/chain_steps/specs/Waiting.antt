@@ -1,5 +1,5 @@
 -- A token that waits: what it learns, when it is answered, and with what reply.
-use Rattle.std.specs.Prelude.{◌≡◌, ℕ, Bool, true, false, Option, Some, None, ◌==◌, nat_le, if◌then◌else◌, List, [], ⊤}
+use Rattle.std.specs.Prelude.{◌≡◌, ℕ, Bool, true, false, ◌&&◌, not, Option, Some, None, is_some, ◌==◌, nat_le, nat_lt, if◌then◌else◌, List, [], ⊤}
 use Rattle.board.specs.Seats.{BoardId}
 use Rattle.flush_barrier.specs.Owed.{Owed}
 use Rattle.flush_barrier.specs.Reply.{GivenReply}
@@ -60,6 +60,13 @@ is_paid_flush front (Plain ticket epoch number token) = false
 is_paid_flush front (Fua ticket epoch token) = false
 is_paid_flush front (Read offset len token) = false
 is_paid_flush front (Flush token) = is_up_to front token.number
+
+-- a write that has no number yet, and was submitted in an older epoch than this one
+abbrev pub is_outdated : ℕ → Waiting → Bool
+is_outdated now (Plain ticket epoch number token) = not (is_some number) && nat_lt epoch now
+is_outdated now (Fua ticket epoch token) = not (is_some token.number) && nat_lt epoch now
+is_outdated now (Read offset len token) = false
+is_outdated now (Flush token) = false
 
 -- the range that a READ asks for
 abbrev pub asked_range : Waiting → ℕ × ℕ

@@ -19,7 +19,7 @@ impl Model for Place {
 
 impl Place {
     ghost use Rattle.std.specs.Prelude.{◌≡◌, ◌<◌, ◌≤◌, length, IfSome, Some};
-    ghost use Rattle.chain_steps.specs.Place.{head_of, incarnation_in, is_head, is_member, is_tail, place_in, predecessor_of, slot_at, successor_of};
+    ghost use Rattle.chain_steps.specs.Place.{head_of, incarnation_in, is_head, is_member, is_of, is_tail, place_in, predecessor_of, slot_at, successor_of};
 
     /// The slot in the chain.
     pub fn new(slot: Slot, chain: Record) -> Place
@@ -49,6 +49,16 @@ impl Place {
         ensures few { length self.now.chain.members ≤ 8 }
     {
         self.chain.members().iter().position(|m| m.slot == slot)
+    }
+
+    /// Whether the member of this incarnation stands in the chain, at its slot.
+    pub fn is_of(&self, incarnation: u64) -> bool
+        ensures { result ≡ is_of self.now incarnation }
+    {
+        match self.incarnation_of(self.slot) {
+            Some(recorded) => recorded.number() == incarnation,
+            None => false,
+        }
     }
 
     /// Whether the slot is the chain's.

@@ -1,6 +1,6 @@
 ghost use Rattle.std.specs.Prelude.{◌≡◌, ◌<◌, ◌^◌, ◌++◌, [], ◌∷◌, Bool, true, List, Some, None, All, filter, find, length, map, option_map, position, IfErr, IfNone, IfOk, IfSome, OnErr, OnOk};
 ghost use Rattle.chain_steps.specs.Tokens.{without_first};
-ghost use Rattle.chain_steps.specs.Waiting.{IsOf, IsOfDue, asked_range, bound, is_due, is_read, learned, reply_to, waits_for};
+ghost use Rattle.chain_steps.specs.Waiting.{IsOf, IsOfDue, asked_range, bound, is_due, is_outdated, is_read, learned, reply_to, waits_for};
 ghost use Rattle.chain_steps.specs.declared.waiting.Waiting.{Waiting as Token};
 ghost use Rattle.chain_steps.specs.declared.waiting.Waiting.TheVariants.{Flush, Read};
 
@@ -133,6 +133,31 @@ impl Tokens {
         Some(self.take_out(at).settle(alloc, due))
     }
 
+    /// How many writes have no number yet, of those that were submitted in an older epoch than this one.
+    pub fn count_outdated(&self, epoch: u64) -> usize
+        ensures count { result ≡ length (filter (is_outdated epoch) self.now) }
+        ensures few { result < 2 ^ 63 }
+    {
+        let mut count = 0;
+        for token in &self.waiting {
+            if token.is_outdated(epoch) {
+                count += 1;
+            }
+        }
+        count
+    }
+
+    /// The refusal of the first write that has no number yet, of those that were submitted in an older epoch than this one; it
+    /// waits no longer.
+    #[tactic(auto, using(crate::proofs::Firsts::none_found, crate::proofs::Firsts::none_out))]
+    pub fn next_outdated(&mut self, alloc: Global, epoch: u64, code: ErrorCode) -> Option<Reply>
+        ensures reply { result ≡ option_map (reply_to (Some code)) (find (is_outdated epoch) self.old) }
+        ensures left { self.new ≡ without_first (is_outdated epoch) self.old }
+    {
+        let at = self.first_outdated(epoch)?;
+        Some(self.take_out(at).refuse(alloc, code))
+    }
+
     /// How many READs wait.
     pub fn count_reads(&self) -> usize
         ensures { result ≡ length (filter is_read self.now) }
@@ -195,6 +220,14 @@ impl Tokens {
         ensures within { IfSome result (λ at. at < length self.now) }
     {
         self.waiting.iter().position(|t| t.is_due(due))
+    }
+
+    /// Where the first write waits that has no number yet, of those that were submitted in an older epoch than this one.
+    fn first_outdated(&self, epoch: u64) -> Option<usize>
+        ensures place { result ≡ position (is_outdated epoch) self.now }
+        ensures within { IfSome result (λ at. at < length self.now) }
+    {
+        self.waiting.iter().position(|t| t.is_outdated(epoch))
     }
 
     /// Where the first READ waits.

@@ -79,7 +79,7 @@ pub enum Waiting {
 }
 
 impl Waiting {
-    ghost use Rattle.chain_steps.specs.Waiting.{IsOf, IsOfDue, bound, is_due, is_read, learned, reply_to, waits_for};
+    ghost use Rattle.chain_steps.specs.Waiting.{IsOf, IsOfDue, bound, is_due, is_outdated, is_read, learned, reply_to, waits_for};
 
     /// The token of a write that was submitted under this ticket, in this epoch.
     pub(crate) fn submitted(token: WriteToken, ticket: u64, epoch: u64) -> Waiting
@@ -146,6 +146,17 @@ impl Waiting {
             (Due::Writes(floor), Waiting::Fua { token, .. }) => token.is_paid_by(floor),
             (Due::Flushes(floor), Waiting::Flush { token }) => token.is_paid_by(floor),
             _ => false,
+        }
+    }
+
+    /// Whether it is a write that has no number yet, and was submitted in an older epoch than this one.
+    pub(crate) fn is_outdated(&self, now: u64) -> bool
+        ensures { result ≡ is_outdated now self.now }
+    {
+        match self {
+            Waiting::Plain { epoch, number, .. } => number.is_none() && *epoch < now,
+            Waiting::Fua { epoch, token, .. } => token.numbered().is_none() && *epoch < now,
+            Waiting::Read { .. } | Waiting::Flush { .. } => false,
         }
     }
 

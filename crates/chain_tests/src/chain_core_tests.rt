@@ -6,10 +6,10 @@ ghost use Rattle.chain_steps.specs.Waiting.{board_of};
 use crate::comparing::same;
 use board::{Board, Floor, Seat};
 use bytes::Bytes;
-use chain_core::{Node, Out, Refused, Served};
+use chain_core::{Node, Out, Refusal, Refused, Served};
 use chain_steps::{Message, Sent, WriteToken};
 use configurations::{Epoch, Incarnation, Member, Record};
-use flush_barrier::{BoardName, OwedFlush, OwedFua, OwedRead, OwedWrite, SessionId};
+use flush_barrier::{BoardName, ErrorCode, OwedFlush, OwedFua, OwedRead, OwedWrite, SessionId};
 use flusher::Run;
 use gate_journal::{Slot, Synced};
 use local_store::{PlainStore, StoreLike};
@@ -19,15 +19,20 @@ use volume::{Geometry, Write};
 
 // A chain of the slots from 0 on, so many.
 fn chain(rt: &impl Abort, alloc: Global, count: u8) -> Record {
+    chain_in(rt, alloc, 1, 0, count)
+}
+
+// The chain of an epoch, of the slots from this one on and below that one.
+fn chain_in(rt: &impl Abort, alloc: Global, epoch: u64, first: u8, end: u8) -> Record {
     let mut members = Vec::new(alloc);
-    for number in 0..count {
+    for number in first..end {
         let slot = Slot::new(number).expect(rt, "a slot");
         let incarnation = Incarnation::new(1).expect(rt, "an incarnation");
         members
             .push(Member { slot, incarnation })
             .expect(rt, "memory");
     }
-    let epoch = Epoch::new(1).expect(rt, "an epoch");
+    let epoch = Epoch::new(epoch).expect(rt, "an epoch");
     Record::new(epoch, members).expect(rt, "a chain")
 }
 
@@ -101,6 +106,21 @@ fn submit(
             panic!(rt; "a write that isn't taken")
         }
     }
+}
+
+// A write of 3 bytes that is taken, without FUA: what goes to the head.
+fn write(
+    rt: &impl Abort,
+    alloc: Global,
+    board: &Board,
+    node: &mut Node<PlainStore>,
+    cookie: u64,
+) -> Vec<Sent>
+    requires { node.old.state.board ≡ board.now }
+    ensures { node.new.state.board ≡ board.now }
+{
+    let token = OwedWrite::new(&BoardName::of(board), SessionId(4), cookie);
+    submit(rt, alloc, node, WriteToken::Plain(token), 4_095, &[1, 2, 3])
 }
 
 // A READ of 3 bytes that is taken: whom that answers.
@@ -225,6 +245,33 @@ fn check(rt: &impl Abort, replies: Vec<Served>, cookie: u64, bytes: &[u8]) {
     }
 }
 
+// The one reply, of this cookie, which refuses with EIO.
+fn check_refused(rt: &impl Abort, replies: Vec<Served>, cookie: u64) {
+    same(rt, replies.len(), 1);
+    for served in replies {
+        let reply = served.reply();
+        same(rt, reply.cookie(), cookie);
+        same(rt, reply.error(), Some(ErrorCode::Io));
+    }
+}
+
+// The member learns this chain: what it sends, and whom that answers.
+fn tell(rt: &impl Abort, node: &mut Node<PlainStore>, chain: Record) -> Out
+    ensures { node.new.state.board ≡ node.old.state.board }
+{
+    node.told(chain).expect(rt, "a chain of which it is")
+}
+
+// The member refuses the message, which stays.
+fn check_early(rt: &impl Abort, node: &mut Node<PlainStore>, sent: &Sent)
+    ensures { node.new.state.board ≡ node.old.state.board }
+{
+    assert!(rt; is_inside(node, &sent.envelope.message));
+    let from = Slot::new(1).expect(rt, "a slot");
+    let refusal = node.deliver(from, &sent.envelope).err();
+    same(rt, refusal, Some(Refusal::Early));
+}
+
 // A write at the head of two goes down to the tail, which raises the front: the Ack on its way.
 fn write_down(
     rt: &impl Abort,
@@ -340,4 +387,54 @@ fn a_flush_is_paid_by_both_receipts(rt: HostRuntime) {
     check(&rt, pay(&board, &mut seat, &mut head), 2, b"");
     drop(head.abandon());
     drop(tail.abandon());
+}
+
+// The second member of three, whose head stopped behind the first of two writes: that one is applied here, and its token has a
+// number.
+fn behind_a_lost_head(rt: &impl Abort, alloc: Global, board: &Board) -> Node<PlainStore>
+    ensures { result.state.board ≡ board.now }
+{
+    let mut head = member(rt, alloc, board, chain(rt, alloc, 3), 0);
+    let mut middle = member(rt, alloc, board, chain(rt, alloc, 3), 1);
+    let submitted = write(rt, alloc, board, &mut middle, 9);
+    let numbered = pass(rt, 1, &mut head, submitted);
+    let applied = pass(rt, 0, &mut middle, numbered.messages);
+    same(rt, applied.messages.len(), 1);
+    let lost = write(rt, alloc, board, &mut middle, 10);
+    same(rt, lost.len(), 1);
+    drop(head.abandon());
+    middle
+}
+
+// The write that the lost head numbered is sent again in the next epoch, with the Turn after it, and the other one is refused.
+#[test]
+fn a_chain_goes_on_without_its_head(rt: HostRuntime) {
+    let alloc = rt.alloc();
+    let (board, _seats) = Board::new(alloc, 0, 7, [0; 8], 1).expect(&rt, "memory");
+    let mut middle = behind_a_lost_head(&rt, alloc, &board);
+    let mut tail = member(&rt, alloc, &board, chain(&rt, alloc, 3), 2);
+    let told = tell(&rt, &mut middle, chain_in(&rt, alloc, 2, 1, 3));
+    check_refused(&rt, told.replies, 10);
+    let mut puts = told.messages;
+    let turn = puts.pop().expect(&rt, "a Turn");
+    check_early(&rt, &mut tail, puts.first().expect(&rt, "a Put"));
+    let told = tell(&rt, &mut tail, chain_in(&rt, alloc, 2, 1, 3));
+    same(&rt, (told.messages.len(), told.replies.len()), (0, 0));
+    same(&rt, pass(&rt, 1, &mut tail, puts).messages.len(), 0);
+    let turn = vec![in alloc; turn].expect(&rt, "memory");
+    same(&rt, pass(&rt, 1, &mut tail, turn).messages.len(), 0);
+    same(&rt, (tail.applied(), middle.applied()), (1, 1));
+    drop(middle.abandon());
+    drop(tail.abandon());
+}
+
+// A record without the member is none of its own.
+#[test]
+fn a_member_isnt_told_a_record_of_others(rt: HostRuntime) {
+    let alloc = rt.alloc();
+    let (board, _seats) = Board::new(alloc, 0, 7, [0; 8], 1).expect(&rt, "memory");
+    let mut node = member(&rt, alloc, &board, chain(&rt, alloc, 3), 1);
+    let others = chain_in(&rt, alloc, 2, 2, 3);
+    same(&rt, node.told(others).err(), Some(Refusal::NotMember));
+    drop(node.abandon());
 }

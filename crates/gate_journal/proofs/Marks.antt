@@ -1,5 +1,5 @@
 -- Images of zeros, and the marks that stand for them.
-use Rattle.std.proofs.Common.{◌≡◌, ◌==◌, ℕ, ◌+◌, ◌*◌, ◌^◌, ◌≤◌, inl, inr, Bool, true, false, if◌then◌else◌, List, [], ◌∷◌, ◌++◌, length, replicate, zero, suc, refl, sym, ◌∙◌, ap, arith, append_assoc, length-append, All}
+use Rattle.std.proofs.Common.{◌≡◌, ◌==◌, ℕ, ◌+◌, ◌^◌, ◌≤◌, inl, inr, Bool, true, false, if◌then◌else◌, List, [], ◌∷◌, ◌++◌, length, replicate, zero, suc, refl, sym, ◌∙◌, ap, subst, arith, append_assoc, length-append, All}
 use Rattle.std.specs.List.{flat_map}
 use Rattle.std.proofs.lemmas.Bool.{and_parts}
 use Rattle.std.proofs.lemmas.List.{append-nil}
@@ -7,7 +7,7 @@ use Rattle.std.proofs.lemmas.List.Elements.{All-head, All-tail}
 use Rattle.byteorder.specs.Endian.{big_bytes}
 use Rattle.byteorder.specs.Numbers.{length-bytes_high_first}
 use Rattle.gate_journal.specs.Image.{Image, is_zeros}
-use Rattle.gate_journal.specs.Batch.{EncodesImage, InTurn, IsWhole, batch_size, head_encoding, image_encoding, image_size, images_size, mark_encoding, whole_encoding}
+use Rattle.gate_journal.specs.Batch.{EncodesImage, InTurn, IsWhole, head_encoding, image_encoding, image_size, images_size, mark_encoding, whole_encoding}
 
 -- zeros of one length are the same
 pub same_zeros : (xs ys : List ℕ) → is_zeros xs ≡ true → is_zeros ys ≡ true → length xs ≡ length ys → xs ≡ ys
@@ -68,9 +68,15 @@ pub at_least : (image : Image) (bytes : List ℕ) → EncodesImage image bytes �
 at_least image bytes (inl is) = omega (arith, ap length is, length-append (big_bytes 4 image.block) image.bytes, length-bytes_high_first 4 image.block)
 at_least image bytes (inr (blank, is)) = omega (arith, ap length is, length-bytes_high_first 4 (image.block + 2 ^ 31))
 
--- ---- one more in turn
+-- ---- more in turn
+
+pub turn_append : {A : Type 0} (Encodes : A → List ℕ → Type 0) (items others : List A) (bytes more : List ℕ) → InTurn Encodes items bytes → InTurn Encodes others more → InTurn Encodes (items ++ others) (bytes ++ more)
+turn_append Encodes [] others bytes more none turn = subst (InTurn Encodes others) (sym (ap (λ (l : List ℕ). l ++ more) none)) turn
+turn_append Encodes (x ∷ items) others bytes more (first, rest, is, turn, all) behind =
+    (first, rest ++ more, is, turn_append Encodes items others rest more turn behind, ap (λ (l : List ℕ). l ++ more) all ∙ append_assoc first rest more)
+
+pub turn_one : {A : Type 0} (Encodes : A → List ℕ → Type 0) (item : A) (bytes : List ℕ) → Encodes item bytes → InTurn Encodes (item ∷ []) bytes
+turn_one Encodes item bytes is = (bytes, [], is, refl, sym (append-nil bytes))
 
 pub turn_push : {A : Type 0} (Encodes : A → List ℕ → Type 0) (items : List A) (item : A) (bytes more : List ℕ) → InTurn Encodes items bytes → Encodes item more → InTurn Encodes (items ++ item ∷ []) (bytes ++ more)
-turn_push Encodes [] item bytes more none one = (more, [], one, refl, ap (λ (l : List ℕ). l ++ more) none ∙ sym (append-nil more))
-turn_push Encodes (x ∷ items) item bytes more (first, rest, is, turn, all) one =
-    (first, rest ++ more, is, turn_push Encodes items item rest more turn one, ap (λ (l : List ℕ). l ++ more) all ∙ append_assoc first rest more)
+turn_push Encodes items item bytes more turn one = turn_append Encodes items (item ∷ []) bytes more turn (turn_one Encodes item more one)

@@ -87,17 +87,6 @@ impl Image {
         }
     }
 
-    /// Adds its bytes, which are 4,096.
-    pub fn append_to(&self, bytes: &mut Vec<u8>) -> Result<(), AllocError>
-        ensures added { OnOk result (bytes.new.items ≡ bytes.old.items ++ self.now.bytes) }
-        ensures long { length self.now.bytes ≡ IMAGE_SIZE }
-    {
-        match &self.content {
-            Content::Whole(content) => bytes.extend_from_slice(content),
-            Content::Zeros => bytes.extend_from_slice(&[0; IMAGE_SIZE]),
-        }
-    }
-
     /// The bytes that it takes in a batch: 4 of zeros, else 4,100.
     pub fn size(&self) -> u64
         ensures { result ≡ image_size self.now }

@@ -1,6 +1,6 @@
 // What stands in a part of a disk, read and tested. Memory is taken for images alone that were read.
 ghost use Rattle.std.specs.Prelude.{◌≡◌, ◌≢◌, ◌+◌, ◌*◌, ◌<◌, ◌≤◌, ◌++◌, [], ◌∷◌, ℕ, List, length, drop, All, IfOk, IfErr, IfSome, OnOk, IsErrOf, IsTrue, ◌↔◌};
-ghost use Rattle.byteorder.specs.Endian.{big_bytes};
+ghost use Rattle.byteorder.specs.Endian.{big_bytes, big_from};
 ghost use Rattle.disk_model.specs.Part.{inside};
 ghost use Rattle.gate_journal.specs.Batch.{EncodesBatch, EncodesImage, InTurn, IsBatch, IsDamaged, IsWhole};
 ghost use Rattle.gate_journal.specs.Reading.{HasNoBatch, HasNoImage, HasNoImages, HoldsAt, HoldsTo, IsFound};
@@ -8,18 +8,21 @@ ghost use Rattle.gate_journal.specs.Refusal.{HasCause, IsOfReading};
 ghost use Rattle.gate_journal.specs.Runs.{OnlyReads};
 
 use crate::batch::{
-    BATCH_HEADER, Batch, IMAGE_RECORD, IMAGE_SIZE, MARK_BIT, MARK_SIZE, MAX_BLOCKS, MAX_NUMBER,
-    OPEN, are_images,
+    BATCH_HEADER, Batch, IMAGE_RECORD, MARK_BIT, MARK_SIZE, MAX_BLOCKS, MAX_NUMBER, OPEN,
+    are_images,
 };
 use crate::image::Image;
 use crate::refusal::Refusal;
 use byteorder::{BigEndian, ByteOrder};
 use bytes::Bytes;
 use disk_model::{Disk, Part};
-use std::alloc::Global;
+use std::alloc::{AllocError, Global};
 
 /// The bytes of an image with its block's number, which one call reads.
 const RECORD_SIZE: usize = IMAGE_RECORD as usize;
+
+/// How many marks stand in so many bytes.
+const RECORD_MARKS: usize = RECORD_SIZE / MARK_SIZE as usize;
 
 /// What a batch begins with, behind its gate.
 #[derive(Clone, Copy)]
@@ -100,26 +103,55 @@ fn read_number<D: Disk>(part: Part, disk: &mut D, at: u64) -> Result<u32, Refusa
     Ok(BigEndian::read_u32(&bytes))
 }
 
-/// Reads a block's number, with the bit of a mark, and the bytes that would be the block's.
-fn read_record<D: Disk>(
-    part: Part,
-    disk: &mut D,
-    at: u64,
-) -> Result<(u32, [u8; IMAGE_SIZE]), Refusal>
-    requires on_disk { part.start + part.len ≤ D.size disk.old }
-    requires range { at + IMAGE_RECORD ≤ part.len }
-    ensures record { D.keeps_model → IfOk result (λ r. HoldsAt (inside part (D.gives disk.old)) at (at + 4100) (big_bytes 4 r.0 ++ r.1)) }
-    ensures reads { D.keeps_model → OnlyReads D.gives D.may_leave_now D.moment D.may_have_left_since disk.old disk.new }
-    ensures size { D.size disk.new ≡ D.size disk.old }
-    ensures told { IfErr result IsOfReading }
-    ensures undamaged { IsErrOf result Refusal.Damaged → ⊥ }
-    ensures cause { HasCause (D.failures disk.old) (D.failures disk.new) result }
-    ensures most { D.most_failures disk.new ≤ D.most_failures disk.old }
+/// A block's number in a record's bytes, with the bit of a mark.
+fn number_at(bytes: &[u8; RECORD_SIZE], at: usize) -> u32
+    requires { at + MARK_SIZE ≤ IMAGE_RECORD }
+    ensures number { HoldsAt bytes.now at (at + 4) (big_bytes 4 result) }
+    ensures value { result ≡ big_from 0 4 (drop at bytes.now) }
 {
-    let record: [u8; RECORD_SIZE] = read_array(part, disk, at)?;
-    let mut bytes = [0; IMAGE_SIZE];
-    bytes.copy_from_slice(&record[4..]);
-    Ok((BigEndian::read_u32(&record), bytes))
+    BigEndian::read_u32(&bytes[at..])
+}
+
+/// The marks that a record's bytes begin with, one after another: all of them, but at most so many.
+fn marks_in(alloc: Global, bytes: &[u8; RECORD_SIZE], most: usize) -> Result<Vec<Image>, AllocError>
+    ensures images { IfOk result (λ marks. HoldsTo (InTurn EncodesImage) bytes.now bytes.now 0 (MARK_SIZE * length marks.items) marks.items) }
+    ensures count { IfOk result (λ marks. (length marks.items ≤ most) × (length marks.items ≤ RECORD_MARKS)) }
+    ensures whole { IfOk result (λ marks. All IsWhole marks.items) }
+    ensures all { IfOk result (λ marks. length marks.items < most → length marks.items < RECORD_MARKS
+        → big_from 0 4 (drop (MARK_SIZE * length marks.items) bytes.now) < MARK_BIT) }
+{
+    let mut marks = Vec::new(alloc);
+    for index in 0..most.min(RECORD_MARKS) {
+        let number = number_at(bytes, 4 * index);
+        if number < MARK_BIT {
+            return Ok(marks);
+        }
+        marks.push(Image::zeros(number - MARK_BIT))?;
+    }
+    Ok(marks)
+}
+
+/// The images that a record's bytes begin with, and how many bytes they take: marks, one after another, at most so many, or one
+/// whole image.
+fn images_in(
+    alloc: Global,
+    bytes: &[u8; RECORD_SIZE],
+    most: usize,
+) -> Result<(Vec<Image>, u64), AllocError>
+    requires { 0 < most }
+    ensures images { IfOk result (λ r. HoldsTo (InTurn EncodesImage) bytes.now bytes.now 0 r.1 r.0.items) }
+    ensures count { IfOk result (λ r. (0 < length r.0.items) × (length r.0.items ≤ most)) }
+    ensures whole { IfOk result (λ r. All IsWhole r.0.items) }
+    ensures within { IfOk result (λ r. r.1 ≤ IMAGE_RECORD) }
+{
+    let marks = marks_in(alloc, bytes, most)?;
+    if !marks.is_empty() {
+        let size = MARK_SIZE * marks.len() as u64;
+        return Ok((marks, size));
+    }
+    let content = Bytes::copy_from_slice(alloc, &bytes[4..])?;
+    let image = Image::new(number_at(bytes, 0), content);
+    Ok((vec![in alloc; image]?, IMAGE_RECORD))
 }
 
 /// Reads the mark behind which there is no room for a whole image.
@@ -144,19 +176,22 @@ fn read_mark<D: Disk>(part: Part, disk: &mut D, at: u64) -> Result<(Image, u64),
     Ok((Image::zeros(number - MARK_BIT), at + MARK_SIZE))
 }
 
-/// Reads an image, or the mark that stands for one, and tells the place behind it. 123 `Damaged`: there is none with a byte
-/// behind it.
-fn read_image<D: Disk>(
+/// Reads a whole image, or marks, one after another, at most so many, and tells the place behind what it read. 123 `Damaged`:
+/// there is no image with a byte behind it.
+fn read_some<D: Disk>(
     alloc: Global,
     part: Part,
     disk: &mut D,
     at: u64,
-) -> Result<(Image, u64), Refusal>
+    most: usize,
+) -> Result<(Vec<Image>, u64), Refusal>
     requires on_disk { part.start + part.len ≤ D.size disk.old }
     requires range { at + 1 ≤ part.len }
-    ensures image { D.keeps_model → IfOk result (λ r. HoldsTo EncodesImage (drop at (inside part (D.gives disk.old))) (inside part (D.gives disk.old)) at r.1 r.0) }
-    ensures whole { IfOk result (λ r. IsWhole r.0) }
-    ensures within { IfOk result (λ r. (at < r.1) × (r.1 + 1 ≤ part.len)) }
+    requires some { 0 < most }
+    ensures images { D.keeps_model → IfOk result (λ r. HoldsTo (InTurn EncodesImage) (drop at (inside part (D.gives disk.old))) (inside part (D.gives disk.old)) at r.1 r.0.items) }
+    ensures count { IfOk result (λ r. (0 < length r.0.items) × (length r.0.items ≤ most)) }
+    ensures whole { IfOk result (λ r. All IsWhole r.0.items) }
+    ensures within { IfOk result (λ r. (at ≤ r.1) × (r.1 + 1 ≤ part.len)) }
     ensures damaged { D.keeps_model → IsErrOf result Refusal.Damaged → HasNoImage (drop at (inside part (D.gives disk.old))) }
     ensures reads { D.keeps_model → OnlyReads D.gives D.may_leave_now D.moment D.may_have_left_since disk.old disk.new }
     ensures size { D.size disk.new ≡ D.size disk.old }
@@ -169,14 +204,12 @@ fn read_image<D: Disk>(
         return Err(Refusal::Damaged);
     }
     if room <= IMAGE_RECORD {
-        return read_mark(part, disk, at);
+        let (mark, behind) = read_mark(part, disk, at)?;
+        return Ok((vec![in alloc; mark]?, behind));
     }
-    let (number, bytes) = read_record(part, disk, at)?;
-    if number >= MARK_BIT {
-        return Ok((Image::zeros(number - MARK_BIT), at + MARK_SIZE));
-    }
-    let bytes = Bytes::copy_from_slice(alloc, &bytes)?;
-    Ok((Image::new(number, bytes), at + IMAGE_RECORD))
+    let record: [u8; RECORD_SIZE] = read_array(part, disk, at)?;
+    let (images, size) = images_in(alloc, &record, most)?;
+    Ok((images, at + size))
 }
 
 /// Reads so many images, one after another, and tells the place behind them. 123 `Damaged`: there are fewer with a byte behind
@@ -203,9 +236,11 @@ fn read_images<D: Disk>(
 {
     let mut images = Vec::new(alloc);
     let mut place = at;
-    for _ in 0..count {
-        let (image, behind) = read_image(alloc, part, disk, place)?;
-        images.push(image)?;
+    let mut wanted = count as usize;
+    while wanted > 0 {
+        let (mut more, behind) = read_some(alloc, part, disk, place, wanted)?;
+        wanted -= more.len();
+        images.append(&mut more)?;
         place = behind;
     }
     Ok((images, place))

@@ -9,7 +9,7 @@ use crate::comparing::{prints, same, same_at};
 use crate::disks::{new_disk, stretch};
 use crate::images::image;
 use disk_model::{Cut, Disk, DiskError, Event, MemDisk};
-use flusher::Plan;
+use flusher::{Plan, Run};
 use gate_journal::{IMAGE_SIZE, Image, MAX_NUMBER, Slot, Synced};
 use home_blocks::disk_size;
 use local_store::{Contents, Refusal, Store};
@@ -100,6 +100,11 @@ impl Rig {
     fn tick(&mut self, rt: &impl Abort) -> Result<Option<u32>, Refusal> {
         fits(rt, &self.store, &self.disk);
         self.store.tick(&mut self.disk, &mut self.plan)
+    }
+
+    fn tick_run(&mut self, rt: &impl Abort) -> Result<Option<Run>, Refusal> {
+        fits(rt, &self.store, &self.disk);
+        self.store.tick_run(&mut self.disk, &mut self.plan, 8)
     }
 
     fn checkpoint(&mut self, rt: &impl Abort) -> Result<(), Refusal> {
@@ -389,16 +394,18 @@ fn refusals_in_words(rt: HostRuntime) {
 enum Doing {
     Commit,
     Tick,
+    Run,
     Checkpoint,
     Read,
 }
 
-// Does it: a commit is of block 1 at front 2, and a read of block 7.
+// Does it: a commit is of block 1 at front 2, a run of 8 blocks at most, and a read of block 7.
 fn refused(rt: &impl Abort, rig: &mut Rig, doing: Doing) -> Option<Refusal> {
     let images = one(rt, rig.alloc, 9);
     match doing {
         Doing::Commit => rig.commit(rt, 2, &images).err(),
         Doing::Tick => rig.tick(rt).err(),
+        Doing::Run => rig.tick_run(rt).err(),
         Doing::Checkpoint => rig.checkpoint(rt).err(),
         Doing::Read => rig.read(rt, 7).err(),
     }
@@ -412,7 +419,13 @@ fn committed(rt: &impl Abort, alloc: Global) -> Rig {
     rig
 }
 
-const ALL: [Doing; 4] = [Doing::Commit, Doing::Tick, Doing::Checkpoint, Doing::Read];
+const ALL: [Doing; 5] = [
+    Doing::Commit,
+    Doing::Tick,
+    Doing::Run,
+    Doing::Checkpoint,
+    Doing::Read,
+];
 
 #[test]
 fn faults(rt: HostRuntime) {
@@ -420,6 +433,7 @@ fn faults(rt: HostRuntime) {
         (Doing::Commit, 1, DiskError::WriteFault),
         (Doing::Commit, 4, DiskError::SyncFault),
         (Doing::Tick, 1, DiskError::WriteFault),
+        (Doing::Run, 1, DiskError::WriteFault),
         (Doing::Checkpoint, 2, DiskError::WriteFault),
         (Doing::Checkpoint, 11, DiskError::SyncFault),
         (Doing::Read, 1, DiskError::ReadFault),
@@ -460,9 +474,10 @@ const FORMAT: [u64; 22] = [
     1, 0,
 ];
 
-const WRITES: [(Doing, &[u64]); 3] = [
+const WRITES: [(Doing, &[u64]); 4] = [
     (Doing::Commit, &[4_113, 0, 1, 0]),
     (Doing::Tick, &[4_096]),
+    (Doing::Run, &[8_192]),
     (
         Doing::Checkpoint,
         &[4_096, 4_096, 0, 1, 0, 0, 0, 55, 0, 1, 0],

@@ -5,7 +5,7 @@ use Rattle.chain_steps.specs.Node.{Out}
 use Rattle.chain_steps.specs.Steps.{deliver, stop}
 use Rattle.chain_steps.specs.declared.cause.Cause.TheVariants as causes
 use Rattle.chain_core.specs.Node.{IsDelivered, IsStep}
-use Rattle.chain.proofs.PassingSteps.{halted, none_of, passed, ran_out}
+use Rattle.chain.proofs.PassingSteps.{few_delivered, halted, none_of, passed, ran_out}
 use Rattle.chain.proofs.links.pass.Goals as goal
 
 pub returns-then-is_err-clause-some : goal.returns-then-is_err-clause-some
@@ -26,6 +26,15 @@ returns-then-is_some-2-clause-some g c =
     rw c.reserve.ensures.items (halted c.args.from old c.deliver.new.self _ link.items c.in-Some.envelope.now ran here
     (subst (λ (o : Out). IsDelivered old c.deliver.new.self o (deliver c.args.from c.in-Some.envelope.now old.state)) (sym c.messages.view_is) c.in_ok-messages.ensures.taken)
     (ap is_some (sym c.stopped-2.ensures) ∙ sym c.is_some-2.ensures ∙ c.if-is_some-2.true) c.args.to.now.items)
+
+pub send-requires-clause-few : goal.send-requires-clause-few
+send-requires-clause-few g c =
+    let old = c.args.node.now in
+    let link = c.args.link.now in
+    let ran = none_of old.state.stopped (ap is_some (sym c.stopped.ensures) ∙ sym c.if-is_some.ensures) in
+    let here = slice_get_read link.items link.len 0 c.in-Some.envelope.now link.ok.0 (c.in-Some.ensures.variant.0 refl) c.in-Some.ensures.lookup in
+    few_delivered c.args.from old c.deliver.new.self _ link.items c.in-Some.envelope.now ran here c.requires.no_turn
+    (subst (λ (o : Out). IsDelivered old c.deliver.new.self o (deliver c.args.from c.in-Some.envelope.now old.state)) (sym c.messages.view_is) c.in_ok-messages.ensures.taken)
 
 pub returns-clause-some : goal.returns-clause-some
 returns-clause-some g c =

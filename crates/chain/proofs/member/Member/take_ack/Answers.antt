@@ -4,8 +4,11 @@ use Rattle.chain_steps.specs.Node.{epoch_of}
 use Rattle.chain.specs.Links.{IsAckOf}
 use Rattle.chain.specs.Member.{Linked}
 use Rattle.chain.proofs.AckSteps.{ack_sends}
-use Rattle.chain.proofs.PassingSteps.{all_passed, linked_same, passed_left, passed_on, passed_same}
+use Rattle.chain.proofs.PassingSteps.{acks_no_turn, all_passed, linked_same, passed_left, passed_on, passed_same}
 use Rattle.chain.proofs.member.Member.take_ack.Goals as goal
+
+pub pass-requires-clause-no_turn : goal.pass-requires-clause-no_turn
+pass-requires-clause-no_turn g c = acks_no_turn _ _ c.requires
 
 pub invariant_of-self : goal.invariant_of-self
 invariant_of-self g c =

@@ -1,8 +1,11 @@
 use Rattle.chain_core.specs.Node.{size_of}
 use Rattle.chain_steps.specs.Node.{epoch_of}
 use Rattle.chain.specs.Links.{IsPutOf}
-use Rattle.chain.proofs.PassingSteps.{all_passed, linked_same, passed_left, passed_on, passed_same, put_sends}
+use Rattle.chain.proofs.PassingSteps.{all_passed, linked_same, passed_left, passed_on, passed_same, put_sends, puts_no_turn}
 use Rattle.chain.proofs.member.Member.take_put.Goals as goal
+
+pub pass-requires-clause-no_turn : goal.pass-requires-clause-no_turn
+pass-requires-clause-no_turn g c = puts_no_turn _ _ _ c.self.invariant.puts
 
 pub invariant_of-self : goal.invariant_of-self
 invariant_of-self g c =

@@ -4,9 +4,12 @@ use Rattle.chain_core.specs.Node.{size_of}
 use Rattle.chain_steps.specs.Node.{epoch_of}
 use Rattle.chain.specs.Links.{IsPutOf, IsSubmitOf}
 use Rattle.chain.specs.Member.{Linked}
-use Rattle.chain.proofs.PassingSteps.{all_passed, linked_same, passed_left, passed_on, passed_same}
+use Rattle.chain.proofs.PassingSteps.{all_passed, linked_same, passed_left, passed_on, passed_same, submits_no_turn}
 use Rattle.chain.proofs.SubmitSteps.{submit_sends}
 use Rattle.chain.proofs.member.Member.take_submit.Goals as goal
+
+pub pass-requires-clause-no_turn : goal.pass-requires-clause-no_turn
+pass-requires-clause-no_turn g c = submits_no_turn _ _ _ c.requires
 
 pub invariant_of-self : goal.invariant_of-self
 invariant_of-self g c =
