@@ -1,5 +1,5 @@
 -- What contracts see of a member, and what holds of every one.
-use Rattle.std.specs.Prelude.{◌≡◌, ◌⊎◌, ℕ, ◌+◌, ◌*◌, ◌<◌, ◌≤◌, false, Option, Some, None, List, [], All, length, ⊤, if◌then◌else◌}
+use Rattle.std.specs.Prelude.{◌≡◌, ◌⊎◌, ℕ, ◌+◌, ◌*◌, ◌<◌, ◌≤◌, ◌&&◌, not, Bool, false, Option, Some, None, List, [], All, length, ⊤, if◌then◌else◌}
 use Rattle.std.specs.Option.{ForSome}
 use Rattle.board.specs.Seats.{BoardId, FoundFront}
 use Rattle.flush_barrier.specs.Reply.{GivenReply}
@@ -9,7 +9,7 @@ use Rattle.local_store.specs.About.{About, HasRoom, IsOfVersionTwo}
 use Rattle.version_table.specs.Held.{writes_upto}
 use Rattle.volume.specs.Writes.{Fits}
 use Rattle.chain_steps.specs.Node.{Commit, Delivery, NodeState, Out, Refused, Stepped, Taken, durable_of, is_stopped, last_of}
-use Rattle.chain_steps.specs.Place.{is_member}
+use Rattle.chain_steps.specs.Place.{is_member, is_tail}
 use Rattle.chain_steps.specs.Steps.{AreImagesOf, keep, stop}
 use Rattle.chain_steps.specs.Waiting.{IsOf}
 use Rattle.chain_steps.specs.declared.cause.Cause.TheVariants as causes
@@ -96,6 +96,10 @@ pub record IsStep {S : Type 0} (old new : Seen S) (out : Out) (stepped : Stepped
 -- or memory ran out, and the member stopped
 abbrev pub IsStepOrStop : {S : Type 0} → Seen S → Seen S → Out → Stepped → Type 0
 IsStepOrStop old new out stepped = IsStep old new out stepped ⊎ IsStep old new out (stop causes.Memory old.state)
+
+-- its Turn has come, it holds the front for no joiner, and it is the tail of the chain that it was told
+abbrev pub may_raise : NodeState → Bool
+may_raise node = node.turned && not node.holds && is_tail node.place
 
 -- the message was taken so
 abbrev pub IsDelivered : {S : Type 0} → Seen S → Seen S → Out → Delivery → Type 0

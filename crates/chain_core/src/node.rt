@@ -2,7 +2,7 @@ ghost use Rattle.std.specs.Prelude.{◌≡◌, ◌≤◌, ◌+◌, [], List, ℕ
 ghost use Rattle.chain_steps.specs.Node.{NodeState, durable_of, last_of};
 ghost use Rattle.chain_steps.specs.Steps.{stop};
 ghost use Rattle.local_store.specs.About.{IsOfVersionTwo};
-ghost use Rattle.chain_core.specs.Node.{IsSound, IsStep, Seen, size_of};
+ghost use Rattle.chain_core.specs.Node.{IsSound, IsStep, Seen, may_raise, size_of};
 
 use crate::commit::Commit;
 use crate::desk::Desk;
@@ -127,6 +127,21 @@ impl<S: StoreLike + Drop> Node<S> {
         ensures { result.now ≡ self.now.store }
     {
         &self.store
+    }
+
+    /// Its slot, and the chain that it was told.
+    pub fn place(&self) -> &Place
+        ensures { result.now ≡ self.now.state.place }
+    {
+        &self.place
+    }
+
+    /// Whether it may raise the front: its Turn has come, it holds the front for no joiner, and it is the tail of the chain that
+    /// it was told.
+    pub fn may_raise(&self) -> bool
+        ensures { result ≡ may_raise self.now.state }
+    {
+        self.turned && !self.holds && self.place.is_tail()
     }
 
     /// Why it stopped, if it did.

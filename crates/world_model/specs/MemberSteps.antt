@@ -132,7 +132,7 @@ all_pass (w ∷ ws) = ap (λ (l : List Waiting). w ∷ l) (all_pass ws)
 -- ---- replies to some, and then to others
 
 -- a number that is known is at most the limit
-up_to : (limit : ℕ) (number : Option ℕ) → is_up_to limit number ≡ true → (n : ℕ) × (number ≡ Some n) × (n ≤ limit)
+pub up_to : (limit : ℕ) (number : Option ℕ) → is_up_to limit number ≡ true → (n : ℕ) × (number ≡ Some n) × (n ≤ limit)
 up_to limit None is = absurd cc
 up_to limit (Some n) is = (n, refl, grind (arith, nat_tests))
 
@@ -147,7 +147,7 @@ put_out_split (r ∷ rs) others events (inr (more, is, out)) =
     let (one, other, same, first, second) = put_out_split rs others more out in
     (reply_event r ∷ one, other, is ∙ ap (λ (es : List ClientEvent). reply_event r ∷ es) same, inr (one, refl, first), second)
 
-twice_not : (passes : Waiting → Bool) (ws : List Waiting) → filter (λ w. not (not (passes w))) ws ≡ filter passes ws
+pub twice_not : (passes : Waiting → Bool) (ws : List Waiting) → filter (λ w. not (not (passes w))) ws ≡ filter passes ws
 twice_not passes [] = refl
 twice_not passes (w ∷ ws) = elim (cases_Bool (passes w)) [
   | inl stays ↦ rw stays (ap (λ (l : List Waiting). w ∷ l) (twice_not passes ws))
@@ -155,7 +155,7 @@ twice_not passes (w ∷ ws) = elim (cases_Bool (passes w)) [
 ]
 
 -- FLUSHes are no writes: those that are paid stay when the writes go
-flushes_stay : (f : ℕ) (ws : List Waiting) → filter (is_paid_flush f) (filter (λ w. not (is_paid_write f w)) ws) ≡ filter (is_paid_flush f) ws
+pub flushes_stay : (f : ℕ) (ws : List Waiting) → filter (is_paid_flush f) (filter (λ w. not (is_paid_write f w)) ws) ≡ filter (is_paid_flush f) ws
 flushes_stay f [] = refl
 flushes_stay f (tokens.Plain t e number token ∷ ws) = flushes_stay f ws
 flushes_stay f (tokens.Fua t e token ∷ ws) = elim (cases_Bool (is_up_to f token.number)) [
@@ -169,7 +169,7 @@ flushes_stay f (tokens.Flush token ∷ ws) = elim (cases_Bool (is_up_to f token.
 ]
 
 -- and both are gone
-both_gone : (f : ℕ) (ws : List Waiting) → filter (λ w. not (is_paid_flush f w)) (filter (λ w. not (is_paid_write f w)) ws) ≡ filter (λ w. not (is_paid_write f w) && not (is_paid_flush f w)) ws
+pub both_gone : (f : ℕ) (ws : List Waiting) → filter (λ w. not (is_paid_flush f w)) (filter (λ w. not (is_paid_write f w)) ws) ≡ filter (λ w. not (is_paid_write f w) && not (is_paid_flush f w)) ws
 both_gone f [] = refl
 both_gone f (w ∷ ws) = elim (cases_Bool (is_paid_write f w)) [
   | inl paid ↦ rw paid (both_gone f ws)

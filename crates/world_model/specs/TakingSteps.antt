@@ -82,7 +82,7 @@ unreached size offset len volume (k ∷ ks) sized inside clean =
     ∙ range-patched_apart volume k.write offset len fits apart
 
 -- the range is the same at each number from the one on up to which it is clean
-clean_range : (size : ℕ) (volume : List ℕ) (table : Table) (offset len known front : ℕ) → length volume ≡ size → All (λ k. Fits size k.write) table.kept → IsClean table offset len known
+pub clean_range : (size : ℕ) (volume : List ℕ) (table : Table) (offset len known front : ℕ) → length volume ≡ size → All (λ k. Fits size k.write) table.kept → IsClean table offset len known
     → table.forgotten ≤ known → known ≤ front → front ≤ applied_of table
     → take len (drop offset (fold patched volume (writes_upto table front))) ≡ take len (drop offset (fold patched volume (writes_upto table known)))
 clean_range size volume table offset len known front sized inside clean from more upto =
@@ -103,7 +103,7 @@ clean_range size volume table offset len known front sized inside clean from mor
 -- ---- pairs
 
 -- what holds of all pairs holds of one and each before it, and of it and each behind
-pairs_around : {A : Type 0} (R : A → A → Type 0) (xs : List A) (y : A) (ys : List A) → AllPairs R (xs ++ y ∷ ys) → All (λ x. R x y) xs × All (λ z. R y z) ys
+pub pairs_around : {A : Type 0} (R : A → A → Type 0) (xs : List A) (y : A) (ys : List A) → AllPairs R (xs ++ y ∷ ys) → All (λ x. R x y) xs × All (λ z. R y z) ys
 pairs_around R [] y ys pairs = (All-nil (λ x. R x y), λ k d lt. pairs 0 (suc k) d (omega arith) (omega arith))
 pairs_around R (x ∷ xs) y ys pairs =
     let inner = pairs_around R xs y ys (λ i j d ij within. pairs (suc i) (suc j) d (omega arith) (omega arith)) in

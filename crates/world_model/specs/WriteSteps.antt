@@ -60,7 +60,7 @@ origin_is : (ticket one two from other : ℕ) → one ≡ two → from ≡ other
     → (let a : Origin = record { slot = one; incarnation = from; ticket = ticket } in let b : Origin = record { slot = two; incarnation = other; ticket = ticket } in a ≡ b)
 origin_is ticket one two from other same also = rw (same, also) refl
 
-own_origin : (o : Origin) (slot incarnation : ℕ) → ((o.slot == slot) && (o.incarnation == incarnation)) ≡ true → o ≡ record { slot = slot; incarnation = incarnation; ticket = o.ticket }
+pub own_origin : (o : Origin) (slot incarnation : ℕ) → ((o.slot == slot) && (o.incarnation == incarnation)) ≡ true → o ≡ record { slot = slot; incarnation = incarnation; ticket = o.ticket }
 own_origin o slot incarnation own = elim (cases_Bool (o.slot == slot)) [
   | inl same ↦ elim (cases_Bool (o.incarnation == incarnation)) [
     | inl also ↦ origin_is o.ticket o.slot slot o.incarnation incarnation (eqb-true o.slot slot same) (eqb-true o.incarnation incarnation also)
@@ -90,7 +90,7 @@ module _ (backed : ℕ) (r : Requests) (node : NodeState) (k : Kept) (first last
     | inr other ↦ rw other all
   ]
 
-entry_is : (n : ℕ) (one two : Placed) (from other : Origin) → one ≡ two → from ≡ other
+pub entry_is : (n : ℕ) (one two : Placed) (from other : Origin) → one ≡ two → from ≡ other
     → (let a : Kept = record { number = n; write = one; origin = from } in let b : Kept = record { number = n; write = two; origin = other } in a ≡ b)
 entry_is n one two from other same also = rw (same, also) refl
 
@@ -101,7 +101,7 @@ map_put : {A : Type 0} (f : Member → A) (above : List Member) (m g : Member) (
 map_put f above m g k below same links =
     map-append f above (g ∷ sent_on k below) ∙ ap (λ xs. map f above ++ f g ∷ xs) (map_sent f k below links) ∙ ap (λ x. map f above ++ x ∷ map f below) same ∙ sym (map-append f above (m ∷ below))
 
-get_there : {A : Type 0} (xs : List A) (x : A) (ys : List A) (i : ℕ) → i ≡ length xs → slice_get (xs ++ x ∷ ys) i ≡ Some x
+pub get_there : {A : Type 0} (xs : List A) (x : A) (ys : List A) (i : ℕ) → i ≡ length xs → slice_get (xs ++ x ∷ ys) i ≡ Some x
 get_there [] x ys i is = rw is refl
 get_there (y ∷ xs) x ys zero is = absurd (omega arith)
 get_there (y ∷ xs) x ys (suc i) is = get_there xs x ys i (omega arith)

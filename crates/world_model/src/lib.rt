@@ -17,7 +17,6 @@ mod contents;
 mod laws;
 mod lists;
 mod machine;
-mod order_laws;
 mod request;
 mod taken;
 
@@ -30,8 +29,4 @@ pub use laws::{
     flushes_owe, nothing_is_lost, owed_stays, reads_are_fresh, runs_go_on, runs_keep_sound,
 };
 pub use machine::Machine;
-pub use order_laws::{
-    changes_keep_order, joining_keeps_order, members_keep_order, order_agrees, order_begins,
-    places_suit, slots_show_order,
-};
 pub use request::Request;

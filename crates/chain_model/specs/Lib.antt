@@ -1,0 +1,12 @@
+pub mod Chain
+pub mod Holding
+pub mod Laws
+pub mod Life
+pub mod Links
+pub mod Placed
+pub mod Refusing
+pub mod Replicas
+pub mod Turning
+pub mod TurningLaws
+pub mod TurningSteps
+pub mod View

@@ -1,0 +1,23 @@
+mod AnswerSteps
+mod ArmingSteps
+mod AskingSteps
+mod BeginningSteps
+mod Causes
+mod ComingSteps
+mod CommitSteps
+mod EndSteps
+mod FloorSteps
+mod FrontSteps
+mod Linkages
+mod MessageSteps
+mod MusterSteps
+mod OpeningSteps
+mod PassingSteps
+mod RaisedSteps
+mod ReadingSteps
+mod RecordingSteps
+mod Results
+mod Stepping
+mod WordSteps
+pub mod Cells
+pub mod Keeping

@@ -1,0 +1,13 @@
+pub mod Arming
+pub mod Asking
+pub mod Chain
+pub mod Commits
+pub mod Fronts
+pub mod Links
+pub mod LoneBoard
+pub mod Member
+pub mod Muster
+pub mod Musters
+pub mod Opening
+pub mod Passing
+pub mod Recording

@@ -1,0 +1,54 @@
+-- How a chain begins.
+use Rattle.std.specs.Prelude.{◌≡◌, ℕ, IfSome, None, true, false, List, [], All, fold, replicate, slice_get, slice_set}
+use Rattle.board.specs.Mask.{with_slot}
+use Rattle.board.specs.Seats.{BoardId}
+use Rattle.configurations.specs.Record.{Record}
+use Rattle.configurations.specs.declared.member.Member.{Member}
+use Rattle.local_store.specs.About.{About}
+use Rattle.next_chain.specs.LoneBoard.{Words}
+use Rattle.next_chain.specs.Member.{Linked}
+
+-- the member of this store, which was told this record: all that the store holds is known, and nothing is on its way
+abbrev pub beginning_of : {S : Type 0} → (S → About) → BoardId → Record → S → Linked S
+beginning_of about id chain store = record {
+  node = record {
+    store = store;
+    state = record {
+      board = id;
+      place = record { slot = (about store).slot; chain = chain };
+      incarnation = (about store).incarnation;
+      stopped = None;
+      turned = true;
+      holds = false;
+      table = record { forgotten = (about store).front; kept = [] };
+      known = (about store).front;
+      ticket = 1;
+      waiting = [];
+      found = None;
+      commit = None;
+    };
+  };
+  front = None;
+  muster = None;
+  receipt = None;
+}
+
+-- the member whose store this is, as it is recorded
+abbrev pub recorded_in : {S : Type 0} → (S → About) → S → Member
+recorded_in about store = record { slot = (about store).slot; incarnation = (about store).incarnation }
+
+-- all stores have one front and the same sizes
+abbrev pub AreEven : {S : Type 0} → (S → About) → List S → Type 0
+AreEven about stores = IfSome (slice_get stores 0) (λ first. All (λ store. ((about store).front ≡ (about first).front) × ((about store).geometry ≡ (about first).geometry)) stores)
+
+-- the mask that counts the slots of these members
+abbrev pub mask_of : List Member → ℕ
+mask_of members = fold (λ mask m. with_slot mask m.slot) 0 members
+
+-- the gauges of their slots at this front, and the others at 0
+abbrev pub gauges_of : ℕ → List Member → List ℕ
+gauges_of front members = fold (λ gauges m. slice_set gauges m.slot front) (replicate 8 0) members
+
+-- the words with which the board begins
+abbrev pub words_of : ℕ → List Member → Words
+words_of front members = record { front = front; mask = mask_of members; gauges = gauges_of front members }

@@ -1,0 +1,92 @@
+//! A member, and what of the board it has in use.
+ghost use Rattle.std.specs.Prelude.{◌≡◌};
+ghost use Rattle.chain_steps.specs.Node.{durable_of, last_of};
+
+use crate::muster::Muster;
+use board::Front;
+use chain_core::Node;
+use chain_steps::Cause;
+use gate_journal::{Slot, Synced};
+use local_store::StoreLike;
+use std::marker::Model;
+
+/// A member of a chain, with what of the board it has in use.
+pub struct Member<S: StoreLike> {
+    pub(crate) node: Node<S>,
+    /// A front that was looked up for a crew.
+    pub(crate) front: Option<Front>,
+    /// A crew, and its gauges as far as they are looked up.
+    pub(crate) muster: Option<Muster>,
+    /// The receipt of a commit that isn't posted yet.
+    pub(crate) receipt: Option<Synced>,
+}
+
+impl<S: StoreLike> Model for Member<S> {
+    ghost use Rattle.next_chain.specs.Member.{Linked};
+
+    ghost Value = { Linked S };
+
+    ghost view = { λ m. record {
+      node = m.node;
+      front = m.front;
+      muster = m.muster;
+      receipt = m.receipt;
+    } };
+}
+
+impl<S: StoreLike + Drop> Member<S> {
+    /// Its slot.
+    pub(crate) fn slot(&self) -> Slot
+        ensures { result ≡ self.now.node.state.place.slot }
+    {
+        self.node.place().slot()
+    }
+
+    /// Why it stopped. `None` while it runs.
+    pub(crate) fn cause(&self) -> Option<Cause>
+        ensures { result ≡ self.now.node.state.stopped }
+    {
+        self.node.stopped()
+    }
+
+    /// Its store.
+    pub(crate) fn store(&self) -> &S
+        ensures { result.now ≡ self.now.node.store }
+    {
+        self.node.store()
+    }
+
+    /// Its durable front.
+    pub(crate) fn durable(&self) -> u64
+        ensures { result ≡ durable_of self.now.node.state }
+    {
+        self.node.durable()
+    }
+
+    /// Its known commit.
+    pub(crate) fn known(&self) -> u64
+        ensures { result ≡ self.now.node.state.known }
+    {
+        self.node.known()
+    }
+
+    /// The number of its last applied write.
+    pub(crate) fn applied(&self) -> u64
+        ensures { result ≡ last_of self.now.node.state }
+    {
+        self.node.applied()
+    }
+
+    /// Gives the member up, and its store back. The tokens that wait are abandoned.
+    pub(crate) fn abandon(self) -> S
+        ensures { result ≡ self.node.store }
+    {
+        let Member {
+            node,
+            front: _,
+            muster: _,
+            receipt: _,
+        } = self;
+        node.abandon()
+    }
+}

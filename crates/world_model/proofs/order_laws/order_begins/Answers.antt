@@ -1,8 +1,0 @@
-use Rattle.world_model.specs.TurningFollow.{alike_stands, start_stands}
-use Rattle.world_model.proofs.order_laws.order_begins.Goals as goal
-
-pub returns-clause-start : goal.returns-clause-start
-returns-clause-start c = start_stands
-
-pub returns-clause-alike : goal.returns-clause-alike
-returns-clause-alike c = alike_stands
