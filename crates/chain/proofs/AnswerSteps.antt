@@ -1,12 +1,12 @@
 -- A member goes on with a front that it looked up.
 --
 -- That its store's front is its durable one is a premise here.
-use Rattle.std.proofs.Common.{◌≡◌, ◌⊎◌, ℕ, ◌-◌, ◌≤◌, List, [], ◌∷◌, ◌++◌, length, take, map, nat_lt, refl, ap, sym, subst, ◌∙◌, inl, inr, arith, ◌≢◌, ◌<◌}
+use Rattle.std.proofs.Common.{◌≡◌, ◌⊎◌, ℕ, ◌-◌, ◌≤◌, List, [], ◌∷◌, ◌++◌, take, map, nat_lt, refl, ap, sym, subst, ◌∙◌, inl, inr, arith, ◌≢◌, ◌<◌}
 use Rattle.std.specs.Prelude.{Option, Some, None, fold, slice_get, slice_set}
 use Rattle.std.specs.List.{AllZip}
 use Rattle.std.proofs.lemmas.Bool.{cases_Bool}
 use Rattle.std.proofs.lemmas.Bool.Decides.{nat_tests}
-use Rattle.std.proofs.lemmas.List.{append-nil, map-append}
+use Rattle.std.proofs.lemmas.List.{append-nil}
 use Rattle.volume.specs.declared.geometry.Geometry.{Geometry}
 use Rattle.disk_model.specs.Disk.{LeavesOnly}
 use Rattle.flush_barrier.specs.Reply.{GivenReply}
@@ -17,44 +17,43 @@ use Rattle.version_table.specs.declared.kept.Kept.{Kept}
 use Rattle.chain_core.specs.Node.{Seen}
 use Rattle.chain_core.specs.Reads.{HasBrokenOff, HasOnlyRead, IsStepOver, IsStepTo}
 use Rattle.chain_steps.specs.Node.{NodeState, Out, durable_of, last_of}
+use Rattle.chain_steps.specs.Place.{is_member}
 use Rattle.chain_steps.specs.Steps.{answer_at, answer_front, answer_front_by, stop, volume_at}
 use Rattle.chain_steps.specs.declared.cause.Cause.{Cause}
 use Rattle.chain_steps.specs.declared.cause.Cause.TheVariants as causes
 use Rattle.chain_steps.specs.declared.found.Found.{Found}
 use Rattle.chain_steps.specs.declared.found.Found.TheVariants.{Looked, Raised}
-use Rattle.world_model.specs.Chain.{ArePutOut, Member, StandsFor, View, hop_of}
-use Rattle.world_model.specs.ChainLaws.{with_members}
+use Rattle.world_model.specs.Chain.{ArePutOut}
 use Rattle.world_model.specs.Event.{ClientEvent}
-use Rattle.world_model.specs.Life.{AnswerFront, Does, Doing, MemberDoes, Stop}
 use Rattle.world_model.specs.Machine.{State}
-use Rattle.world_model.specs.Order.{Hop, IsChain}
-use Rattle.world_model.specs.OrderSteps.{reaches_at}
+use Rattle.chain_model.specs.Chain.{StandsFor}
+use Rattle.chain_model.specs.Laws.{with_members}
+use Rattle.chain_model.specs.Life.{AnswerFront, Does, Doing, MemberDoes, Stop}
+use Rattle.chain_model.proofs.Orderly.{looked_in_order}
+use Rattle.chain_model.specs.View.{Member, View}
 use Rattle.chain.specs.Chain.{Chained, Goes, IsFormed, Shows, bytes_of, told_of}
-use Rattle.chain.specs.Member.{HasCalled, IsLeft, IsLinked, IsShown, Linked, fronts_of, musters_of, receipts_of}
+use Rattle.chain.specs.Member.{HasCalled, IsLeft, IsShown, Linked, fronts_of, musters_of, receipts_of}
 use Rattle.chain.proofs.Cells.{Place, Twin, place_of, twin_of}
 use Rattle.chain.proofs.FloorSteps.{gathered}
-use Rattle.chain.proofs.Orderly.{committed_there, device_is_one, looked_there, memory_is_one}
+use Rattle.chain.proofs.Causes.{device_is_one, memory_is_one}
 use Rattle.chain.proofs.Stepping.{formed_then}
 
 -- what such a step leaves of the member's state
 record Leaves (old new : NodeState) : Type 0 where
   board : new.board ≡ old.board
   place : new.place ≡ old.place
-  incarnation : new.incarnation ≡ old.incarnation
-  turned : new.turned ≡ old.turned
-  holds : new.holds ≡ old.holds
   table : new.table ≡ old.table
   known : new.known ≡ old.known
 
 stop_leaves : (cause : Cause) (node : NodeState) → Leaves node (stop cause node).node
-stop_leaves cause node = record { board = refl; place = refl; incarnation = refl; turned = refl; holds = refl; table = refl; known = refl }
+stop_leaves cause node = record { board = refl; place = refl; table = refl; known = refl }
 
 answer_leaves : (volume : List ℕ) (found : Option Found) (node : NodeState) → Leaves node (answer_front_by volume found node).node
-answer_leaves volume None node = record { board = refl; place = refl; incarnation = refl; turned = refl; holds = refl; table = refl; known = refl }
-answer_leaves volume (Some (Raised front)) node = record { board = refl; place = refl; incarnation = refl; turned = refl; holds = refl; table = refl; known = refl }
+answer_leaves volume None node = record { board = refl; place = refl; table = refl; known = refl }
+answer_leaves volume (Some (Raised front)) node = record { board = refl; place = refl; table = refl; known = refl }
 answer_leaves volume (Some (Looked front)) node = elim (cases_Bool (nat_lt (last_of node) front.number)) [
   | inl above ↦ rw above (stop_leaves causes.Disorder node)
-  | inr within ↦ rw within (record { board = refl; place = refl; incarnation = refl; turned = refl; holds = refl; table = refl; known = refl })
+  | inr within ↦ rw within (record { board = refl; place = refl; table = refl; known = refl })
 ]
 
 -- at the durable front the volume is the store's
@@ -93,16 +92,11 @@ module _ {S : Type 0} (premise : Type 0) (about : S → About) (failures : S →
     pub formed_answered : IsFormed about old → IsFormed about now
     formed_answered formed =
         let left = leaves before.node after.node did.out did.did in
-        let node : after.node ≡ after.node = refl in
         formed_then old at before after here about
-        (rw did.are (rw (left.place, left.incarnation) refl))
-        (λ idle. ap (λ (m : Linked S). m.puts) did.are ∙ idle)
         (λ was. record {
           board = left.board ∙ was.board;
-          told = ap (λ p. p.chain) left.place ∙ was.told;
-          turned = left.turned ∙ was.turned;
-          free = left.holds ∙ was.free;
           sizes = (tells_same before.node after.node did.out did.did).2 ∙ was.sizes;
+          member = ap is_member left.place ∙ was.member;
           front = rw (ap (λ (m : Linked S). m.front) did.are) was.front;
           muster = rw (ap (λ (m : Linked S). m.muster) did.are) was.muster;
         })
@@ -134,23 +128,6 @@ without_messages premise about failures keeps moment left_since may_leave_now ol
 )
 without_messages premise about failures keeps moment left_since may_leave_now old new out (inl (read, inr is)) = inl (read, inr (record { node = is.node; sent = ap bare is.sent }))
 without_messages premise about failures keeps moment left_since may_leave_now old new out (inr is) = inr (record { error = is.error; failed = is.failed; node = is.node; sent = ap bare is.sent })
-
--- the links carry what they carried
-pub linked_answered : {S : Type 0} (premise : Type 0) (about : S → About) (failures : S → ℕ) (keeps : S → List ℕ → Type 0) (moment : S → ℕ) (left_since : S → ℕ → List ℕ → Type 0) (may_leave_now : S → List ℕ → Type 0) (m : Linked S) (new : Seen S) (out : Out)
-    → HasAnswered premise about failures keeps moment left_since may_leave_now m.node new out → IsLinked about m → IsLinked about (record m { node = new })
-linked_answered premise about failures keeps moment left_since may_leave_now m new out did is =
-    let place = (leaves premise about failures keeps moment left_since may_leave_now m.node new out did).place in
-    let geometry = (tells_same premise about failures keeps moment left_since may_leave_now m.node new out did).2 in
-    record { puts = rw (place, geometry) is.puts; acks = rw place is.acks; submits = rw (place, geometry) is.submits }
-
--- what such a member knows is at least what its disk has
-durable_known : (size : ℕ) (v : View) (s : State) (above : List Member) (m : Member) (below : List Member) → v.members ≡ above ++ m ∷ below → StandsFor size v s → durable_of m.node ≤ m.node.known
-durable_known size v s above m below were (line, backed, stands) =
-    let here : IsChain size (length (above ++ m ∷ below)) v.told.front line (map hop_of (above ++ m ∷ below)) =
-    subst (λ (ms : List Member). IsChain size (length ms) v.told.front line (map hop_of ms)) were stands.order in
-    let chain : IsChain size (length (above ++ m ∷ below)) v.told.front line (map hop_of above ++ hop_of m ∷ map hop_of below) =
-    subst (λ (hs : List Hop). IsChain size (length (above ++ m ∷ below)) v.told.front line hs) (map-append hop_of above (m ∷ below)) here in
-    (reaches_at (length (above ++ m ∷ below)) v.told.front (map hop_of above) (hop_of m) (map hop_of below) chain.fronts).0.durable_known
 
 -- the same meaning
 moved : (c : List ℕ) (s t i j : ℕ) (g h : Geometry) (f e : ℕ) (v u : List ℕ) → t ≡ s → j ≡ i → h ≡ g → e ≡ f → u ≡ v
@@ -193,7 +170,7 @@ module _ {S : Type 0} (premise : Type 0) (about : S → About) (failures : S →
   -- the member is shown at the same volume
   shown_so : (m : Member) → IsSo before m → durable_of before.node.state ≤ before.node.state.known → (after.node.state.stopped ≡ None → keeps after.node.store m.volume) → IsSo after (record m { node = after.node.state })
   shown_so m is known keeping = record {
-    is = ap (λ (x : Member). record x { node = after.node.state }) is.is ∙ rw (ap (λ (x : Linked S). x.puts) did.are, ap (λ (x : Linked S). x.acks) did.are, ap (λ (x : Linked S). x.submits) did.are) refl;
+    is = ap (λ (x : Member). record x { node = after.node.state }) is.is;
     whole = is.whole;
     keeping = keeping;
     left = λ c may. still_left m.volume c (is.keeping did.runs) known may;
@@ -215,7 +192,10 @@ module _ {S : Type 0} (premise : Type 0) (about : S → About) (failures : S →
     node_is = ap (λ (m : Member). m.node) twin.fits.is
 
     known : durable_of before.node.state ≤ before.node.state.known
-    known = subst (λ (n : NodeState). durable_of n ≤ n.known) node_is (durable_known (bytes_of old) v s twin.over twin.own twin.under twin.are stands)
+    known = twin.fits.behind
+
+    runs : twin.own.node.stopped ≡ None
+    runs = ap (λ (n : NodeState). n.stopped) node_is ∙ did.runs
 
     kept : keeps before.node.store twin.own.volume
     kept = twin.fits.keeping did.runs
@@ -229,7 +209,12 @@ module _ {S : Type 0} (premise : Type 0) (about : S → About) (failures : S →
     shows_then : (after.node.state.stopped ≡ None → keeps after.node.store twin.own.volume) → Shows about keeps may_leave_now then w
     shows_then keeping = record {
       told = shows.told ∙ sym told_still;
+      recorded = shows.recorded;
+      before = shows.before;
+      writing = shows.writing;
       members = subst (λ l. AllZip IsSo l (twin.over ++ new ∷ twin.under)) (sym (place.setting after)) (twin.others after new place.below twin.under (shown_so twin.own twin.fits known keeping) twin.rest);
+      links = shows.links;
+      submits = shows.submits;
     }
 
     -- the member does so
@@ -249,7 +234,7 @@ module _ {S : Type 0} (premise : Type 0) (about : S → About) (failures : S →
     -- the member stops
     stops : (cause : Cause) → cause ≢ causes.Disorder → after.node.state ≡ (stop cause before.node.state).node → did.out ≡ (stop cause before.node.state).out → GoesOn
     stops cause other node sent = does_so (Stop cause) (λ on. let none : Some cause ≡ None = ap (λ (n : NodeState). n.stopped) (sym node) ∙ on in absurd (cc))
-        (other, rw node_is (rw (← ap (λ (o : Out). o.replies) sent, did.told) put_out), ap (λ (n : NodeState). record twin.own { node = n }) (node ∙ ap (λ (n : NodeState). (stop cause n).node) (sym node_is)))
+        (runs, other, rw node_is (rw (← ap (λ (o : Out). o.replies) sent, did.told) put_out), ap (λ (n : NodeState). record twin.own { node = n }) (node ∙ ap (λ (n : NodeState). (stop cause n).node) (sym node_is)))
 
     -- nothing happens
     stays : (after.node.state.stopped ≡ None → keeps after.node.store twin.own.volume) → after.node.state ≡ before.node.state → did.out.replies ≡ [] → GoesOn
@@ -274,14 +259,16 @@ module _ {S : Type 0} (premise : Type 0) (about : S → About) (failures : S →
     answers (Some (Raised front)) was keeping node sent = stays keeping node (ap (λ (o : Out). o.replies) sent)
     answers (Some (Looked front)) was keeping node sent = elim (cases_Bool (nat_lt (last_of before.node.state) front.number)) [
       | inl above ↦
-          let applied = subst (λ (n : NodeState). v.told.front ≤ last_of n) node_is (committed_there (bytes_of old) v s stands twin.over twin.own twin.under twin.are) in
-          let looked = looked_there (bytes_of old) v s stands twin.over twin.own twin.under twin.are front (ap (λ (n : NodeState). n.found) node_is ∙ was) in
+          let stand = subst (λ (ms : List Member). StandsFor (bytes_of old) (with_members v ms) s) twin.are stands in
+          let looked : front.number ≤ last_of before.node.state =
+          subst (λ (n : NodeState). front.number ≤ last_of n) node_is (looked_in_order (bytes_of old) v twin.over twin.own twin.under s front stand runs (ap (λ (n : NodeState). n.found) node_is ∙ was)) in
           let beyond : last_of before.node.state < front.number = grind (arith, nat_tests) in
-          absurd (omega (arith, applied, looked, beyond))
+          absurd (omega (arith, looked, beyond))
       | inr within ↦
           let node_so : after.node.state ≡ (answer_at twin.own.volume front.number before.node.state).node = rw within at node in
           let sent_so : did.out ≡ (answer_at twin.own.volume front.number before.node.state).out = rw within at sent in
           does_so (AnswerFront front) keeping (
+            runs,
             ap (λ (n : NodeState). n.found) node_is ∙ was,
             subst (λ (n : NodeState). front.number ≤ last_of n) (sym node_is) (grind (arith, nat_tests)),
             rw node_is (rw (← ap (λ (o : Out). o.replies) sent_so, did.told) put_out),

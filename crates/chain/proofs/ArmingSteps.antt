@@ -3,8 +3,9 @@ use Rattle.std.proofs.Common.{◌≡◌, ℕ, List, [], refl, ap, sym, ◌∙◌
 use Rattle.std.specs.Prelude.{Some, slice_get, slice_set}
 use Rattle.local_store.specs.About.{About}
 use Rattle.local_store.specs.Arming.{IsAsItWas}
-use Rattle.world_model.specs.Chain.{ArePutOut, View}
+use Rattle.world_model.specs.Chain.{ArePutOut}
 use Rattle.world_model.specs.Event.{ClientEvent}
+use Rattle.chain_model.specs.View.{View}
 use Rattle.chain.specs.Arming.{HasArmed}
 use Rattle.chain.specs.Chain.{Chained, Goes, IsFormed, Shows, bytes_of}
 use Rattle.chain.specs.Member.{Linked, fronts_of, musters_of, receipts_of}
@@ -16,9 +17,6 @@ module _ {S : Type 0} (about : S → About) (keeps : S → List ℕ → Type 0) 
   armed_formed formed = formed_called about old at before here after (did.are ∙ ap (λ n. record before { node = n }) (sym (ap (λ m. m.node) did.are))) (record {
     board = ap (λ m. m.node.state.board) did.are;
     place = ap (λ m. m.node.state.place) did.are;
-    incarnation = ap (λ m. m.node.state.incarnation) did.are;
-    turned = ap (λ m. m.node.state.turned) did.are;
-    holds = ap (λ m. m.node.state.holds) did.are;
     geometry = ap (λ a. a.geometry) did.stays.tells;
   }) formed
 

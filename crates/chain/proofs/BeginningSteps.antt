@@ -1,10 +1,14 @@
 -- What a chain shows that begins.
-use Rattle.std.proofs.Common.{◌≡◌, ◌≢◌, ℕ, zero, suc, ◌+◌, ◌<◌, ◌≤◌, true, List, [], ◌∷◌, ◌++◌, length, map, refl, ap, subst, sym, ◌∙◌, arith, rules}
-use Rattle.std.specs.Prelude.{All, AllPairs, IfSome, fold, replicate, slice_get, slice_set, ◌-◌, ◌^◌}
-use Rattle.std.specs.List.{AllZip, flat_map}
+use Rattle.std.proofs.Common.{Bool, cond, eqb, false, get_or, ◌≡◌, ◌≢◌, ℕ, zero, suc, ◌+◌, ◌<◌, ◌≤◌, true, List, [], ◌∷◌, ◌++◌, length, map, refl, ap, subst, sym, ◌∙◌, inl, inr, arith, rules}
+use Rattle.std.specs.Prelude.{All, AllPairs, None, Some, fold, nat_lt, not, replicate, slice_get, slice_index_or, slice_set, ◌*◌, ◌-◌, ◌^◌}
+use Rattle.std.specs.List.{AllZip, flat_map, position_or_len}
+use Rattle.std.specs.Option.{option_map}
 use Rattle.std.specs.Int.{bit_at}
 use Rattle.std.proofs.Math.Seq.{take-nil}
+use Rattle.std.proofs.lemmas.Bool.{cases_lt, cond-false, cond-true, eq-eqb, le-ltb, lt-ltb}
+use Rattle.std.proofs.lemmas.Option.{slice_get-map, slice_get_read}
 use Rattle.std.proofs.lemmas.List.Elements.{All-cons, All-head, All-map, All-nil, All-replicate, All-set, All-tail}
+use Rattle.std.proofs.lemmas.List.{get_or_default, length-replicate}
 use Rattle.std.proofs.lemmas.List.Kept.{AllPairs-cons}
 use Rattle.std.proofs.lemmas.Nat.Bits.{bit_at-lt, bit_at-pow_same, bit_at_or}
 use Rattle.board.specs.Mask.{counts, with_slot}
@@ -15,10 +19,13 @@ use Rattle.gate_journal.specs.Receipt.{Receipt}
 use Rattle.local_store.specs.About.{About, meaning_with}
 use Rattle.local_store.specs.Meaning.{Means}
 use Rattle.volume.specs.Writes.{patched}
-use Rattle.volume.specs.declared.geometry.Geometry.{Geometry}
-use Rattle.world_model.specs.Chain.{Member, View, disk_of, slot_of}
-use Rattle.world_model.specs.ChainLaws.{IsBeginning, IsIdle}
-use Rattle.chain.specs.Chain.{Chained, IsFormed, IsIn, Shows, bytes_of, gauges_from, recorded_as, told_of}
+use Rattle.chain_steps.specs.Place.{is_member}
+use Rattle.chain_steps.specs.declared.message.Envelope.{Envelope}
+use Rattle.chain_core.specs.Node.{IsInside}
+use Rattle.chain_model.specs.Laws.{IsBeginning, IsIdle, recorded_as}
+use Rattle.chain_model.specs.View.{Member, View, disk_of, slot_of}
+use Rattle.chain.specs.Chain.{Chained, IsFormed, IsIn, Shows, bytes_of, gauges_from, told_of}
+use Rattle.chain.specs.Links.{link_at}
 use Rattle.chain.specs.Member.{IsShown, Linked, fronts_of, member_of, musters_of, receipts_of}
 use Rattle.chain.specs.Opening.{beginning_of, gauges_of, mask_of, recorded_in, words_of}
 
@@ -69,31 +76,68 @@ fronts_low front slot [] low = All-nil (λ (r : Receipt). r.front ≤ front)
 fronts_low front slot (g ∷ gauges) low =
     All-cons (λ (r : Receipt). r.front ≤ front) (record { slot = slot; front = g }) (gauges_from (slot + 1) gauges) (All-head (λ g. g ≤ front) g gauges low) (fronts_low front (slot + 1) gauges (All-tail (λ g. g ≤ front) g gauges low))
 
+-- ---- the links
+
+-- nothing is on them
+no_queue : {A : Type 0} (n i : ℕ) → slice_index_or {A = List A} (replicate n []) i [] ≡ []
+no_queue zero i = refl
+no_queue (suc n) zero = refl
+no_queue (suc n) (suc i) = no_queue n i
+
+-- so nothing is on its way from any slot to any
+nothing_sent : (from to : ℕ) → link_at (replicate 64 []) from to ≡ []
+nothing_sent from to = elim (cases_lt to 8) [
+  | inl lt ↦ cond-true (nat_lt to 8) (slice_index_or (replicate 64 []) (8 * from + to) []) [] (lt-ltb to 8 lt) ∙ no_queue 64 (8 * from + to)
+  | inr ge ↦ cond-false (nat_lt to 8) (slice_index_or (replicate 64 []) (8 * from + to) []) [] (le-ltb to 8 ge)
+]
+
+-- and all of that lies in the volume
+none_inside : (size : ℕ) → All (All (λ (e : Envelope). IsInside size e.message)) (replicate 64 [])
+none_inside size = All-replicate (All (λ (e : Envelope). IsInside size e.message)) 64 [] (All-nil (λ (e : Envelope). IsInside size e.message))
+
 -- ---- the members
+
+-- a place more
+step_on : (b : Bool) (n len : ℕ) → n < len → cond (not b) (1 + n) 0 < suc len
+step_on true n len within = omega arith
+step_on false n len within = omega (arith, within)
+
+-- a slot that is recorded is found
+found_in : (slot : ℕ) (ms : List recorded.Member) (at : ℕ) (x : recorded.Member) → slice_get ms at ≡ Some x → x.slot ≡ slot → position_or_len (λ (m : recorded.Member). eqb m.slot slot) ms < length ms
+found_in slot [] at x here is = let none : None ≡ Some x = here in absurd (cc)
+found_in slot (y ∷ ys) zero x here is =
+    let both : Some y ≡ Some x = here in
+    let same : y ≡ x = cc both in
+    let passes : eqb y.slot slot ≡ true = eq-eqb y.slot slot (ap (λ (m : recorded.Member). m.slot) same ∙ is) in
+    rw passes (omega arith)
+found_in slot (y ∷ ys) (suc at) x here is = step_on (eqb y.slot slot) (position_or_len (λ (m : recorded.Member). eqb m.slot slot) ys) (length ys) (found_in slot ys at x here is)
 
 module _ {S : Type 0} (about : S → About) (id : BoardId) (told : Record) where
   abbrev begun : S → Linked S
   begun store = beginning_of about id told store
-
-  pub begun_recorded : (stores : List S) → map recorded_as (map begun stores) ≡ map (recorded_in about) stores
-  begun_recorded [] = refl
-  begun_recorded (s ∷ stores) = ap (λ ms. recorded_in about s ∷ ms) (begun_recorded stores)
-
-  pub begun_head : (stores : List S) → IfSome (slice_get (map begun stores) 0) (λ m. m.puts ≡ [])
-  begun_head [] = search rules
-  begun_head (s ∷ stores) = refl
 
   -- none of them has anything in use
   pub begun_gathers : {B : Type 0} (f : Linked S → List B) → ((s : S) → f (begun s) ≡ []) → (stores : List S) → flat_map f (map begun stores) ≡ []
   begun_gathers f none [] = refl
   begun_gathers f none (s ∷ stores) = ap (λ l. l ++ flat_map f (map begun stores)) (none s) ∙ begun_gathers f none stores
 
-  pub begun_formed : (seat : ℕ) (words : _) (geometry : Geometry) (stores : List S) → map (recorded_in about) stores ≡ told.members → All (λ s. (about s).geometry ≡ geometry) stores
-      → IsFormed about (record { id = id; seat = seat; words = words; chain = told; geometry = geometry; members = map begun stores })
-  begun_formed seat words geometry stores recorded even = record {
-    recorded = begun_recorded stores ∙ recorded;
-    head = begun_head stores;
-    members = All-map (IsIn about id seat told geometry) begun stores (λ k d within. record { board = refl; told = refl; turned = refl; free = refl; sizes = even k d within; front = search rules; muster = search rules });
+  -- each of them is in the chain that it was told
+  are_members : (stores : List S) → map (recorded_in about) stores ≡ told.members → All (λ s. is_member (begun s).node.state.place ≡ true) stores
+  are_members stores told_are = λ k s within.
+      let one = get_or stores k s in
+      let there : slice_get told.members k ≡ Some (recorded_in about one) =
+      ap (λ ms. slice_get ms k) (sym told_are) ∙ slice_get-map (recorded_in about) stores k ∙ ap (option_map (recorded_in about)) (slice_get_read stores (length stores) k one refl within (get_or_default stores k s one within)) in
+      let found = lt-ltb (position_or_len (λ (m : recorded.Member). eqb m.slot (about one).slot) told.members) (length told.members) (found_in (about one).slot told.members k (recorded_in about one) there refl) in
+      rw found refl
+
+  -- the chain is a whole one
+  pub begun_formed : (c : Chained S) (stores : List S) → c.id ≡ id → c.members ≡ map begun stores → c.links ≡ replicate 64 [] → c.submits ≡ replicate 64 [] → map (recorded_in about) stores ≡ told.members → All (λ s. (about s).geometry ≡ c.geometry) stores → IsFormed about c
+  begun_formed c stores of_board are links submits told_are even = record {
+    members = rw are (All-map (IsIn about c.id c.seat c.geometry) begun stores (λ k d within. record { board = sym of_board; sizes = even k d within; member = are_members stores told_are k d within; front = search rules; muster = search rules }));
+    all_links = ap length links ∙ length-replicate {A = List Envelope} 64 [];
+    all_submits = ap length submits ∙ length-replicate {A = List Envelope} 64 [];
+    links_inside = rw links (none_inside (4096 * c.geometry.blocks));
+    submits_inside = rw submits (none_inside (4096 * c.geometry.blocks));
   }
 
   -- ---- as which view they are shown
@@ -101,7 +145,13 @@ module _ {S : Type 0} (about : S → About) (id : BoardId) (told : Record) where
   abbrev shown : List ℕ → S → Member
   shown volume s = member_of (begun s) volume []
 
-  pub slots_shown : (volume : List ℕ) (stores : List S) → map slot_of (map (shown volume) stores) ≡ map (λ (m : recorded.Member). m.slot) (map (recorded_in about) stores)
+  -- as which members they are recorded
+  recorded_shown : (volume : List ℕ) (stores : List S) → map recorded_as (map (shown volume) stores) ≡ map (recorded_in about) stores
+  recorded_shown volume [] = refl
+  recorded_shown volume (s ∷ stores) = ap (λ ms. recorded_in about s ∷ ms) (recorded_shown volume stores)
+
+  -- and at which slots
+  slots_shown : (volume : List ℕ) (stores : List S) → map slot_of (map (shown volume) stores) ≡ map (λ (m : recorded.Member). m.slot) (map (recorded_in about) stores)
   slots_shown volume [] = refl
   slots_shown volume (s ∷ stores) = ap (λ l. (about s).slot ∷ l) (slots_shown volume stores)
 
@@ -142,32 +192,39 @@ module _ {S : Type 0} (about : S → About) (id : BoardId) (told : Record) where
           begun_shown stores (All-tail Fits s stores fits),
         )
 
-    pub begun_idle : (stores : List S) → All Fits stores → All (IsIdle front volume) (map (shown volume) stores)
-    begun_idle stores fits = All-map (IsIdle front volume) (shown volume) stores (λ k d within.
+    pub begun_idle : (stores : List S) → All Fits stores → All (IsIdle told front volume) (map (shown volume) stores)
+    begun_idle stores fits = All-map (IsIdle told front volume) (shown volume) stores (λ k d within.
         let fit = fits k d within in
         record {
           incarnation = fit.incarnation;
+          runs = refl;
+          told = refl;
+          turned = refl;
+          free = refl;
           table = ap (λ f. record { forgotten = f; kept = [] }) fit.front_is;
           known = fit.front_is;
           volume_is = refl;
           waiting = refl;
           found = refl;
-          puts = refl;
-          acks = refl;
-          submits = refl;
           demands = refl;
         })
 
     -- the chain begins so
-    pub begins : (c : Chained S) (stores : List S) → c.id ≡ id → c.chain ≡ told → c.members ≡ map begun stores → map (recorded_in about) stores ≡ told.members → AreMembers told.members
+    pub begins : (c : Chained S) (stores : List S) → c.id ≡ id → c.recorded ≡ told → c.before ≡ told → c.writing ≡ None → c.links ≡ replicate 64 [] → c.submits ≡ replicate 64 []
+        → c.members ≡ map begun stores → map (recorded_in about) stores ≡ told.members → AreMembers told.members
         → c.words ≡ words_of front told.members → bytes_of c ≡ size → All Fits stores → (v : View) × Shows about keeps may_leave_now c v × IsBeginning front volume v
-    begins c stores of_board of_chain are told_are members words sizes fits = (
-      record { told = told_of c; members = map (shown volume) stores; kept = [] },
-      record { told = refl; members = rw (are, sizes) (begun_shown stores fits) },
+    begins c stores of_board now_is before_is writing links submits are told_are members words sizes fits = (
+      record { told = told_of c; recorded = c.recorded; before = c.before; writing = c.writing; members = map (shown volume) stores; links = link_at c.links; submits = link_at c.submits; kept = [] },
+      record { told = refl; recorded = refl; before = refl; writing = refl; members = rw (are, sizes) (begun_shown stores fits); links = refl; submits = refl },
       record {
-        idle = begun_idle stores fits;
+        idle = rw now_is (begun_idle stores fits);
         slots = subst (AllPairs (λ slot other. slot ≢ other)) (sym (slots_shown volume stores ∙ ap (map (λ (m : recorded.Member). m.slot)) told_are))
             (pairs_map (λ (slot other : ℕ). slot ≢ other) (λ (m : recorded.Member). m.slot) told.members members.once);
+        recorded_are = ap (λ (r : Record). r.members) now_is ∙ sym told_are ∙ sym (recorded_shown volume stores);
+        before_is = before_is ∙ sym now_is;
+        not_writing = writing;
+        no_links = λ from to. ap (λ links. link_at links from to) links ∙ nothing_sent from to;
+        no_submits = λ from to. ap (λ links. link_at links from to) submits ∙ nothing_sent from to;
         told = ap (λ w. w.front) words;
         mask = rw (ap (λ w. w.mask) words) (counted_shown (mask_of told.members) volume stores (rw told_are (mask_counts told.members 0)));
         gauges = rw (ap (λ w. w.gauges) words) (fronts_low front 0 (gauges_of front told.members) (gauges_low front told.members (replicate 8 0) (All-replicate (λ g. g ≤ front) 8 0 (omega arith))));

@@ -1,587 +1,292 @@
--- A message comes to a member of a chain: what is shown of the chain then, and what happened in it.
-use Rattle.std.proofs.Common.{◌≡◌, ◌≢◌, ℕ, zero, suc, ◌+◌, ◌-◌, ◌*◌, ◌<◌, ◌≤◌, Bool, true, false, cond, eqb, ltb, List, [], ◌∷◌, ◌++◌, length, map, get_or, refl, ap, sym, subst, ◌∙◌, arith, inl, inr}
-use Rattle.std.specs.Prelude.{All, IfErr, IfNone, IfOk, IfSome, Option, None, Some, Result, Ok, Err, fold, is_some, option_map, slice_get, slice_index_or, slice_set}
-use Rattle.std.specs.List.{AllPairs, AllZip, flat_map, position_or_len}
-use Rattle.std.proofs.lemmas.Bool.{cond-true, eq-eqb, lt-ltb, ne_eqb}
-use Rattle.std.proofs.lemmas.Grind.{flat_map-append}
-use Rattle.std.proofs.lemmas.List.{append-nil, append_assoc, length_push, map-append, take-append-le}
-use Rattle.std.proofs.lemmas.List.Elements.{All-cons, All-head, All-tail}
-use Rattle.std.proofs.lemmas.List.Sums.{position_or_len_is}
-use Rattle.std.proofs.lemmas.Option.{get_or_from_slice_get, slice_get-map, slice_get_within}
-use Rattle.board.specs.Seats.{BoardId}
-use Rattle.configurations.specs.Record.{AreMembers, Record}
-use Rattle.configurations.specs.declared.member.Member as recorded
+-- A message comes to a member of a chain: what the call leaves of the chain, and of the links that it had taken out.
+use Rattle.std.proofs.Common.{◌≡◌, ◌≢◌, ◌⊎◌, ℕ, ◌+◌, ◌*◌, ◌<◌, List, [], ◌∷◌, length, refl, ap, sym, subst, ◌∙◌, arith, inl, inr}
+use Rattle.std.specs.Prelude.{All, Option, None, Some, Result, Ok, Err, IfErr, IfNone, IfOk, IfSome, slice_get, slice_set}
+use Rattle.std.specs.Option.{unwrap_or}
+use Rattle.std.proofs.lemmas.List.Elements.{All-set, All-tail}
 use Rattle.flush_barrier.specs.Reply.{GivenReply}
 use Rattle.local_store.specs.About.{About}
-use Rattle.version_table.specs.declared.kept.Kept.{Kept}
-use Rattle.version_table.specs.declared.kept.Origin.{Origin}
-use Rattle.volume.specs.Writes.{Placed, patched}
 use Rattle.volume.specs.declared.geometry.Geometry.{Geometry}
-use Rattle.chain_steps.specs.Node.{NodeState, Stepped, epoch_of, last_of}
-use Rattle.chain_steps.specs.Place.{place_in, successor_of}
-use Rattle.chain_steps.specs.Steps.{apply, send, stop, volume_at}
-use Rattle.chain_steps.specs.declared.cause.Cause.{Cause}
-use Rattle.chain_steps.specs.declared.cause.Cause.TheVariants.{Disorder}
+use Rattle.chain_steps.specs.Place.{is_member}
 use Rattle.chain_steps.specs.declared.message.Envelope.{Envelope}
-use Rattle.chain_steps.specs.declared.message.Message.{Message}
-use Rattle.chain_steps.specs.declared.message.Message.TheVariants.{Put}
-use Rattle.chain_steps.specs.declared.message.Sent.{Sent}
-use Rattle.chain_core.specs.Node.{Seen, size_of}
+use Rattle.chain_core.specs.Node.{IsInside, Seen, size_of}
 use Rattle.chain_core.specs.Refusal.{number_of}
 use Rattle.chain_core.specs.declared.refusal.Refusal.{Refusal}
-use Rattle.world_model.specs.Chain.{ArePutOut, Member, StandsFor, View, hop_of}
-use Rattle.world_model.specs.ChainLaws.{sent_on, with_members}
+use Rattle.world_model.specs.Chain.{ArePutOut}
 use Rattle.world_model.specs.Event.{ClientEvent}
-use Rattle.world_model.specs.Life.{Happening, Happens, MemberDoes, PutApplied, Stop}
-use Rattle.world_model.specs.Machine.{State}
-use Rattle.world_model.specs.Order.{AreFronts, IsChain}
-use Rattle.world_model.specs.OrderSteps.{next_put, reaches_at}
-use Rattle.chain.specs.Chain.{Chained, Goes, IsFormed, IsIn, Shows, are_inner, bytes_of, recorded_as, told_of}
-use Rattle.chain.specs.Links.{IsPutOf, puts_in, put_in}
-use Rattle.chain.specs.Member.{IsShown, Linked, fronts_of, member_of, musters_of, receipts_of}
-use Rattle.chain.specs.Passing.{HasHalted, HasNone, IsRefused, Passes, PassesTo, PutComes, Refuses, replies_in, with_puts}
-use Rattle.chain.proofs.Cells.{Twin, twin_of}
-use Rattle.chain.proofs.Orderly.{put_orderly}
-use Rattle.chain.proofs.PassingSteps.{StaysOne, passes_same, put_taken}
-use Rattle.chain.proofs.Stepping.{all_at, rests, shown_still}
+use Rattle.chain_model.specs.View.{View}
+use Rattle.chain.specs.Chain.{Chained, Goes, IsFormed, IsIn, Shows, bytes_of}
+use Rattle.chain.specs.Links.{AreInside, link_at}
+use Rattle.chain.specs.Member.{Linked}
+use Rattle.chain.specs.Passing.{HasNone, IsRefused, MessageComes, PassesTo, Refuses, SubmitComes, replies_in, target_of}
+use Rattle.chain.proofs.Linkages.{at_place, both_back, four, one_back, second_was, set_again, set_long}
+use Rattle.chain.proofs.MessageSteps.{message_comes, submit_comes}
+use Rattle.chain.proofs.PassingSteps.{delivered_one}
+use Rattle.chain.proofs.Stepping.{formed_then, in_at, rests, same_then}
 
--- ---- the same members, with other links
+-- whom the member tells: somebody, or nobody
+pub target_is : (there : Option ℕ) (to slot : ℕ) → to ≡ unwrap_or there slot → (there ≡ Some to) ⊎ (there ≡ None)
+target_is None to slot is = inr refl
+target_is (Some other) to slot is = inl (ap Some (sym is))
 
--- the same member, over the same store, with the same of the board in use
-pub record IsSame {S : Type 0} (m g : Linked S) : Type 0 where
-  pub one : StaysOne m.node.state g.node.state
-  pub store : g.node.store ≡ m.node.store
-  pub front : g.front ≡ m.front
-  pub muster : g.muster ≡ m.muster
-  pub receipt : g.receipt ≡ m.receipt
+-- ---- what the call of the one member says
 
-module _ {S : Type 0} where
-  pub is_same : (m : Linked S) → IsSame m m
-  is_same m = record { one = record { board = refl; place = refl; incarnation = refl; turned = λ on. on; holds = refl }; store = refl; front = refl; muster = refl; receipt = refl }
+pub record HasPassedSo {S V : Type 0} (replies : V → List GivenReply) (size from : ℕ) (old new : Seen S) (link left to then : List Envelope) (result : Result (Option V) Refusal) : Type 0 where
+  pub none : IfOk result (λ taken. IfNone taken ((link ≡ []) × ((new ≡ old) × ((left ≡ link) × (then ≡ to)))))
+  pub some : IfOk result (λ taken. IfSome taken (λ given. PassesTo from old new link left to then (replies given)))
+  pub refused : IfErr result (λ r. IsRefused from old.state link (number_of r) × ((new ≡ old) × ((left ≡ link) × (then ≡ to))))
+  pub inside : All (λ (e : Envelope). IsInside size e.message) to → All (λ (e : Envelope). IsInside size e.message) then
 
-  same_then : (m g h : Linked S) → IsSame m g → IsSame g h → IsSame m h
-  same_then m g h one two = record {
-    one = record {
-      board = two.one.board ∙ one.one.board;
-      place = two.one.place ∙ one.one.place;
-      incarnation = two.one.incarnation ∙ one.one.incarnation;
-      turned = λ on. two.one.turned (one.one.turned on);
-      holds = two.one.holds ∙ one.one.holds;
-    };
-    store = two.store ∙ one.store;
-    front = two.front ∙ one.front;
-    muster = two.muster ∙ one.muster;
-    receipt = two.receipt ∙ one.receipt;
-  }
+-- what it leaves: the member is of its board, with its store, and what was inside is inside
+record Leaves {S : Type 0} (size : ℕ) (old new : Seen S) (link left : List Envelope) : Type 0 where
+  store : new.store ≡ old.store
+  board : new.state.board ≡ old.state.board
+  place : new.state.place ≡ old.state.place
+  inside : All (λ (e : Envelope). IsInside size e.message) link → All (λ (e : Envelope). IsInside size e.message) left
 
-  pub are_same : (ms : List (Linked S)) → AllZip IsSame ms ms
-  are_same [] = tt
-  are_same (m ∷ ms) = (is_same m, are_same ms)
+module _ {S V : Type 0} (replies : V → List GivenReply) (size from : ℕ) (old new : Seen S) (link left to then : List Envelope) where
+  leaves_same : new ≡ old → left ≡ link → Leaves size old new link left
+  leaves_same same stays = record { store = ap (λ (n : Seen S). n.store) same; board = ap (λ (n : Seen S). n.state.board) same; place = ap (λ (n : Seen S). n.state.place) same; inside = λ all. subst (All (λ (e : Envelope). IsInside size e.message)) (sym stays) all }
 
-  pub same_behind : (above ms gs : List (Linked S)) → AllZip IsSame ms gs → AllZip IsSame (above ++ ms) (above ++ gs)
-  same_behind [] ms gs same = same
-  same_behind (x ∷ above) ms gs same = (is_same x, same_behind above ms gs same)
+  leaves : (result : Result (Option V) Refusal) → HasPassedSo replies size from old new link left to then result → Leaves size old new link left
+  leaves (Ok None) did = leaves_same did.none.1.0 did.none.1.1.0
+  leaves (Ok (Some given)) did = elim did.some.did [
+    | inl is ↦ record {
+      store = ap (λ (n : Seen S). n.store) is.are;
+      board = ap (λ (n : Seen S). n.state.board) is.are ∙ (delivered_one from is.envelope old.state is.stepped is.taken).board;
+      place = ap (λ (n : Seen S). n.state.place) is.are ∙ (delivered_one from is.envelope old.state is.stepped is.taken).place;
+      inside = λ all. All-tail (λ (e : Envelope). IsInside size e.message) is.envelope left (subst (All (λ (e : Envelope). IsInside size e.message)) is.first all);
+    }
+    | inr is ↦ record {
+      store = ap (λ (n : Seen S). n.store) is.are;
+      board = ap (λ (n : Seen S). n.state.board) is.are;
+      place = ap (λ (n : Seen S). n.state.place) is.are;
+      inside = λ all. subst (All (λ (e : Envelope). IsInside size e.message)) (sym is.stays) all;
+    }
+  ]
+  leaves (Err r) did = leaves_same did.refused.1.0 did.refused.1.1.0
 
-  pub are_same_then : (ms gs hs : List (Linked S)) → AllZip IsSame ms gs → AllZip IsSame gs hs → AllZip IsSame ms hs
-  are_same_then [] [] [] one two = tt
-  are_same_then [] [] (h ∷ hs) one two = absurd two
-  are_same_then [] (g ∷ gs) hs one two = absurd one
-  are_same_then (m ∷ ms) [] hs one two = absurd one
-  are_same_then (m ∷ ms) (g ∷ gs) [] one two = absurd two
-  are_same_then (m ∷ ms) (g ∷ gs) (h ∷ hs) one two = (same_then m g h one.0 two.0, are_same_then ms gs hs one.1 two.1)
+-- all that is on a link is inside
+pub inside_at : (size : ℕ) (links : List (List Envelope)) (from to : ℕ) → length links ≡ 64 → from < 8 → to < 8 → AreInside size links → All (λ (e : Envelope). IsInside size e.message) (link_at links from to)
+inside_at size links from to long from_lt to_lt all =
+    subst (All (λ (e : Envelope). IsInside size e.message)) (sym (at_place links from to to_lt)) (all (8 * from + to) [] (omega (arith, long)))
 
-  pub same_puts : (sent : List Envelope) (ms : List (Linked S)) → AllZip IsSame ms (with_puts sent ms)
-  same_puts sent [] = tt
-  same_puts sent (m ∷ ms) = (record { one = record { board = refl; place = refl; incarnation = refl; turned = λ on. on; holds = refl }; store = refl; front = refl; muster = refl; receipt = refl }, are_same ms)
+-- ---- what becomes of the chain
 
-  recorded_same : (m g : Linked S) → IsSame m g → recorded_as g ≡ recorded_as m
-  recorded_same m g same = rw (same.one.place, same.one.incarnation) refl
+-- what comes out of the call of the chain
+pub record Came {S V : Type 0} (replies : V → List GivenReply) (links_of : Chained S → List (List Envelope)) (Comes : List GivenReply → Type 0) (from at : ℕ) (old new : Chained S) (result : Result (Option V) Refusal) : Type 0 where
+  pub none : IfOk result (λ taken. IfNone taken (HasNone links_of from at old new))
+  pub comes : IfOk result (λ taken. IfSome taken (λ given. Comes (replies given)))
+  pub refused : IfErr result (Refuses links_of from at old new)
 
-  recorded_all : (ms gs : List (Linked S)) → AllZip IsSame ms gs → map recorded_as gs ≡ map recorded_as ms
-  recorded_all [] [] same = refl
-  recorded_all [] (g ∷ gs) same = absurd same
-  recorded_all (m ∷ ms) [] same = absurd same
-  recorded_all (m ∷ ms) (g ∷ gs) same = rw (recorded_same m g same.0, recorded_all ms gs same.1) refl
+module _ {S V : Type 0} (replies : V → List GivenReply) (links_of : Chained S → List (List Envelope)) (Comes : List GivenReply → Type 0) (from at : ℕ) (old new : Chained S) where
+  -- and clients see the replies
+  pub came_goes : (about : S → About) (keeps : S → List ℕ → Type 0) (may_leave_now : S → List ℕ → Type 0) (v : View) (events : List ClientEvent) → Shows about keeps may_leave_now old v
+      → ((given : List GivenReply) → Comes given → ArePutOut given events → (w : View) × Shows about keeps may_leave_now new w × Goes (bytes_of old) v w events)
+      → (result : Result (Option V) Refusal) → Came replies links_of Comes from at old new result → ArePutOut (replies_in replies result) events
+      → (w : View) × Shows about keeps may_leave_now new w × Goes (bytes_of old) v w events
+  came_goes about keeps may_leave_now v events shows goes (Ok None) came put_out = rests about keeps may_leave_now old new v events came.none.same shows put_out
+  came_goes about keeps may_leave_now v events shows goes (Ok (Some given)) came put_out = goes (replies given) came.comes put_out
+  came_goes about keeps may_leave_now v events shows goes (Err r) came put_out = rests about keeps may_leave_now old new v events came.refused.same shows put_out
 
-  uses_all : {B : Type 0} (f : Linked S → List B) → ((m g : Linked S) → IsSame m g → f g ≡ f m) → (ms gs : List (Linked S)) → AllZip IsSame ms gs → flat_map f gs ≡ flat_map f ms
-  uses_all f each [] [] same = refl
-  uses_all f each [] (g ∷ gs) same = absurd same
-  uses_all f each (m ∷ ms) [] same = absurd same
-  uses_all f each (m ∷ ms) (g ∷ gs) same = rw (each m g same.0, uses_all f each ms gs same.1) refl
+module _ {S V : Type 0} (replies : V → List GivenReply) (old : Chained S) (from at to : ℕ) (before : Linked S) (here : slice_get old.members at ≡ Some before) (from_lt : from < 8) (slot_lt : before.node.state.place.slot < 8) (to_lt : to < 8)
+    (node : Seen S) (first : Envelope) (rest left then : List Envelope) (target : (target_of before.node.state first.message ≡ Some to) ⊎ (target_of before.node.state first.message ≡ None)) where
+  member_still : node ≡ before.node → slice_set old.members at (record before { node = node }) ≡ old.members
+  member_still same = ap (λ (c : Chained S). c.members) (same_then old at before (record before { node = node }) here (ap (λ (n : Seen S). record before { node = n }) same))
 
-  in_same : (about : S → About) (id : BoardId) (seat : ℕ) (chain : Record) (geometry : Geometry) (m g : Linked S) → IsSame m g → IsIn about id seat chain geometry m → IsIn about id seat chain geometry g
-  in_same about id seat chain geometry m g same is = record {
-    board = same.one.board ∙ is.board;
-    told = ap (λ p. p.chain) same.one.place ∙ is.told;
-    turned = same.one.turned is.turned;
-    free = same.one.holds ∙ is.free;
-    sizes = ap (λ s. (about s).geometry) same.store ∙ is.sizes;
-    front = rw same.front is.front;
-    muster = rw same.muster is.muster;
-  }
+  is_in_still : (about : S → About) (size : ℕ) (link : List Envelope) → Leaves size before.node node link left → IsIn about old.id old.seat old.geometry before → IsIn about old.id old.seat old.geometry (record before { node = node })
+  is_in_still about size link stays is = record { board = stays.board ∙ is.board; member = ap is_member stays.place ∙ is.member; sizes = ap (λ s. (about s).geometry) stays.store ∙ is.sizes; front = is.front; muster = is.muster }
 
-  pub in_all : (about : S → About) (id : BoardId) (seat : ℕ) (chain : Record) (geometry : Geometry) (ms gs : List (Linked S)) → AllZip IsSame ms gs → All (IsIn about id seat chain geometry) ms → All (IsIn about id seat chain geometry) gs
-  in_all about id seat chain geometry [] [] same all = all
-  in_all about id seat chain geometry [] (g ∷ gs) same all = absurd same
-  in_all about id seat chain geometry (m ∷ ms) [] same all = absurd same
-  in_all about id seat chain geometry (m ∷ ms) (g ∷ gs) same all =
-      All-cons (IsIn about id seat chain geometry) g gs (in_same about id seat chain geometry m g same.0 (All-head (IsIn about id seat chain geometry) m ms all))
-      (in_all about id seat chain geometry ms gs same.1 (All-tail (IsIn about id seat chain geometry) m ms all))
-
-  module _ (old : Chained S) (ms : List (Linked S)) (same : AllZip IsSame old.members ms) where
-    abbrev now : Chained S
-    now = record old { members = ms }
-
-    -- the chain is formed still
-    pub formed_same : (about : S → About) → IfSome (slice_get ms 0) (λ m. m.puts ≡ []) → IsFormed about old → IsFormed about now
-    formed_same about idle formed = record {
-      recorded = recorded_all old.members ms same ∙ formed.recorded;
-      head = idle;
-      members = in_all about old.id old.seat old.chain old.geometry old.members ms same formed.members;
+  -- by a chain link
+  module _ (apart : from ≢ before.node.state.place.slot) (long : length old.links ≡ 64) (was : link_at old.links from before.node.state.place.slot ≡ first ∷ rest) where
+    abbrev after : Chained S
+    after = record old {
+      members = slice_set old.members at (record before { node = node });
+      links = slice_set (slice_set old.links (8 * from + before.node.state.place.slot) left) (8 * before.node.state.place.slot + to) then;
     }
 
-    pub told_same : told_of now ≡ told_of old
-    told_same = rw (uses_all (λ m. fronts_of m.front) (λ m g is. ap fronts_of is.front) old.members ms same, uses_all (λ m. musters_of m.muster) (λ m g is. ap musters_of is.muster) old.members ms same, uses_all (λ m. receipts_of m.receipt) (λ m g is. ap receipts_of is.receipt) old.members ms same) refl
+    after_still : node ≡ before.node → left ≡ link_at old.links from before.node.state.place.slot → then ≡ link_at old.links before.node.state.place.slot to → after ≡ old
+    after_still same stays still =
+        ap (λ ms. record after { members = ms }) (member_still same)
+        ∙ ap (λ l. record old { links = l }) (both_back old.links from before.node.state.place.slot to from_lt slot_lt to_lt apart left then stays still)
 
-  -- its first message was there
-  pub passes_some : {A : Type 0} (slot : ℕ) (old new : Seen S) (link left sent : List Envelope) (replies : List GivenReply) → Passes slot old new link left sent replies → link ≡ [] → A
-  passes_some slot old new link left sent replies (inl is) none = let clash : is.envelope ∷ left ≡ [] = sym is.first ∙ none in absurd (cc)
-  passes_some slot old new link left sent replies (inr is) none = let clash : is.envelope ∷ is.rest ≡ [] = sym is.first ∙ none in absurd (cc)
+    pub message_came : (size : ℕ) (result : Result (Option V) Refusal)
+        → HasPassedSo replies size from before.node node (link_at old.links from before.node.state.place.slot) left (link_at old.links before.node.state.place.slot to) then result
+        → Came replies (λ c. c.links) (MessageComes from at old after) from at old after result
+    message_came size (Ok None) did = record {
+      none = record { member = before; here = here; empty = did.none.0; same = after_still did.none.1.0 did.none.1.1.0 did.none.1.1.1 };
+      comes = record {};
+      refused = record {};
+    }
+    message_came size (Ok (Some given)) did = record {
+      none = record {};
+      comes = message_comes old at before here from to from_lt slot_lt to_lt node first rest left then (replies given) target apart long was did.some;
+      refused = record {};
+    }
+    message_came size (Err r) did = record {
+      none = record {};
+      comes = record {};
+      refused = record { member = before; here = here; refused = did.refused.0; same = after_still did.refused.1.0 did.refused.1.1.0 did.refused.1.1.1 };
+    }
 
--- ---- places in the record
-
--- a slot of the record stands where it stands
-pub place_is : (chain : Record) (at : ℕ) (x : recorded.Member) → AllPairs (λ a b. a.slot ≢ b.slot) chain.members → slice_get chain.members at ≡ Some x → place_in chain x.slot ≡ Some at
-place_is chain at x once here =
-    let within = slice_get_within chain.members at x here in
-    let read : get_or chain.members at x ≡ x = get_or_from_slice_get chain.members at x x here in
-    let is : position_or_len (λ (m : recorded.Member). eqb m.slot x.slot) chain.members ≡ at =
-    position_or_len_is (λ (m : recorded.Member). eqb m.slot x.slot) chain.members at x (omega (arith, within))
-    (λ k lt. ne_eqb (get_or chain.members k x).slot x.slot (λ same. once k at x lt within (same ∙ ap (λ (m : recorded.Member). m.slot) (sym read))))
-    (λ lt. eq-eqb (get_or chain.members at x).slot x.slot (ap (λ (m : recorded.Member). m.slot) read)) in
-    rw is (cond-true (ltb at (length chain.members)) (Some at) None (lt-ltb at (length chain.members) within))
-
--- a member with another behind it has a successor
-pub has_successor : {S : Type 0} (about : S → About) (c : Chained S) (at : ℕ) (m n : Linked S) → IsFormed about c → IsIn about c.id c.seat c.chain c.geometry m → AreMembers c.chain.members
-    → slice_get c.members at ≡ Some m → slice_get c.members (at + 1) ≡ Some n → is_some (successor_of m.node.state.place) ≡ true
-has_successor about c at m n formed in_it are here next =
-    let recorded_here : slice_get c.chain.members at ≡ Some (recorded_as m) = ap (λ l. slice_get l at) (sym formed.recorded) ∙ slice_get-map recorded_as c.members at ∙ ap (option_map recorded_as) here in
-    let recorded_next : slice_get c.chain.members (at + 1) ≡ Some (recorded_as n) = ap (λ l. slice_get l (at + 1)) (sym formed.recorded) ∙ slice_get-map recorded_as c.members (at + 1) ∙ ap (option_map recorded_as) next in
-    let place : place_in c.chain m.node.state.place.slot ≡ Some at = place_is c.chain at (recorded_as m) are.once recorded_here in
-    rw (in_it.told, place, recorded_next) refl
-
--- ---- what happens
-
-module _ {S : Type 0} (about : S → About) (keeps : S → List ℕ → Type 0) (may_leave_now : S → List ℕ → Type 0) (old : Chained S) (v : View) (shows : Shows about keeps may_leave_now old v) where
-  abbrev pub IsSo : Linked S → Member → Type 0
-  IsSo m shown = IsShown about keeps may_leave_now (bytes_of old) m shown
-
-  -- with these members the chain is shown so, and this happened
-  abbrev pub IsShownSo : List (Linked S) → List ClientEvent → Type 0
-  IsShownSo ms events = (w : View) × Shows about keeps may_leave_now (record old { members = ms }) w × Goes (bytes_of old) v w events
-
-  pub goes_on : (h : Happening) (events : List ClientEvent) (ms : List (Linked S)) (gs : List Member) → are_inner (h ∷ []) ≡ true → AllZip IsSame old.members ms → AllZip IsSo ms gs → Happens (bytes_of old) h v (with_members v gs) events → IsShownSo ms events
-  goes_on h events ms gs inner same are happens = (
-    with_members v gs,
-    record { told = shows.told ∙ sym (told_same old ms same); members = are },
-    record { happenings = h ∷ []; each = events ∷ []; inner = inner; era = (with_members v gs, events, [], refl, happens, (refl, refl)); all = append-nil events },
-  )
-
-  module _ (above : List (Linked S)) (member : Linked S) (below : List (Linked S)) (were : old.members ≡ above ++ member ∷ below) where
-    pub twin : Twin IsSo above member below v.members
-    twin = twin_of IsSo above member below v.members (subst (λ l. AllZip IsSo l v.members) were shows.members)
-
-    abbrev halted : Cause → Linked S
-    halted cause = record member { node = record { store = member.node.store; state = (stop cause member.node.state).node } }
-
-    -- the member stops
-    pub halts_at : (cause : Cause) → cause ≢ Disorder → (events : List ClientEvent) → ArePutOut (stop cause member.node.state).out.replies events → IsShownSo (above ++ halted cause ∷ below) events
-    halts_at cause other events put_out =
-        let own = twin.own in
-        let so = twin.fits in
-        let g : Member = record own { node = (stop cause own.node).node } in
-        let node : own.node ≡ member.node.state = ap (λ (x : Member). x.node) so.is in
-        goes_on (MemberDoes (Stop cause)) events (above ++ halted cause ∷ below) (twin.over ++ g ∷ twin.under) refl
-        (subst (λ l. AllZip IsSame l (above ++ halted cause ∷ below)) (sym were) (same_behind above (member ∷ below) (halted cause ∷ below) (record { one = record { board = refl; place = refl; incarnation = refl; turned = λ on. on; holds = refl }; store = refl; front = refl; muster = refl; receipt = refl }, are_same below)))
-        (twin.others (halted cause) g below twin.under (shown_still about keeps may_leave_now old member (halted cause) own g so (ap (λ (x : Member). record x { node = (stop cause x.node).node }) so.is) refl refl refl refl (λ runs. let clash : Some cause ≡ None = runs in absurd (cc))) twin.rest)
-        (record { above = twin.over; old = own; new = g; below = twin.under; were = twin.are; are = refl; change = (other, subst (λ (n : NodeState). ArePutOut (stop cause n).out.replies events) (sym node) put_out, refl) })
-
-  -- the first of the others gets these messages, which carry this write
-  abbrev pub CarriesOn : Kept → List Envelope → List (Linked S) → Type 0
-  CarriesOn k sent [] = Unit {0}
-  CarriesOn k sent (b ∷ bs) = puts_in sent ≡ k ∷ []
-
-  pub shown_on : (k : Kept) (sent : List Envelope) (below : List (Linked S)) (under : List Member) → CarriesOn k sent below → AllZip IsSo below under → AllZip IsSo (with_puts sent below) (sent_on k under)
-  shown_on k sent [] [] carries are = tt
-  shown_on k sent [] (u ∷ us) carries are = absurd are
-  shown_on k sent (b ∷ bs) [] carries are = absurd are
-  shown_on k sent (b ∷ bs) (u ∷ us) carries (so, rest) = (
-    shown_still about keeps may_leave_now old b (record b { puts = b.puts ++ sent }) u (record u { puts = u.puts ++ k ∷ [] }) so
-        (ap (λ (x : Member). record x { puts = x.puts ++ k ∷ [] }) so.is
-        ∙ ap (λ (ps : List Kept). let g : Member = record (member_of b u.volume u.demands) { puts = ps } in g)
-        (ap (λ (l : List Kept). puts_in b.puts ++ l) (sym carries) ∙ sym (flat_map-append (λ (e : Envelope). put_in e.message) b.puts sent)))
-        refl refl refl refl (λ runs. runs),
-    rest,
-  )
-
-  module _ (s : State) (stands : StandsFor (bytes_of old) v s) (over : List Member) (own : Member) (under : List Member) (are : v.members ≡ over ++ own ∷ under) where
-    -- it knows only of writes that it has applied
-    pub known_there : own.node.known ≤ last_of own.node
-    known_there =
-        let line = stands.0 in
-        let order = stands.2.order in
-        let hops : map hop_of v.members ≡ map hop_of over ++ hop_of own ∷ map hop_of under = ap (map hop_of) are ∙ map-append hop_of over (own ∷ under) in
-        (reaches_at (length v.members) v.told.front (map hop_of over) (hop_of own) (map hop_of under) (subst (AreFronts (length v.members) v.told.front) hops order.fronts)).0.known_applied
-
-    -- the first Put on the way to it is the next
-    pub next_there : (k : Kept) (puts : List Kept) → own.puts ≡ k ∷ puts → k.number ≡ last_of own.node + 1
-    next_there k puts first =
-        let line = stands.0 in
-        let order = stands.2.order in
-        let hops : map hop_of v.members ≡ map hop_of over ++ hop_of own ∷ map hop_of under = ap (map hop_of) are ∙ map-append hop_of over (own ∷ under) in
-        next_put (bytes_of old) (length v.members) v.told.front line (map hop_of over) (hop_of own) (map hop_of under) k puts (subst (IsChain (bytes_of old) (length v.members) v.told.front line) hops order) first
-
-  -- a write more, behind what is known, changes nothing of what the disk may be left with
-  volume_more : (volume : List ℕ) (node : NodeState) (n : ℕ) (origin : Origin) (write : Placed) (front : ℕ) → node.known ≤ last_of node → front ≤ node.known
-      → volume_at volume (apply n origin write node).node front ≡ volume_at volume node front
-  volume_more volume node n origin write front applied le =
-      ap (λ (ks : List Kept). fold patched volume (map (λ (k : Kept). k.write) ks))
-      (take-append-le (front - node.table.forgotten) node.table.kept (record { number = n; write = write; origin = origin } ∷ []) (omega (arith, applied, le)))
-
-  module _ (member : Linked S) where
-    -- the member applies a write
-    abbrev pub applied : ℕ → Origin → Placed → List Envelope → Linked S
-    applied n origin write left = record member { node = record { store = member.node.store; state = (apply n origin write member.node.state).node }; puts = left }
-
-    pub applied_so : (own : Member) → IsSo member own → own.node.known ≤ last_of own.node → (n : ℕ) (origin : Origin) (write : Placed) (left : List Envelope)
-        → IsSo (applied n origin write left) (record own { node = (apply n origin write own.node).node; puts = puts_in left })
-    applied_so own so within n origin write left =
-        let node : own.node ≡ member.node.state = ap (λ (x : Member). x.node) so.is in
+    pub message_formed : (about : S → About) (result : Result (Option V) Refusal)
+        → HasPassedSo replies (bytes_of old) from before.node node (link_at old.links from before.node.state.place.slot) left (link_at old.links before.node.state.place.slot to) then result
+        → IsFormed about old → IsFormed about after
+    message_formed about result did formed =
+        let stays = leaves replies (bytes_of old) from before.node node (link_at old.links from before.node.state.place.slot) left (link_at old.links before.node.state.place.slot to) then result did in
+        let formed_so = formed_then old at before (record before { node = node }) here about (is_in_still about (bytes_of old) (link_at old.links from before.node.state.place.slot) stays) formed in
         record {
-          is = ap (λ (x : Member). record x { node = (apply n origin write x.node).node; puts = puts_in left }) so.is;
-          whole = so.whole;
-          keeping = so.keeping;
-          left = λ c may.
-              let l = so.left c may in
-              (l.0, l.1, l.2, rw (volume_more own.volume member.node.state n origin write l.0 (subst (λ (x : NodeState). x.known ≤ last_of x) node within) l.2) l.3);
-          durable = so.durable;
-          behind = so.behind;
+          members = formed_so.members;
+          all_submits = formed.all_submits;
+          submits_inside = formed.submits_inside;
+          all_links = set_long (slice_set old.links (8 * from + before.node.state.place.slot) left) (8 * before.node.state.place.slot + to) then ∙ set_long old.links (8 * from + before.node.state.place.slot) left ∙ long;
+          links_inside =
+              All-set (All (λ (e : Envelope). IsInside (bytes_of old) e.message)) (slice_set old.links (8 * from + before.node.state.place.slot) left) (8 * before.node.state.place.slot + to) then
+              (did.inside (inside_at (bytes_of old) old.links before.node.state.place.slot to long slot_lt to_lt formed.links_inside))
+              (All-set (All (λ (e : Envelope). IsInside (bytes_of old) e.message)) old.links (8 * from + before.node.state.place.slot) left
+              (stays.inside (inside_at (bytes_of old) old.links from before.node.state.place.slot long from_lt slot_lt formed.links_inside)) formed.links_inside);
         }
 
-  module _ (s : State) (stands : StandsFor (bytes_of old) v s) (above : List (Linked S)) (member : Linked S) (below : List (Linked S)) (were : old.members ≡ above ++ member ∷ below) where
-    pub applies_at : (n : ℕ) (origin : Origin) (write : Placed) (left sent : List Envelope) → puts_in member.puts ≡ record { number = n; origin = origin; write = write } ∷ puts_in left
-        → CarriesOn (record { number = n; origin = origin; write = write }) sent below → IsShownSo (above ++ applied member n origin write left ∷ with_puts sent below) []
-    applies_at n origin write left sent first carries =
-        let k : Kept = record { number = n; origin = origin; write = write } in
-        let t = twin above member below were in
-        let own = t.own in
-        let so = t.fits in
-        let g : Member = record own { node = (apply n origin write own.node).node; puts = puts_in left } in
-        let puts : own.puts ≡ k ∷ puts_in left = ap (λ (x : Member). x.puts) so.is ∙ first in
-        goes_on PutApplied [] (above ++ applied member n origin write left ∷ with_puts sent below) (t.over ++ g ∷ sent_on k t.under) refl
-        (subst (λ l. AllZip IsSame l (above ++ applied member n origin write left ∷ with_puts sent below)) (sym were)
-        (same_behind above (member ∷ below) (applied member n origin write left ∷ with_puts sent below)
-        (record { one = record { board = refl; place = refl; incarnation = refl; turned = λ on. on; holds = refl }; store = refl; front = refl; muster = refl; receipt = refl }, same_puts sent below)))
-        (t.others (applied member n origin write left) g (with_puts sent below) (sent_on k t.under) (applied_so member own so (known_there s stands t.over own t.under t.are) n origin write left) (shown_on k sent below t.under carries t.rest))
-        (record { above = t.over; member = own; below = t.under; entry = k; puts = puts_in left; were = t.are; first = puts; are = refl }, refl)
-
-    -- the number of a Put that is first is the next
-    pub next_at : (k : Kept) (left : List Envelope) → puts_in member.puts ≡ k ∷ puts_in left → k.number ≡ last_of member.node.state + 1
-    next_at k left first =
-        let t = twin above member below were in
-        let node : t.own.node ≡ member.node.state = ap (λ (x : Member). x.node) t.fits.is in
-        subst (λ (x : NodeState). k.number ≡ last_of x + 1) node (next_there s stands t.over t.own t.under t.are k (puts_in left) (ap (λ (x : Member). x.puts) t.fits.is ∙ first))
-
--- ---- a Put
-
--- a Put that is sent carries its write
-pub sent_carries : (to : Option ℕ) (turned : Bool) (n : ℕ) (origin : Origin) (write : Placed) (node : NodeState) → turned ≡ true → is_some to ≡ true
-    → puts_in (map (λ (message : Sent). message.envelope) (cond turned (send to (Put n origin write) node) [])) ≡ record { number = n; origin = origin; write = write } ∷ []
-sent_carries None turned n origin write node on some = absurd (cc)
-sent_carries (Some slot) true n origin write node on some = refl
-sent_carries (Some slot) false n origin write node on some = absurd (cc)
-
-pub with_none : {S : Type 0} (ms : List (Linked S)) → with_puts [] ms ≡ ms
-with_none [] = refl
-with_none (m ∷ ms) = ap (λ (l : List Envelope). record m { puts = l } ∷ ms) (append-nil m.puts)
-
-module _ {S : Type 0} (about : S → About) (old : Chained S) (above : List (Linked S)) (member : Linked S) (below : List (Linked S)) (node : Seen S) (left sent : List Envelope) (slot : ℕ) (replies : List GivenReply)
-    (were : old.members ≡ above ++ member ∷ below) (did : Passes slot member.node node member.puts left sent replies) where
-  abbrev passed : List (Linked S)
-  passed = above ++ record member { node = node; puts = left } ∷ with_puts sent below
-
-  put_same : AllZip IsSame old.members passed
-  put_same =
-      let same = passes_same slot member.node node member.puts left sent replies did in
-      subst (λ l. AllZip IsSame l passed) (sym were) (same_behind above (member ∷ below) (record member { node = node; puts = left } ∷ with_puts sent below)
-      (record { one = same.0; store = same.1; front = refl; muster = refl; receipt = refl }, same_puts sent below))
-
-  head_idle : (us : List (Linked S)) → IfSome (slice_get (us ++ member ∷ below) 0) (λ m. m.puts ≡ []) → IfSome (slice_get (us ++ record member { node = node; puts = left } ∷ with_puts sent below) 0) (λ m. m.puts ≡ [])
-  head_idle [] idle = passes_some slot member.node node member.puts left sent replies did idle
-  head_idle (u ∷ us) idle = idle
-
-  pub put_formed : IsFormed about old → IsFormed about (record old { members = passed })
-  put_formed formed = formed_same old passed put_same about (head_idle above (subst (λ l. IfSome (slice_get l 0) (λ m. m.puts ≡ [])) were formed.head)) formed
-
-  -- it is of the one volume
-  pub put_goes : (keeps : S → List ℕ → Type 0) (may_leave_now : S → List ℕ → Type 0) (v : View) (s : State) (events : List ClientEvent) → Shows about keeps may_leave_now old v → StandsFor (bytes_of old) v s
-      → ArePutOut replies events → (size : ℕ) → All (IsPutOf (epoch_of member.node.state) size) member.puts → member.node.state.turned ≡ true
-      → ((b : Linked S) (bs : List (Linked S)) → below ≡ b ∷ bs → is_some (successor_of member.node.state.place) ≡ true)
-      → (w : View) × Shows about keeps may_leave_now (record old { members = passed }) w × Goes (bytes_of old) v w events
-  put_goes keeps may_leave_now v s events shows stands put_out size linked turned next = elim did [
-    | inr is ↦ rw (is.are, is.stays, is.silent, with_none below) (halts_at about keeps may_leave_now old v shows above member below were is.cause (orderly is) events (subst (λ rs. ArePutOut rs events) is.told put_out))
-    | inl is ↦
-        let state = member.node.state in
-        let taken = put_taken size slot is.envelope state is.stepped is.ran (All-head (IsPutOf (epoch_of state) size) is.envelope left (subst (All (IsPutOf (epoch_of state) size)) is.first linked)) is.taken is.runs in
-        let k : Kept = record { number = taken.number; origin = taken.origin; write = taken.write } in
-        let first : puts_in member.puts ≡ k ∷ puts_in left = ap puts_in is.first ∙ ap (λ (m : Message). put_in m ++ puts_in left) taken.message in
-        elim taken.did [
-          | inl over ↦ absurd (omega (arith, over.0, next_at about keeps may_leave_now old v shows s stands above member below were k left first))
-          | inr does ↦
-              let quiet : replies ≡ [] = is.told ∙ ap (λ (x : Stepped). x.out.replies) does in
-              let none : events ≡ [] = subst (λ rs. ArePutOut rs events) quiet put_out in
-              let sends : sent ≡ map (λ (message : Sent). message.envelope) (cond state.turned (send (successor_of state.place) (Put taken.number taken.origin taken.write) state) []) =
-              is.sends ∙ ap (λ (x : Stepped). map (λ (message : Sent). message.envelope) x.out.messages) does in
-              let carries : (bs : List (Linked S)) → below ≡ bs → CarriesOn about keeps may_leave_now old v shows k sent bs =
-              (λ bs same. elim bs as (λ l. below ≡ l → CarriesOn about keeps may_leave_now old v shows k sent l) [
-                | [] ↦ λ is_none. tt
-                | b ∷ more ↦ λ is_some_more. ap puts_in sends ∙ sent_carries (successor_of state.place) state.turned taken.number taken.origin taken.write state turned (next b more is_some_more)
-              ] same) in
-              rw (none, is.are, does) (applies_at about keeps may_leave_now old v shows s stands above member below were taken.number taken.origin taken.write left sent first (carries below refl))
-        ]
-  ]
-    where
-      -- it doesn't stop because of the Put, which is the next
-      orderly : (is : HasHalted slot member.node node member.puts left sent replies) → is.cause ≢ Disorder
-      orderly is = put_orderly slot is.envelope member.node.state is.cause is.ran size
-          (All-head (IsPutOf (epoch_of member.node.state) size) is.envelope is.rest (subst (All (IsPutOf (epoch_of member.node.state) size)) is.first linked))
-          (λ n origin write message.
-          let k : Kept = record { number = n; origin = origin; write = write } in
-          let next : n ≡ last_of member.node.state + 1 = next_at about keeps may_leave_now old v shows s stands above member below were k is.rest (ap puts_in is.first ∙ ap (λ (m : Message). put_in m ++ puts_in is.rest) message) in
-          omega (arith, next)) is.why
-
--- ---- places of a chain
-
-pub get_there : {A : Type 0} (above : List A) (x : A) (below : List A) (at : ℕ) → length above ≡ at → slice_get (above ++ x ∷ below) at ≡ Some x
-get_there [] x below zero is = refl
-get_there [] x below (suc at) is = absurd (omega (arith, is))
-get_there (a ∷ above) x below zero is = absurd (omega (arith, is))
-get_there (a ∷ above) x below (suc at) is = get_there above x below at (omega (arith, is))
-
--- the same at the place behind
-pub get_next : {A : Type 0} (above : List A) (x y : A) (below : List A) (at : ℕ) → length above ≡ at → slice_get (above ++ x ∷ y ∷ below) (at + 1) ≡ Some y
-get_next above x y below at is = rw (sym (append_assoc above (x ∷ []) (y ∷ below))) (get_there (above ++ x ∷ []) y below (at + 1) (omega (arith, is, length_push above x)))
-
--- the last place of a list
-pub record Last {A : Type 0} (xs : List A) (at : ℕ) (x : A) : Type 0 where
-  pub above : List A
-  pub place : length above ≡ at
-  pub split : xs ≡ above ++ x ∷ []
-  pub setting : (y : A) → slice_set xs at y ≡ above ++ y ∷ []
-
-pub last_of_list : {A : Type 0} (xs : List A) (at : ℕ) (x : A) → at < length xs → length xs ≤ at + 1 → x ≡ slice_index_or xs at x → Last xs at x
-last_of_list [] at x within far is = absurd (omega arith)
-last_of_list (y ∷ []) zero x within far is = let same : x ≡ y = is in record { above = []; place = refl; split = ap (λ z. z ∷ []) (sym same); setting = λ z. refl }
-last_of_list (y ∷ z ∷ ys) zero x within far is = absurd (omega arith)
-last_of_list (y ∷ ys) (suc at) x within far is =
-    let rest = last_of_list ys at x (omega arith) (omega arith) is in
-    record { above = y ∷ rest.above; place = ap suc rest.place; split = ap (λ l. y ∷ l) rest.split; setting = λ z. ap (λ l. y ∷ l) (rest.setting z) }
-
--- two places, one behind the other, where the second is set, then the first, and then the second again
-pub record Both {A : Type 0} (xs : List A) (at next : ℕ) (x y y1 x1 y2 : A) : Type 0 where
-  pub above : List A
-  pub below : List A
-  pub place : length above ≡ at
-  pub split : xs ≡ above ++ x ∷ y ∷ below
-  pub between : y2 ≡ y1
-  pub setting : (z : A) → slice_set (slice_set (slice_set xs next y1) at x1) next z ≡ above ++ x1 ∷ z ∷ below
-
-both_at : {A : Type 0} (xs : List A) (at : ℕ) (x y y1 x1 y2 : A) → suc at < length xs → y ≡ slice_index_or xs (suc at) y → x ≡ slice_index_or (slice_set xs (suc at) y1) at x
-    → y2 ≡ slice_index_or (slice_set (slice_set xs (suc at) y1) at x1) (suc at) y2 → Both xs at (suc at) x y y1 x1 y2
-both_at [] at x y y1 x1 y2 within one two three = absurd (omega arith)
-both_at (a ∷ []) zero x y y1 x1 y2 within one two three = absurd (omega arith)
-both_at (a ∷ b ∷ xs) zero x y y1 x1 y2 within one two three =
-    let first : x ≡ a = two in
-    let second : y ≡ b = one in
-    let between : y2 ≡ y1 = three in
-    record { above = []; below = xs; place = refl; split = rw (first, second) refl; between = between; setting = λ z. refl }
-both_at (a ∷ xs) (suc at) x y y1 x1 y2 within one two three =
-    let rest = both_at xs at x y y1 x1 y2 (omega arith) one two three in
-    record { above = a ∷ rest.above; below = rest.below; place = ap suc rest.place; split = ap (λ l. a ∷ l) rest.split; between = rest.between; setting = λ z. ap (λ l. a ∷ l) (rest.setting z) }
-
-pub both_of : {A : Type 0} (xs : List A) (at : ℕ) (x y y1 x1 y2 : A) → at + 1 < length xs → y ≡ slice_index_or xs (at + 1) y → x ≡ slice_index_or (slice_set xs (at + 1) y1) at x
-    → y2 ≡ slice_index_or (slice_set (slice_set xs (at + 1) y1) at x1) (at + 1) y2 → Both xs at (at + 1) x y y1 x1 y2
-both_of {A} xs at x y y1 x1 y2 =
-    let next : suc at ≡ at + 1 = omega arith in
-    subst (λ (n : ℕ). n < length xs → y ≡ slice_index_or xs n y → x ≡ slice_index_or (slice_set xs n y1) at x → y2 ≡ slice_index_or (slice_set (slice_set xs n y1) at x1) n y2 → Both xs at n x y y1 x1 y2) next
-    (both_at xs at x y y1 x1 y2)
-
--- ---- what a Put came to
-
-module _ {S V : Type 0} (items : V → List GivenReply) (at : ℕ) where
-  abbrev pub puts_of : Linked S → List Envelope
-  puts_of m = m.puts
-
-  -- what became of the member and of the link on
-  abbrev pub TookPut : ℕ → Linked S → Linked S → List Envelope → List Envelope → Result (Option V) Refusal → Type 0
-  TookPut slot m g to then (Ok None) = (m.puts ≡ []) × ((g ≡ m) × (then ≡ to))
-  TookPut slot m g to then (Ok (Some given)) = (g ≡ record m { node = g.node; puts = g.puts }) × PassesTo slot m.node g.node m.puts g.puts to then (items given)
-  TookPut slot m g to then (Err refusal) = IsRefused slot m.node.state m.puts (number_of refusal) × ((g ≡ m) × (then ≡ to))
-
-  pub took_put : (slot : ℕ) (m g : Linked S) (to then : List Envelope) (r : Result (Option V) Refusal) → IfOk r (λ taken. IfNone taken ((m.puts ≡ []) × ((g ≡ m) × (then ≡ to))))
-      → IfOk r (λ taken. IfSome taken (λ given. (g ≡ record m { node = g.node; puts = g.puts }) × PassesTo slot m.node g.node m.puts g.puts to then (items given)))
-      → IfErr r (λ refusal. IsRefused slot m.node.state m.puts (number_of refusal) × ((g ≡ m) × (then ≡ to))) → TookPut slot m g to then r
-  took_put slot m g to then (Ok None) none some refused = none
-  took_put slot m g to then (Ok (Some given)) none some refused = some
-  took_put slot m g to then (Err refusal) none some refused = refused
-
-  -- and of the chain
-  abbrev pub PutCame : Chained S → Chained S → Result (Option V) Refusal → Type 0
-  PutCame old new (Ok None) = HasNone puts_of at old new
-  PutCame old new (Ok (Some given)) = PutComes at old new (items given)
-  PutCame old new (Err refusal) = Refuses puts_of at at old new refusal
-
-  pub put_none : (old new : Chained S) (r : Result (Option V) Refusal) → PutCame old new r → IfOk r (λ taken. IfNone taken (HasNone puts_of at old new))
-  put_none old new (Ok None) came = came
-  put_none old new (Ok (Some given)) came = tt
-  put_none old new (Err refusal) came = tt
-
-  pub put_some : (old new : Chained S) (r : Result (Option V) Refusal) → PutCame old new r → IfOk r (λ taken. IfSome taken (λ given. PutComes at old new (items given)))
-  put_some old new (Ok None) came = tt
-  put_some old new (Ok (Some given)) came = came
-  put_some old new (Err refusal) came = tt
-
-  pub put_refused : (old new : Chained S) (r : Result (Option V) Refusal) → PutCame old new r → IfErr r (Refuses puts_of at at old new)
-  put_refused old new (Ok None) came = tt
-  put_refused old new (Ok (Some given)) came = tt
-  put_refused old new (Err refusal) came = came
-
-  module _ (old : Chained S) (slot : ℕ) (above : List (Linked S)) (m g : Linked S) (place : length above ≡ at) (to then : List Envelope) where
-    has_none : (ms below : List (Linked S)) → old.members ≡ above ++ m ∷ below → m.puts ≡ [] → ms ≡ old.members → HasNone puts_of at old (record old { members = ms })
-    has_none ms below were idle same = record {
-      empty = subst (λ o. IfSome o (λ (x : Linked S). x.puts ≡ [])) (sym (ap (λ l. slice_get l at) were ∙ get_there above m below at place)) idle;
-      same = ap (λ (l : List (Linked S)). record old { members = l }) same;
+  -- by a submit link
+  module _ (long_links : length old.links ≡ 64) (long : length old.submits ≡ 64) (was : link_at old.submits from before.node.state.place.slot ≡ first ∷ rest) where
+    abbrev given_number : Chained S
+    given_number = record old {
+      members = slice_set old.members at (record before { node = node });
+      links = slice_set old.links (8 * before.node.state.place.slot + to) then;
+      submits = slice_set old.submits (8 * from + before.node.state.place.slot) left;
     }
 
-    has_refused : (ms below : List (Linked S)) (refusal : Refusal) → old.members ≡ above ++ m ∷ below → IsRefused slot m.node.state m.puts (number_of refusal) → ms ≡ old.members → Refuses puts_of at at old (record old { members = ms }) refusal
-    has_refused ms below refusal were refused same =
-        let here : slice_get old.members at ≡ Some m = ap (λ l. slice_get l at) were ∙ get_there above m below at place in
-        record { slot = slot; sender = m; member = m; behind = here; here = here; refused = refused; same = ap (λ (l : List (Linked S)). record old { members = l }) same }
+    number_still : node ≡ before.node → left ≡ link_at old.submits from before.node.state.place.slot → then ≡ link_at old.links before.node.state.place.slot to → given_number ≡ old
+    number_still same stays still =
+        ap (λ ms. record given_number { members = ms }) (member_still same)
+        ∙ ap (λ l. record given_number { members = old.members; links = l }) (one_back old.links before.node.state.place.slot to then slot_lt to_lt still)
+        ∙ ap (λ l. record old { submits = l }) (one_back old.submits from before.node.state.place.slot left from_lt slot_lt stays)
 
-    -- before another member
-    pub put_came : (n : Linked S) (below ms : List (Linked S)) (r : Result (Option V) Refusal) → TookPut slot m g to then r → old.members ≡ above ++ m ∷ n ∷ below → to ≡ n.puts
-        → ms ≡ above ++ g ∷ record n { puts = then } ∷ below → PutCame old (record old { members = ms }) r
-    put_came n below ms (Ok None) took were link are = has_none ms (n ∷ below) were took.0 (are ∙ rw (took.1.0, took.1.1, link) (sym were))
-    put_came n below ms (Err refusal) took were link are = has_refused ms (n ∷ below) refusal were took.0 (are ∙ rw (took.1.0, took.1.1, link) (sym were))
-    put_came n below ms (Ok (Some given)) took were link are = record {
-      slot = slot;
-      above = above;
-      member = m;
-      below = n ∷ below;
-      node = g.node;
-      left = g.puts;
-      sent = took.1.sent;
-      place = place;
-      were = were;
-      did = took.1.did;
-      are = ap (λ (l : List (Linked S)). record old { members = l })
-          (are ∙ ap (λ (x : Linked S). above ++ x ∷ record n { puts = then } ∷ below) took.0
-          ∙ ap (λ (ps : List Envelope). above ++ record m { node = g.node; puts = g.puts } ∷ record n { puts = ps } ∷ below) (took.1.behind ∙ ap (λ (l : List Envelope). l ++ took.1.sent) link));
+    pub number_came : (size : ℕ) (result : Result (Option V) Refusal)
+        → HasPassedSo replies size from before.node node (link_at old.submits from before.node.state.place.slot) left (link_at old.links before.node.state.place.slot to) then result
+        → Came replies (λ c. c.submits) (SubmitComes from at old given_number) from at old given_number result
+    number_came size (Ok None) did = record {
+      none = record { member = before; here = here; empty = did.none.0; same = number_still did.none.1.0 did.none.1.1.0 did.none.1.1.1 };
+      comes = record {};
+      refused = record {};
+    }
+    number_came size (Ok (Some given)) did = record {
+      none = record {};
+      comes = submit_comes old at before here from to from_lt slot_lt to_lt node first rest left then (replies given) target long_links long was did.some;
+      refused = record {};
+    }
+    number_came size (Err r) did = record {
+      none = record {};
+      comes = record {};
+      refused = record { member = before; here = here; refused = did.refused.0; same = number_still did.refused.1.0 did.refused.1.1.0 did.refused.1.1.1 };
     }
 
-    -- the last one
-    pub put_came_last : (ms : List (Linked S)) (r : Result (Option V) Refusal) → TookPut slot m g to then r → old.members ≡ above ++ m ∷ [] → ms ≡ above ++ g ∷ [] → PutCame old (record old { members = ms }) r
-    put_came_last ms (Ok None) took were are = has_none ms [] were took.0 (are ∙ rw took.1.0 (sym were))
-    put_came_last ms (Err refusal) took were are = has_refused ms [] refusal were took.0 (are ∙ rw took.1.0 (sym were))
-    put_came_last ms (Ok (Some given)) took were are = record {
-      slot = slot;
-      above = above;
-      member = m;
-      below = [];
-      node = g.node;
-      left = g.puts;
-      sent = took.1.sent;
-      place = place;
-      were = were;
-      did = took.1.did;
-      are = ap (λ (l : List (Linked S)). record old { members = l }) (are ∙ ap (λ (x : Linked S). above ++ x ∷ []) took.0);
-    }
+    pub number_formed : (about : S → About) (result : Result (Option V) Refusal)
+        → HasPassedSo replies (bytes_of old) from before.node node (link_at old.submits from before.node.state.place.slot) left (link_at old.links before.node.state.place.slot to) then result
+        → IsFormed about old → IsFormed about given_number
+    number_formed about result did formed =
+        let stays = leaves replies (bytes_of old) from before.node node (link_at old.submits from before.node.state.place.slot) left (link_at old.links before.node.state.place.slot to) then result did in
+        let formed_so = formed_then old at before (record before { node = node }) here about (is_in_still about (bytes_of old) (link_at old.submits from before.node.state.place.slot) stays) formed in
+        record {
+          members = formed_so.members;
+          all_links = set_long old.links (8 * before.node.state.place.slot + to) then ∙ long_links;
+          all_submits = set_long old.submits (8 * from + before.node.state.place.slot) left ∙ long;
+          links_inside =
+              All-set (All (λ (e : Envelope). IsInside (bytes_of old) e.message)) old.links (8 * before.node.state.place.slot + to) then
+              (did.inside (inside_at (bytes_of old) old.links before.node.state.place.slot to long_links slot_lt to_lt formed.links_inside)) formed.links_inside;
+          submits_inside =
+              All-set (All (λ (e : Envelope). IsInside (bytes_of old) e.message)) old.submits (8 * from + before.node.state.place.slot) left
+              (stays.inside (inside_at (bytes_of old) old.submits from before.node.state.place.slot long from_lt slot_lt formed.submits_inside)) formed.submits_inside;
+        }
 
-  -- it is a chain then
-  pub put_came_formed : (about : S → About) (old new : Chained S) (r : Result (Option V) Refusal) → PutCame old new r → IsFormed about old → IsFormed about new
-  put_came_formed about old new (Ok None) came formed = rw came.same formed
-  put_came_formed about old new (Err refusal) came formed = rw came.same formed
-  put_came_formed about old new (Ok (Some given)) came formed =
-      rw came.are (put_formed about old came.above came.member came.below came.node came.left came.sent came.slot (items given) came.were came.did formed)
+-- ---- what the call of the chain does with the links
 
-  -- and of the one volume
-  pub put_came_goes : (about : S → About) (keeps : S → List ℕ → Type 0) (may_leave_now : S → List ℕ → Type 0) (old new : Chained S) (r : Result (Option V) Refusal) → PutCame old new r → IsFormed about old → AreMembers old.chain.members
-      → (m : Linked S) → slice_get old.members at ≡ Some m → (size : ℕ) → All (IsPutOf (epoch_of m.node.state) size) m.puts
-      → (v : View) (s : State) (events : List ClientEvent) → Shows about keeps may_leave_now old v → StandsFor (bytes_of old) v s → ArePutOut (replies_in items r) events
-      → (w : View) × Shows about keeps may_leave_now new w × Goes (bytes_of old) v w events
-  put_came_goes about keeps may_leave_now old new (Ok None) came formed are m here size linked v s events shows stands put_out = rests about keeps may_leave_now old new v events came.same shows put_out
-  put_came_goes about keeps may_leave_now old new (Err refusal) came formed are m here size linked v s events shows stands put_out = rests about keeps may_leave_now old new v events came.same shows put_out
-  put_came_goes about keeps may_leave_now old new (Ok (Some given)) came formed are m here size linked v s events shows stands put_out =
-      let there : slice_get old.members at ≡ Some came.member = ap (λ l. slice_get l at) came.were ∙ get_there came.above came.member came.below at came.place in
-      let both : Some m ≡ Some came.member = sym here ∙ there in
-      let same : m ≡ came.member = cc both in
-      let in_it = all_at (IsIn about old.id old.seat old.chain old.geometry) old.members at came.member there formed.members in
-      rw came.are (put_goes about old came.above came.member came.below came.node came.left came.sent came.slot (items given) came.were came.did keeps may_leave_now v s events shows stands put_out size
-      (subst (λ (x : Linked S). All (IsPutOf (epoch_of x.node.state) size) x.puts) same linked) in_it.turned
-      (λ b bs is. has_successor about old at came.member b formed in_it are there
-      (ap (λ l. slice_get l (at + 1)) (came.were ∙ ap (λ l. came.above ++ came.member ∷ l) is) ∙ get_next came.above came.member b bs at came.place)))
+-- the links that it takes out of the chain to number a write, and puts back
+pub record Numbering {S : Type 0} (old : Chained S) (before : Linked S) (from to : ℕ) (first : Envelope) (x y queue sent left then : List Envelope) (submits new_submits links new_links : List (List Envelope)) (slot : ℕ) : Type 0 where
+  pub first_is : (rest : List Envelope) × (link_at old.submits from slot ≡ first ∷ rest)
+  pub to_is : to ≡ unwrap_or (target_of before.node.state first.message) slot
+  pub from_lt : from < 8
+  pub slot_lt : slot < 8
+  pub to_lt : to < 8
+  pub lent : submits ≡ slice_set old.submits (8 * from + slot) x
+  pub queue_is : queue ≡ link_at old.submits from slot
+  pub lent_too : links ≡ slice_set old.links (8 * slot + to) y
+  pub sent_is : sent ≡ link_at old.links slot to
+  pub back : new_links ≡ slice_set links (8 * slot + to) then
+  pub back_too : new_submits ≡ slice_set submits (8 * from + slot) left
 
--- ---- two members of a chain, whose link is taken out and put back
+-- and to take a message
+pub record Taking {S : Type 0} (old : Chained S) (before : Linked S) (from to : ℕ) (first : Envelope) (x y queue sent left then : List Envelope) (one two three four : List (List Envelope)) (slot : ℕ) : Type 0 where
+  pub apart : from ≢ slot
+  pub first_is : (rest : List Envelope) × (link_at old.links from slot ≡ first ∷ rest)
+  pub to_is : to ≡ unwrap_or (target_of before.node.state first.message) slot
+  pub from_lt : from < 8
+  pub slot_lt : slot < 8
+  pub to_lt : to < 8
+  pub lent : one ≡ slice_set old.links (8 * from + slot) x
+  pub queue_is : queue ≡ link_at old.links from slot
+  pub lent_too : two ≡ slice_set one (8 * slot + to) y
+  pub sent_is : sent ≡ link_at one slot to
+  pub back : three ≡ slice_set two (8 * slot + to) then
+  pub back_too : four ≡ slice_set three (8 * from + slot) left
 
-module _ {S : Type 0} (about : S → About) (old : Chained S) (at : ℕ) (n n0 m g n2 : Linked S) (none to then : List Envelope)
-    (within : at + 1 < length old.members) (second : n ≡ slice_index_or old.members (at + 1) n) (out : n0 ≡ record n { puts = none }) (link : to ≡ n.puts)
-    (first : m ≡ slice_index_or (slice_set old.members (at + 1) n0) at m) (again : n2 ≡ slice_index_or (slice_set (slice_set old.members (at + 1) n0) at g) (at + 1) n2) where
-  pair : Both old.members at (at + 1) m n n0 g n2
-  pair = both_of old.members at m n n0 g n2 within second first again
+-- what the call leaves
+pub record Left {S V : Type 0} (replies : V → List GivenReply) (about : S → About) (links_of : Chained S → List (List Envelope)) (Comes : ℕ → ℕ → Chained S → Chained S → List GivenReply → Type 0) (from at : ℕ) (old new : Chained S)
+    (result : Result (Option V) Refusal) : Type 0 where
+  pub came : Came replies links_of (Comes from at old new) from at old new result
+  pub formed : IsFormed about new
 
-  pub first_here : slice_get old.members at ≡ Some m
-  first_here = ap (λ l. slice_get l at) pair.split ∙ get_there pair.above m (n ∷ pair.below) at pair.place
+-- what it says of the links is of these
+passed_so : {S V : Type 0} (replies : V → List GivenReply) (size bytes from : ℕ) (old new : Seen S) (link there left to then_to then : List Envelope) (result : Result (Option V) Refusal) → size ≡ bytes → link ≡ there → to ≡ then_to
+    → HasPassedSo replies size from old new link left to then result → HasPassedSo replies bytes from old new there left then_to then result
+passed_so replies size bytes from old new link there left to then_to then result sizes here behind did =
+    subst (λ l. HasPassedSo replies bytes from old new there left l then result) behind
+    (subst (λ l. HasPassedSo replies bytes from old new l left to then result) here (subst (λ n. HasPassedSo replies n from old new link left to then result) sizes did))
 
-  second_here : slice_get old.members (at + 1) ≡ Some n
-  second_here = ap (λ l. slice_get l (at + 1)) pair.split ∙ get_next pair.above m n pair.below at pair.place
+-- the sizes of a member's store are the chain's
+pub sizes_are : {S : Type 0} (about : S → About) (old : Chained S) (at : ℕ) (before : Linked S) → slice_get old.members at ≡ Some before → IsFormed about old → size_of (about before.node.store) ≡ bytes_of old
+sizes_are about old at before here formed = ap (λ (sizes : Geometry). 4096 * sizes.blocks) (in_at about old at before here formed).sizes
 
-  -- what is put back belongs on the link
-  pub back_fits : IsFormed about old → All (IsPutOf (epoch_of n.node.state) (size_of (about n.node.store))) to
-      → (All (IsPutOf (epoch_of m.node.state) (size_of (about m.node.store))) to → All (IsPutOf (epoch_of m.node.state) (size_of (about m.node.store))) then)
-      → All (IsPutOf (epoch_of n2.node.state) (size_of (about n2.node.store))) then
-  back_fits formed linked sends =
-      let m_in = all_at (IsIn about old.id old.seat old.chain old.geometry) old.members at m first_here formed.members in
-      let n_in = all_at (IsIn about old.id old.seat old.chain old.geometry) old.members (at + 1) n second_here formed.members in
-      let epochs : epoch_of m.node.state ≡ epoch_of n.node.state = ap (λ (r : Record). r.epoch) (m_in.told ∙ sym n_in.told) in
-      let sizes : size_of (about m.node.store) ≡ size_of (about n.node.store) = ap (λ (x : Geometry). 4096 * x.blocks) (m_in.sizes ∙ sym n_in.sizes) in
-      let same : n2 ≡ record n { puts = none } = pair.between ∙ out in
-      let given = sends (subst (λ (size : ℕ). All (IsPutOf (epoch_of m.node.state) size) to) (sym sizes) (subst (λ (epoch : ℕ). All (IsPutOf epoch (size_of (about n.node.store))) to) (sym epochs) linked)) in
-      subst (λ (x : Linked S). All (IsPutOf (epoch_of x.node.state) (size_of (about x.node.store))) then) (sym same)
-      (subst (λ (epoch : ℕ). All (IsPutOf epoch (size_of (about n.node.store))) then) epochs (subst (λ (size : ℕ). All (IsPutOf (epoch_of m.node.state) size) then) sizes given))
+module _ {S V : Type 0} (replies : V → List GivenReply) (about : S → About) (old : Chained S) (from at to : ℕ) (before : Linked S) (here : slice_get old.members at ≡ Some before) (node : Seen S) (first : Envelope)
+    (x y queue sent left then : List Envelope) (result : Result (Option V) Refusal) (formed : IsFormed about old) (did : HasPassedSo replies (size_of (about before.node.store)) from before.node node queue left sent then result) where
+  pub number_left : (submits new_submits links new_links : List (List Envelope)) (slot : ℕ) → slot ≡ before.node.state.place.slot → Numbering old before from to first x y queue sent left then submits new_submits links new_links slot
+      → Left replies about (λ c. c.submits) SubmitComes from at old (record old { members = slice_set old.members at (record before { node = node }); links = new_links; submits = new_submits }) result
+  number_left submits new_submits links new_links slot slot_is has = subst (λ n. Numbering old before from to first x y queue sent left then submits new_submits links new_links n
+      → Left replies about (λ c. c.submits) SubmitComes from at old (record old { members = slice_set old.members at (record before { node = node }); links = new_links; submits = new_submits }) result) (sym slot_is)
+      (λ is.
+      let own = before.node.state.place.slot in
+      let target = target_is (target_of before.node.state first.message) to own is.to_is in
+      let did_so = passed_so replies (size_of (about before.node.store)) (bytes_of old) from before.node node queue (link_at old.submits from own) left sent (link_at old.links own to) then result (sizes_are about old at before here formed) is.queue_is is.sent_is did in
+      let links_are : new_links ≡ slice_set old.links (8 * own + to) then = is.back ∙ ap (λ l. slice_set l (8 * own + to) then) is.lent_too ∙ set_again old.links (8 * own + to) y then in
+      let submits_are : new_submits ≡ slice_set old.submits (8 * from + own) left = is.back_too ∙ ap (λ l. slice_set l (8 * from + own) left) is.lent ∙ set_again old.submits (8 * from + own) x left in
+      subst (λ l. Left replies about (λ c. c.submits) SubmitComes from at old (record old { members = slice_set old.members at (record before { node = node }); links = l; submits = new_submits }) result) (sym links_are)
+      (subst (λ l. Left replies about (λ c. c.submits) SubmitComes from at old (record old { members = slice_set old.members at (record before { node = node }); links = slice_set old.links (8 * own + to) then; submits = l }) result) (sym submits_are)
+      (record {
+        came = number_came replies old from at to before here is.from_lt is.slot_lt is.to_lt node first is.first_is.0 left then target formed.all_links formed.all_submits is.first_is.1 (bytes_of old) result did_so;
+        formed = number_formed replies old from at to before here is.from_lt is.slot_lt is.to_lt node first is.first_is.0 left then target formed.all_links formed.all_submits is.first_is.1 about result did_so formed;
+      }))
+      ) has
 
-  -- so a Put came
-  pub put_between : {V : Type 0} (items : V → List GivenReply) (slot : ℕ) (n3 : Linked S) (r : Result (Option V) Refusal) → n3 ≡ record n2 { puts = then }
-      → IfOk r (λ taken. IfNone taken ((m.puts ≡ []) × ((g ≡ m) × (then ≡ to))))
-      → IfOk r (λ taken. IfSome taken (λ given. (g ≡ record m { node = g.node; puts = g.puts }) × PassesTo slot m.node g.node m.puts g.puts to then (items given)))
-      → IfErr r (λ refusal. IsRefused slot m.node.state m.puts (number_of refusal) × ((g ≡ m) × (then ≡ to)))
-      → PutCame items at old (record old { members = slice_set (slice_set (slice_set old.members (at + 1) n0) at g) (at + 1) n3 }) r
-  put_between items slot n3 r back idle some refused =
-      let is : n3 ≡ record n { puts = then } = back ∙ ap (λ (x : Linked S). record x { puts = then }) (pair.between ∙ out) in
-      put_came items at old slot pair.above m g pair.place to then n pair.below _ r (took_put items at slot m g to then r idle some refused) pair.split link
-      (pair.setting n3 ∙ ap (λ (x : Linked S). pair.above ++ g ∷ x ∷ pair.below) is)
+  pub message_left : (one two three four_links : List (List Envelope)) (slot : ℕ) → slot ≡ before.node.state.place.slot → Taking old before from to first x y queue sent left then one two three four_links slot
+      → Left replies about (λ c. c.links) MessageComes from at old (record old { members = slice_set old.members at (record before { node = node }); links = four_links }) result
+  message_left one two three four_links slot slot_is has = subst (λ n. Taking old before from to first x y queue sent left then one two three four_links n
+      → Left replies about (λ c. c.links) MessageComes from at old (record old { members = slice_set old.members at (record before { node = node }); links = four_links }) result) (sym slot_is)
+      (λ is.
+      let own = before.node.state.place.slot in
+      let target = target_is (target_of before.node.state first.message) to own is.to_is in
+      let sent_so : sent ≡ link_at old.links own to = is.sent_is ∙ ap (λ l. link_at l own to) is.lent ∙ second_was old.links from own to is.from_lt is.slot_lt is.to_lt is.apart x in
+      let did_so = passed_so replies (size_of (about before.node.store)) (bytes_of old) from before.node node queue (link_at old.links from own) left sent (link_at old.links own to) then result (sizes_are about old at before here formed) is.queue_is sent_so did in
+      let links_are : four_links ≡ slice_set (slice_set old.links (8 * from + own) left) (8 * own + to) then =
+      is.back_too ∙ ap (λ l. slice_set l (8 * from + own) left) (is.back ∙ ap (λ l. slice_set l (8 * own + to) then) (is.lent_too ∙ ap (λ l. slice_set l (8 * own + to) y) is.lent))
+      ∙ four old.links from own to is.from_lt is.slot_lt is.to_lt is.apart x y then left in
+      subst (λ l. Left replies about (λ c. c.links) MessageComes from at old (record old { members = slice_set old.members at (record before { node = node }); links = l }) result) (sym links_are)
+      (record {
+        came = message_came replies old from at to before here is.from_lt is.slot_lt is.to_lt node first is.first_is.0 left then target is.apart formed.all_links is.first_is.1 (bytes_of old) result did_so;
+        formed = message_formed replies old from at to before here is.from_lt is.slot_lt is.to_lt node first is.first_is.0 left then target is.apart formed.all_links is.first_is.1 about result did_so formed;
+      })
+      ) has
 
-module _ {S : Type 0} (old : Chained S) (at : ℕ) (m g : Linked S) (to then : List Envelope) (within : at < length old.members) (far : length old.members ≤ at + 1) (last : m ≡ slice_index_or old.members at m) where
-  end : Last old.members at m
-  end = last_of_list old.members at m within far last
-
-  pub last_here : slice_get old.members at ≡ Some m
-  last_here = ap (λ l. slice_get l at) end.split ∙ get_there end.above m [] at end.place
-
-  -- or to the last member
-  pub put_at_end : {V : Type 0} (items : V → List GivenReply) (slot : ℕ) (r : Result (Option V) Refusal)
-      → IfOk r (λ taken. IfNone taken ((m.puts ≡ []) × ((g ≡ m) × (then ≡ to))))
-      → IfOk r (λ taken. IfSome taken (λ given. (g ≡ record m { node = g.node; puts = g.puts }) × PassesTo slot m.node g.node m.puts g.puts to then (items given)))
-      → IfErr r (λ refusal. IsRefused slot m.node.state m.puts (number_of refusal) × ((g ≡ m) × (then ≡ to)))
-      → PutCame items at old (record old { members = slice_set old.members at g }) r
-  put_at_end items slot r idle some refused =
-      put_came_last items at old slot end.above m g end.place to then _ r (took_put items at slot m g to then r idle some refused) end.split (end.setting g)
+-- no message came, or the link is its own
+pub or_itself : {V E : Type 0} (P Q : Type 0) (result : Result (Option V) E) → IfOk result (λ taken. IfNone taken P) → IfOk result (λ taken. IfNone taken (P ⊎ Q))
+or_itself P Q (Ok None) none = inl none
+or_itself P Q (Ok (Some given)) none = record {}
+or_itself P Q (Err r) none = record {}

@@ -16,24 +16,25 @@ use Rattle.local_store.specs.Meaning.{Means}
 use Rattle.version_table.specs.Held.{Held, writes_upto}
 use Rattle.volume.specs.Writes.{patched}
 use Rattle.chain_steps.specs.Node.{Commit, NodeState, Out, durable_of}
+use Rattle.chain_steps.specs.Place.{is_member}
 use Rattle.chain_steps.specs.Steps.{stop, volume_at}
 use Rattle.chain_steps.specs.declared.cause.Cause.{Cause}
 use Rattle.chain_steps.specs.declared.cause.Cause.TheVariants.{Device, Disorder, Memory, Told as ByWord}
 use Rattle.chain_core.specs.Commits.{HasStoppedBy, HasWorked}
 use Rattle.chain_core.specs.Node.{Seen}
 use Rattle.world_model.specs.Backing.{Disk, IsBacked, IsOnDisk}
-use Rattle.world_model.specs.Chain.{ArePutOut, Member, BoardInUse, View, disk_of}
-use Rattle.world_model.specs.ChainSteps.{all_between, flat_same, flat_split}
-use Rattle.world_model.specs.Counting.{all_before, all_behind}
+use Rattle.world_model.specs.Chain.{ArePutOut, BoardInUse}
+use Rattle.world_model.proofs.Counting.{all_before, all_behind, all_between, flat_same, flat_split}
 use Rattle.world_model.specs.Event.{ClientEvent}
-use Rattle.world_model.specs.Life.{BeginCommit, BoardTells, Stop}
+use Rattle.chain_model.specs.Life.{BeginCommit, BoardTells, Stop}
+use Rattle.chain_model.specs.View.{Member, View, disks_of}
 use Rattle.chain.specs.Chain.{Chained, Goes, IsFormed, Shows, bytes_of, gauges_from, told_of}
 use Rattle.chain.specs.Commits.{HasBegunCommits, HasCheckpointed, HasNoGroup, HasNoNumber, HasStoppedTold, HasTicked, LeavesAt, MeansOld, StopsAt, replies_of}
 use Rattle.chain.specs.LoneBoard.{Words, posted}
 use Rattle.chain.specs.Passing.{replies_in}
 use Rattle.chain.specs.Member.{HasCalled, IsLeft, IsShown, Linked, fronts_of, member_of, musters_of, receipts_of}
 use Rattle.chain.proofs.Cells.{place_of, set_there, twin_of}
-use Rattle.chain.proofs.Orderly.{device_is_one, memory_is_one, told_is_one}
+use Rattle.chain.proofs.Causes.{device_is_one, memory_is_one, told_is_one}
 use Rattle.chain.proofs.Stepping.{UsesAsBefore, formed_then, one_does, shown_still}
 
 -- ---- the disk
@@ -62,9 +63,6 @@ left_durable about volume node c durable behind means = (
 pub record Remains {S : Type 0} (about : S → About) (old new : Seen S) : Type 0 where
   pub board : new.state.board ≡ old.state.board
   pub place : new.state.place ≡ old.state.place
-  pub incarnation : new.state.incarnation ≡ old.state.incarnation
-  pub turned : new.state.turned ≡ old.state.turned
-  pub holds : new.state.holds ≡ old.state.holds
   pub geometry : (about new.store).geometry ≡ (about old.store).geometry
 
 -- the member with another store and state
@@ -74,14 +72,10 @@ with_node before store state = record before { node = record { store = store; st
 module _ {S : Type 0} (about : S → About) (old : Chained S) (at : ℕ) (before : Linked S) (here : slice_get old.members at ≡ Some before) where
   pub formed_called : (after : Linked S) → after ≡ record before { node = after.node } → Remains about before.node after.node → IsFormed about old → IsFormed about (record old { members = slice_set old.members at after })
   formed_called after are stays formed = formed_then old at before after here about
-      (rw (stays.place, stays.incarnation) refl)
-      (λ idle. ap (λ x. x.puts) are ∙ idle)
       (λ is. record {
         board = stays.board ∙ is.board;
-        told = ap (λ p. p.chain) stays.place ∙ is.told;
-        turned = stays.turned ∙ is.turned;
-        free = stays.holds ∙ is.free;
         sizes = stays.geometry ∙ is.sizes;
+        member = ap is_member stays.place ∙ is.member;
         front = rw (ap (λ x. x.front) are) is.front;
         muster = rw (ap (λ x. x.muster) are) is.muster;
       })
@@ -142,25 +136,16 @@ remains_by : {S : Type 0} (about : S → About) (old new : Seen S) (replies : Li
 remains_by about old new replies same (inl is) = record {
   board = ap (λ n. n.board) is.0;
   place = ap (λ n. n.place) is.0;
-  incarnation = ap (λ n. n.incarnation) is.0;
-  turned = ap (λ n. n.turned) is.0;
-  holds = ap (λ n. n.holds) is.0;
   geometry = same;
 }
 remains_by about old new replies same (inr (inl is)) = record {
   board = ap (λ n. n.board) is.1;
   place = ap (λ n. n.place) is.1;
-  incarnation = ap (λ n. n.incarnation) is.1;
-  turned = ap (λ n. n.turned) is.1;
-  holds = ap (λ n. n.holds) is.1;
   geometry = same;
 }
 remains_by about old new replies same (inr (inr is)) = record {
   board = ap (λ n. n.board) is.2;
   place = ap (λ n. n.place) is.2;
-  incarnation = ap (λ n. n.incarnation) is.2;
-  turned = ap (λ n. n.turned) is.2;
-  holds = ap (λ n. n.holds) is.2;
   geometry = same;
 }
 
@@ -198,7 +183,7 @@ board_tells {size} v told over m under events are front backed fronts put_out = 
     [],
     [],
     refl,
-    (record { told = told; front = front; backed = backed (map disk_of v.members); fronts = fronts; are = ap (λ (ms : List Member). record v { told = told; members = ms }) (sym are) }, refl),
+    (record { told = told; front = front; backed = backed (disks_of v.recorded v.writing v.members); fronts = fronts; are = ap (λ (ms : List Member). record v { told = told; members = ms }) (sym are) }, refl),
     (refl, refl),
   );
   all = sym put_out;
@@ -231,7 +216,12 @@ module _ {S : Type 0} (about : S → About) (keeps : S → List ℕ → Type 0) 
         record v { told = told_of (with_words words after); members = twin.over ++ did.0 ∷ twin.under },
         record {
           told = refl;
+          recorded = shows.recorded;
+          before = shows.before;
+          writing = shows.writing;
           members = subst (λ l. AllZip IsSo l (twin.over ++ did.0 ∷ twin.under)) (sym (place.setting after)) (twin.others after did.0 place.below twin.under did.1 twin.rest);
+          links = shows.links;
+          submits = shows.submits;
         },
         did.2,
       )
@@ -277,12 +267,12 @@ module _ {S : Type 0} (about : S → About) (keeps : S → List ℕ → Type 0) 
     ))
 
     -- the member stopped
-    halted_goes : (cause : Cause) → cause ≢ Disorder → ArePutOut (stop cause before.node.state).out.replies events → Leads (with_node before store (stop cause before.node.state).node) v events
-    halted_goes cause other put_out = one_does about keeps may_leave_now old at before _ here (Stop cause) v events (record { front = refl; muster = refl; receipt = refl }) shows (λ m so. (
+    halted_goes : (cause : Cause) → before.node.state.stopped ≡ None → cause ≢ Disorder → ArePutOut (stop cause before.node.state).out.replies events → Leads (with_node before store (stop cause before.node.state).node) v events
+    halted_goes cause on other put_out = one_does about keeps may_leave_now old at before _ here (Stop cause) v events (record { front = refl; muster = refl; receipt = refl }) shows (λ m so. (
       record m { node = (stop cause m.node).node },
       shown_over about keeps may_leave_now (bytes_of old) before m so store _ _ (ap (λ (x : Member). record x { node = (stop cause x.node).node }) so.is) refl disk refl refl
           (λ runs. let no : Some cause ≡ None = runs in absurd (cc)) (left m so),
-      (other, subst (λ n. ArePutOut (stop cause n).out.replies events) (sym (ap (λ (x : Member). x.node) so.is)) put_out, refl),
+      (ap (λ (x : Member). x.node.stopped) so.is ∙ on, other, subst (λ n. ArePutOut (stop cause n).out.replies events) (sym (ap (λ (x : Member). x.node) so.is)) put_out, refl),
     ))
 
   -- what a stop at any moment of a call leaves, where the member ran
@@ -318,7 +308,7 @@ module _ {S : Type 0} (about : S → About) (keeps : S → List ℕ → Type 0) 
         go : Outcome before.node.state after.node.state replies → Leads after v events
         go (inl is) = becomes _ is.0 (works_goes after.node.store works.disk v events shows left (λ m so runs. kept m so (ap (λ n. n.stopped) is.0 ∙ runs)) (subst (λ rs. ArePutOut rs events) is.1 put_out))
         go (inr (inl is)) = becomes _ is.1 (begun_goes after.node.store works.disk v events shows left is.0 (λ m so runs. kept m so (ap (λ n. n.stopped) is.1 ∙ runs)) (subst (λ rs. ArePutOut rs events) is.2 put_out))
-        go (inr (inr is)) = becomes _ is.2 (halted_goes after.node.store works.disk v events shows left is.0 is.1 (subst (λ rs. ArePutOut rs events) is.3 put_out))
+        go (inr (inr is)) = becomes _ is.2 (halted_goes after.node.store works.disk v events shows left is.0 works.runs is.1 (subst (λ rs. ArePutOut rs events) is.3 put_out))
 
     module _ (moment : S → ℕ) (left_since : S → ℕ → List ℕ → Type 0) (keeping : Keeps keeps about moment left_since before after) where
       pub works_leaves : LeavesAt about keeps may_leave_now moment left_since at old (record old { members = slice_set old.members at after })
@@ -335,16 +325,13 @@ module _ {S : Type 0} (about : S → About) (keeps : S → List ℕ → Type 0) 
         (record {
           board = ap (λ x. x.node.state.board) did.are;
           place = ap (λ x. x.node.state.place) did.are;
-          incarnation = ap (λ x. x.node.state.incarnation) did.are;
-          turned = ap (λ x. x.node.state.turned) did.are;
-          holds = ap (λ x. x.node.state.holds) did.are;
           geometry = ap (λ x. (about x.node.store).geometry) did.are;
         })
         formed
 
     pub told_goes : (v : View) (events : List ClientEvent) → ShowsSo old v → ArePutOut replies events → Leads after v events
     told_goes v events shows put_out = subst (λ x. Leads x v events) (sym did.are)
-        (halted_goes before.node.store refl v events shows (λ m so c may. so.left c may) ByWord told_is_one (subst (λ rs. ArePutOut rs events) did.told put_out))
+        (halted_goes before.node.store refl v events shows (λ m so c may. so.left c may) ByWord did.runs told_is_one (subst (λ rs. ArePutOut rs events) did.told put_out))
 
   -- nothing changes: what a stop leaves is what it left
   pub rests_stops : (IsMeant : Linked S → List ℕ → List ℕ → Type 0) (moment : S → ℕ) (left_since : S → ℕ → List ℕ → Type 0) (after : Linked S) → after ≡ before
@@ -391,8 +378,8 @@ module _ {S : Type 0} (about : S → About) (keeps : S → List ℕ → Type 0) 
 
     pub posted_formed : IsFormed about old → IsFormed about (with_words (posted old.words receipt) rid)
     posted_formed formed =
-        let is = formed_then old at before rid here about refl (λ idle. idle) (λ is. record { board = is.board; told = is.told; turned = is.turned; free = is.free; sizes = is.sizes; front = is.front; muster = is.muster }) formed in
-        record { recorded = is.recorded; head = is.head; members = is.members }
+        let is = formed_then old at before rid here about (λ is. record { board = is.board; sizes = is.sizes; member = is.member; front = is.front; muster = is.muster }) formed in
+        record { members = is.members; all_links = is.all_links; all_submits = is.all_submits; links_inside = is.links_inside; submits_inside = is.submits_inside }
 
     posted_backed : (disks : List Disk) (is : IsBacked old.words.front old.words.mask (told_of old).gauges (told_of old).receipts (told_of old).musters disks)
         → IsBacked old.words.front old.words.mask (told_of (with_words (posted old.words receipt) rid)).gauges (told_of (with_words (posted old.words receipt) rid)).receipts (told_of (with_words (posted old.words receipt) rid)).musters disks

@@ -1,11 +1,11 @@
 -- A commit of a member ends, and the board tells its receipt.
-use Rattle.std.proofs.Common.{◌≡◌, ◌⊎◌, ℕ, suc, ◌*◌, ◌<◌, ◌≤◌, List, [], ◌∷◌, ◌++◌, length, map, refl, ap, sym, subst, ◌∙◌, inl, inr, arith, ◌≢◌}
+use Rattle.std.proofs.Common.{if◌then◌else◌, ◌≡◌, ◌⊎◌, Bool, true, false, ℕ, suc, ◌*◌, ◌<◌, ◌≤◌, List, [], ◌∷◌, ◌++◌, length, map, refl, ap, sym, subst, ◌∙◌, inl, inr, arith, ◌≢◌}
 use Rattle.std.specs.Prelude.{◌≢◌, All, AllPairs, IfNone, IfSome, IsSomeAnd, Option, Some, None, slice_get, slice_set}
 use Rattle.std.specs.Option.{ForSome}
 use Rattle.std.proofs.Math.Nat.{le_refl}
 use Rattle.std.proofs.lemmas.List.{append-nil, map-append}
 use Rattle.std.proofs.lemmas.List.Elements.{All-append, All-cons, All-head, All-nil, All-tail}
-use Rattle.configurations.specs.declared.member.Member as recorded
+use Rattle.configurations.specs.Record.{Record}
 use Rattle.disk_model.specs.Disk.{LeavesOnly}
 use Rattle.disk_model.specs.declared.error.DiskError.TheVariants.{ReadFault}
 use Rattle.flush_barrier.specs.Reply.{GivenReply}
@@ -16,26 +16,28 @@ use Rattle.local_store.specs.Meaning.{Means}
 use Rattle.chain_core.specs.Commits.{HasEnded, HasRunOut, HasStoppedBy}
 use Rattle.chain_core.specs.Node.{IsUnderWay}
 use Rattle.chain_steps.specs.Node.{Commit, NodeState, Out, durable_of}
+use Rattle.chain_steps.specs.Place.{is_member}
 use Rattle.chain_steps.specs.Steps.{ended, stop, volume_at}
 use Rattle.chain_steps.specs.declared.cause.Cause.{Cause}
 use Rattle.chain_steps.specs.declared.cause.Cause.TheVariants.{Device, Disorder, Memory}
 use Rattle.world_model.specs.Backing.{Disk, IsBacked, IsOnDisk}
-use Rattle.world_model.specs.Chain.{ArePutOut, Member, StandsFor, BoardInUse, View, disk_of, slot_of}
-use Rattle.world_model.specs.ChainLaws.{with_members}
-use Rattle.world_model.specs.ChainSteps.{maps_same}
-use Rattle.world_model.specs.Counting.{all_at}
+use Rattle.world_model.specs.Chain.{ArePutOut, BoardInUse}
+use Rattle.world_model.proofs.Counting.{all_at, flat_split, maps_same}
 use Rattle.world_model.specs.Event.{ClientEvent}
-use Rattle.world_model.specs.Life.{BoardTells, Does, Doing, EndCommit, IsTold, MemberDoes}
 use Rattle.world_model.specs.Machine.{State}
+use Rattle.chain_model.specs.Chain.{StandsFor}
+use Rattle.chain_model.specs.Laws.{with_members}
+use Rattle.chain_model.specs.Life.{BoardTells, Does, Doing, EndCommit, IsToldOfDisks, MemberDoes}
+use Rattle.chain_model.specs.View.{Member, View, disk_in, disk_of, disks_of, may_be_recorded, slot_of}
 use Rattle.chain.specs.Chain.{Chained, Goes, IsFormed, Shows, bytes_of, told_of}
 use Rattle.chain.specs.Commits.{EndsAt, HasEndedCommit, MeansEither, kept_of}
 use Rattle.chain.specs.Member.{IsLeft, IsShown, Linked, fronts_of, musters_of, receipts_of}
 use Rattle.chain.proofs.CommitSteps.{Works, disk_told, gathers, gathers_all, left_durable, left_then, one_goes, runs_leaves, works_formed, works_lead_so}
-use Rattle.chain.proofs.Orderly.{device_is_one, memory_is_one}
+use Rattle.chain.proofs.Causes.{device_is_one, memory_is_one}
 use Rattle.chain.proofs.Stepping.{formed_then}
 
 module _ {S : Type 0} (about : S → About) (keeps : S → List ℕ → Type 0) (may_leave_now : S → List ℕ → Type 0) (size : ℕ) (before : Linked S) (m : Member) (so : IsShown about keeps may_leave_now size before m)
-    (store : S) (p : ℕ) (images : List Image) (receipt : Receipt) (tells : about store ≡ one_commit_more (about before.node.store) p images) (above : durable_of before.node.state ≤ p) (known : p ≤ before.node.state.known) where
+    (store : S) (p : ℕ) (images : List Image) (receipt : Receipt) (tells : about store ≡ one_commit_more (about before.node.store) p images) (above : durable_of before.node.state < p) (known : p ≤ before.node.state.known) where
   -- the member once the commit up to p is durable
   abbrev pub committed : Linked S
   committed = record before { node = record { store = store; state = ended p before.node.state }; receipt = Some receipt }
@@ -56,10 +58,11 @@ module _ {S : Type 0} (about : S → About) (keeps : S → List ℕ → Type 0) 
   }
 
   -- and may have done so
-  pub does_end : (v : View) → Does v (EndCommit p) m shown_committed []
-  does_end v =
+  pub does_end : before.node.state.stopped ≡ None → (v : View) → Does v (EndCommit p) m shown_committed []
+  does_end runs v =
       let node : m.node ≡ before.node.state = ap (λ (x : Member). x.node) so.is in (
-        subst (λ n. n.table.forgotten ≤ p) (sym node) above,
+        ap (λ n. n.stopped) node ∙ runs,
+        subst (λ n. n.table.forgotten < p) (sym node) above,
         subst (λ n. p ≤ n.known) (sym node) known,
         ap (λ n. record m { node = ended p n; volume = volume_at m.volume n p }) (sym node),
         refl,
@@ -73,24 +76,33 @@ pairs_around R (x ∷ xs) y ys pairs =
     let ahead : All (λ z. R x z) (xs ++ y ∷ ys) = (λ k d lt. pairs 0 (suc k) d (omega arith) (omega arith)) in
     (All-cons (λ z. R z y) x xs (all_at (λ z. R x z) xs y ys ahead) inner.0, inner.1)
 
+-- a disk of this slot has this front
+abbrev HasAt : ℕ → ℕ → Disk → Type 0
+HasAt slot front d = d.slot ≡ slot → front ≤ d.durable
+
 -- what its disk has is on the disk of its slot: on no other's
-pub receipt_on_disk : (over : List Member) (g : Member) (under : List Member) (front : ℕ) → AllPairs (λ slot other. slot ≢ other) (map slot_of (over ++ g ∷ under)) → front ≤ g.node.table.forgotten
-    → IsOnDisk (map disk_of (over ++ g ∷ under)) (record { slot = slot_of g; front = front })
-receipt_on_disk over g under front apart durable =
+pub receipt_on_disk : (recorded : Record) (writing : Option Record) (over : List Member) (g : Member) (under : List Member) (front : ℕ) → AllPairs (λ slot other. slot ≢ other) (map slot_of (over ++ g ∷ under)) → front ≤ g.node.table.forgotten
+    → IsOnDisk (disks_of recorded writing (over ++ g ∷ under)) (record { slot = slot_of g; front = front })
+receipt_on_disk recorded writing over g under front apart durable =
     let (before, behind) = pairs_around (λ slot other. slot ≢ other) (map slot_of over) (slot_of g) (map slot_of under) (subst (AllPairs (λ slot other. slot ≢ other)) (map-append slot_of over (g ∷ under)) apart) in
-    subst (All (λ d. d.slot ≡ slot_of g → front ≤ d.durable)) (sym (map-append disk_of over (g ∷ under)))
-    (All-append (λ d. d.slot ≡ slot_of g → front ≤ d.durable) (map disk_of over) (disk_of g ∷ map disk_of under)
+    subst (All (HasAt (slot_of g) front)) (sym (flat_split (disk_in recorded writing) over g under))
+    (All-append (HasAt (slot_of g) front) (disks_of recorded writing over) (disk_in recorded writing g ++ disks_of recorded writing under)
     (others over (λ i x within same. before i x within same))
-    (All-cons (λ d. d.slot ≡ slot_of g → front ≤ d.durable) (disk_of g) (map disk_of under) (λ same. durable) (others under (λ i x within same. behind i x within (sym same)))))
+    (All-append (HasAt (slot_of g) front) (disk_in recorded writing g) (disks_of recorded writing under) (in_chain g (may_be_recorded recorded writing g.node) (λ same. durable)) (others under (λ i x within same. behind i x within (sym same)))))
   where
-    others : (ms : List Member) → All (λ slot. slot ≢ slot_of g) (map slot_of ms) → All (λ d. d.slot ≡ slot_of g → front ≤ d.durable) (map disk_of ms)
-    others [] all = λ i d within same. absurd (omega (arith, within))
-    others (x ∷ xs) all = All-cons (λ d. d.slot ≡ slot_of g → front ≤ d.durable) (disk_of x) (map disk_of xs) (λ same. absurd (All-head (λ slot. slot ≢ slot_of g) (slot_of x) (map slot_of xs) all same))
+    in_chain : (x : Member) (b : Bool) → HasAt (slot_of g) front (disk_of x) → All (HasAt (slot_of g) front) (if b then disk_of x ∷ [] else [])
+    in_chain x true has = All-cons (HasAt (slot_of g) front) (disk_of x) [] has (All-nil (HasAt (slot_of g) front))
+    in_chain x false has = All-nil (HasAt (slot_of g) front)
+
+    others : (ms : List Member) → All (λ slot. slot ≢ slot_of g) (map slot_of ms) → All (HasAt (slot_of g) front) (disks_of recorded writing ms)
+    others [] all = All-nil (HasAt (slot_of g) front)
+    others (x ∷ xs) all = All-append (HasAt (slot_of g) front) (disk_in recorded writing x) (disks_of recorded writing xs)
+        (in_chain x (may_be_recorded recorded writing x.node) (λ same. absurd (All-head (λ slot. slot ≢ slot_of g) (slot_of x) (map slot_of xs) all same)))
         (others xs (All-tail (λ slot. slot ≢ slot_of g) (slot_of x) (map slot_of xs) all))
 
 -- a member does so, and then the board tells something else
 pub does_then_tells : {size : ℕ} (v : View) (doing : Doing) (over : List Member) (m g : Member) (under : List Member) (told : BoardInUse) (events : List ClientEvent) → v.members ≡ over ++ m ∷ under → Does v doing m g events
-    → IsTold (with_members v (over ++ g ∷ under)) (record v { told = told; members = over ++ g ∷ under }) → Goes size v (record v { told = told; members = over ++ g ∷ under }) events
+    → IsToldOfDisks (with_members v (over ++ g ∷ under)) (record v { told = told; members = over ++ g ∷ under }) → Goes size v (record v { told = told; members = over ++ g ∷ under }) events
 does_then_tells v doing over m g under told events were did tells = record {
   happenings = MemberDoes doing ∷ BoardTells ∷ [];
   each = events ∷ [] ∷ [];
@@ -177,14 +189,10 @@ module _ {S : Type 0} (premise : Type 0) (about : S → About) (is_pending : S �
 
     with_end_formed : HasAnEnd → IsFormed about old → IsFormed about now
     with_end_formed is formed = formed_then old at before after here about
-        (ap (λ (n : NodeState). let r : recorded.Member = record { slot = n.place.slot; incarnation = n.incarnation } in r) is.ended.node)
-        (λ idle. ap (λ x. x.puts) is.are ∙ idle)
         (λ was. record {
           board = ap (λ (n : NodeState). n.board) is.ended.node ∙ was.board;
-          told = ap (λ (n : NodeState). n.place.chain) is.ended.node ∙ was.told;
-          turned = ap (λ (n : NodeState). n.turned) is.ended.node ∙ was.turned;
-          free = ap (λ (n : NodeState). n.holds) is.ended.node ∙ was.free;
           sizes = ap (λ a. a.geometry) is.ended.tells ∙ was.sizes;
+          member = ap (λ (n : NodeState). is_member n.place) is.ended.node ∙ was.member;
           front = rw (ap (λ x. x.front) is.are) was.front;
           muster = rw (ap (λ x. x.muster) is.are) was.muster;
         })
@@ -224,8 +232,8 @@ module _ {S : Type 0} (premise : Type 0) (about : S → About) (is_pending : S �
           abbrev shown_as : Member → Member
           shown_as m = record m { node = ended is.commit.front before.node.state; volume = volume_at m.volume before.node.state is.commit.front }
 
-          abbrev then : Chained S
-          then = record old { members = slice_set old.members at done }
+          abbrev chain_then : Chained S
+          chain_then = record old { members = slice_set old.members at done }
 
           done_is : after ≡ done
           done_is = is.are ∙ ap (λ (n : NodeState). record before { node = record { store = after.node.store; state = n }; receipt = Some is.receipt }) is.ended.node
@@ -233,23 +241,23 @@ module _ {S : Type 0} (premise : Type 0) (about : S → About) (is_pending : S �
           way : IsUnderWay (about before.node.store) before.node.state is.commit
           way = under is.commit is.was
 
-          above : durable_of before.node.state ≤ is.commit.front
-          above = omega (arith, way.above)
+          above : durable_of before.node.state < is.commit.front
+          above = way.above
 
           none_told : events ≡ []
           none_told = subst (λ rs. ArePutOut rs events) (sym did.told ∙ ap (λ (o : Out). o.replies) is.ended.sent) put_out
 
           -- the receipt is on its disk
-          on_disk : (over : List Member) (m : Member) (others : List Member) → v.members ≡ over ++ m ∷ others → IsSo before m → IsOnDisk (map disk_of (over ++ shown_as m ∷ others)) is.receipt
+          on_disk : (over : List Member) (m : Member) (others : List Member) → v.members ≡ over ++ m ∷ others → IsSo before m → IsOnDisk (disks_of v.recorded v.writing (over ++ shown_as m ∷ others)) is.receipt
           on_disk over m others are fits =
               let (line, backed, stand) = stands in
               let slot : slot_of (shown_as m) ≡ slot_of m = sym (ap (λ (x : Member). x.node.place.slot) fits.is) in
               let apart : AllPairs (λ slot other. slot ≢ other) (map slot_of (over ++ shown_as m ∷ others)) =
               subst (AllPairs (λ slot other. slot ≢ other)) (ap (map slot_of) are ∙ sym (maps_same slot_of over m (shown_as m) others slot)) stand.slots in
-              subst (IsOnDisk (map disk_of (over ++ shown_as m ∷ others))) (sym is.ended.receipt_is) (receipt_on_disk over (shown_as m) others is.commit.front apart (le_refl is.commit.front))
+              subst (IsOnDisk (disks_of v.recorded v.writing (over ++ shown_as m ∷ others))) (sym is.ended.receipt_is) (receipt_on_disk v.recorded v.writing over (shown_as m) others is.commit.front apart (le_refl is.commit.front))
 
           backed_so : (disks : List Disk) → IsOnDisk disks is.receipt → IsBacked old.words.front old.words.mask (told_of old).gauges (told_of old).receipts (told_of old).musters disks
-              → IsBacked old.words.front old.words.mask (told_of then).gauges (told_of then).receipts (told_of then).musters disks
+              → IsBacked old.words.front old.words.mask (told_of chain_then).gauges (told_of chain_then).receipts (told_of chain_then).musters disks
           backed_so disks on was = record {
             mask_covers = was.mask_covers;
             gauges_backed = was.gauges_backed;
@@ -258,12 +266,12 @@ module _ {S : Type 0} (premise : Type 0) (about : S → About) (is_pending : S �
           }
 
           tells : (over : List Member) (m : Member) (others : List Member) → v.members ≡ over ++ m ∷ others → IsSo before m
-              → IsTold (with_members v (over ++ shown_as m ∷ others)) (record v { told = told_of then; members = over ++ shown_as m ∷ others })
+              → IsToldOfDisks (with_members v (over ++ shown_as m ∷ others)) (record v { told = told_of chain_then; members = over ++ shown_as m ∷ others })
           tells over m others are fits = record {
-            told = told_of then;
+            told = told_of chain_then;
             front = sym (ap (λ (t : BoardInUse). t.front) shows.told);
-            backed = λ was. backed_so (map disk_of (over ++ shown_as m ∷ others)) (on_disk over m others are fits)
-                (subst (λ (t : BoardInUse). IsBacked t.front t.mask t.gauges t.receipts t.musters (map disk_of (over ++ shown_as m ∷ others))) shows.told was);
+            backed = λ was. backed_so (disks_of v.recorded v.writing (over ++ shown_as m ∷ others)) (on_disk over m others are fits)
+                (subst (λ (t : BoardInUse). IsBacked t.front t.mask t.gauges t.receipts t.musters (disks_of v.recorded v.writing (over ++ shown_as m ∷ others))) shows.told was);
             fronts = λ all. rw (gathers about keeps may_leave_now old at before here (λ x. fronts_of x.front) done refl) (subst (λ (t : BoardInUse). All (λ f. f ≤ t.front) t.fronts) shows.told all);
             are = refl;
           }
@@ -273,8 +281,8 @@ module _ {S : Type 0} (premise : Type 0) (about : S → About) (is_pending : S �
             shown_as m,
             shown_ended about keeps may_leave_now (bytes_of old) before m fits after.node.store is.commit.front is.commit.images is.receipt is.ended.tells above way.known
                 did.runs (is.kept so m.volume (fits.keeping did.runs)) (λ volume c. means_now after.node.store volume c) keeps_size,
-            does_then_tells v (EndCommit is.commit.front) over m (shown_as m) others (told_of then) [] are
-                (does_end about keeps may_leave_now (bytes_of old) before m fits after.node.store is.commit.front is.commit.images is.receipt is.ended.tells above way.known v) (tells over m others are fits),
+            does_then_tells v (EndCommit is.commit.front) over m (shown_as m) others (told_of chain_then) [] are
+                (does_end about keeps may_leave_now (bytes_of old) before m fits after.node.store is.commit.front is.commit.images is.receipt is.ended.tells above way.known did.runs v) (tells over m others are fits),
           ))
 
           with_end : Leads after v events

@@ -15,18 +15,20 @@ use Rattle.gate_journal.specs.Receipt.{Receipt}
 use Rattle.local_store.specs.About.{About}
 use Rattle.chain_core.specs.Node.{IsStepOrStop, Seen}
 use Rattle.chain_steps.specs.Node.{NodeState, Out}
+use Rattle.chain_steps.specs.Place.{is_member}
 use Rattle.chain_steps.specs.Steps.{answer_floor, stop}
 use Rattle.chain_steps.specs.declared.cause.Cause.TheVariants as causes
 use Rattle.world_model.specs.Backing.{Disk, IsBacked, IsMustered, IsOnDisk, IsWhole}
 use Rattle.world_model.specs.Backing as model
-use Rattle.world_model.specs.BackingSteps.{backs_crew, floor_is_backed, musters_gauge}
-use Rattle.world_model.specs.Chain.{ArePutOut, Member, StandsFor, BoardInUse, View, disk_of}
-use Rattle.world_model.specs.ChainLaws.{with_members}
-use Rattle.world_model.specs.ChainSteps.{flat_same, flat_split}
-use Rattle.world_model.specs.Counting.{all_before, all_behind}
+use Rattle.world_model.proofs.BackingSteps.{backs_crew, floor_is_backed, musters_gauge}
+use Rattle.world_model.specs.Chain.{ArePutOut, BoardInUse}
+use Rattle.world_model.proofs.Counting.{all_before, all_behind, flat_same, flat_split}
 use Rattle.world_model.specs.Event.{ClientEvent}
 use Rattle.world_model.specs.Machine.{State}
-use Rattle.world_model.specs.Life.{AnswerFloor, BoardTells, Does, Doing, IsTold, MemberDoes, Stop}
+use Rattle.chain_model.specs.Chain.{StandsFor}
+use Rattle.chain_model.specs.Laws.{with_members}
+use Rattle.chain_model.specs.Life.{AnswerFloor, BoardTells, Does, Doing, IsToldOfDisks, MemberDoes, Stop}
+use Rattle.chain_model.specs.View.{Member, View, disks_of}
 use Rattle.chain.specs.Chain.{Chained, Goes, IsFormed, IsIn, Shows, bytes_of, gauges_from, told_of}
 use Rattle.chain.specs.LoneBoard.{FoundGauge, gauge_in, gauges_of, least_of}
 use Rattle.chain.specs.Member.{IsFrontOf, IsMusterOf, IsShown, Linked, fronts_of, gauge_seen, muster_seen, musters_of, receipts_of}
@@ -34,7 +36,7 @@ use Rattle.chain.specs.Musters.{HasFound, HasGauged, HasMustered, HasSettled}
 use Rattle.chain.specs.Muster.{next_of}
 use Rattle.chain.specs.declared.muster.Muster.{Muster}
 use Rattle.chain.proofs.Cells.{place_of, twin_of}
-use Rattle.chain.proofs.Orderly.{memory_is_one}
+use Rattle.chain.proofs.Causes.{memory_is_one}
 use Rattle.chain.proofs.Stepping.{all_at, formed_then, shown_still}
 
 -- ---- what members have, gathered
@@ -80,8 +82,8 @@ none_then None N C none h = h none
 none_then (Some x) N C none h = none
 
 -- the member there is in the chain
-pub is_in_at : {S : Type 0} (about : S → About) (c : Chained S) (at : ℕ) (m : Linked S) → slice_get c.members at ≡ Some m → IsFormed about c → IsIn about c.id c.seat c.chain c.geometry m
-is_in_at about c at m here formed = all_at (IsIn about c.id c.seat c.chain c.geometry) c.members at m here formed.members
+pub is_in_at : {S : Type 0} (about : S → About) (c : Chained S) (at : ℕ) (m : Linked S) → slice_get c.members at ≡ Some m → IsFormed about c → IsIn about c.id c.seat c.geometry m
+is_in_at about c at m here formed = all_at (IsIn about c.id c.seat c.geometry) c.members at m here formed.members
 
 -- the chain stands for the state, as it is read
 pub stands_now : {S : Type 0} (old now : Chained S) (v : View) (s : State) → old ≡ now → StandsFor (bytes_of now) v s → StandsFor (bytes_of old) v s
@@ -95,10 +97,10 @@ pub record TellsSo (was is : BoardInUse) : Type 0 where
   pub backed : (disks : List Disk) → IsBacked was.front was.mask was.gauges was.receipts was.musters disks → IsBacked is.front is.mask is.gauges is.receipts is.musters disks
   pub fronts : All (λ f. f ≤ was.front) was.fronts → All (λ f. f ≤ is.front) is.fronts
 
-told_so : (v : View) (was is : BoardInUse) → v.told ≡ was → TellsSo was is → IsTold v (record v { told = is })
+told_so : (v : View) (was is : BoardInUse) → v.told ≡ was → TellsSo was is → IsToldOfDisks v (record v { told = is })
 told_so v was is shown so =
     let here : TellsSo v.told is = subst (λ t. TellsSo t is) (sym shown) so in
-    record { told = is; front = here.front; backed = here.backed (map disk_of v.members); fronts = here.fronts; are = refl }
+    record { told = is; front = here.front; backed = here.backed (disks_of v.recorded v.writing v.members); fronts = here.fronts; are = refl }
 
 module _ {S : Type 0} (about : S → About) (keeps : S → List ℕ → Type 0) (may_leave_now : S → List ℕ → Type 0) (old : Chained S) (at : ℕ) (before after : Linked S) (here : slice_get old.members at ≡ Some before) where
   abbrev now : Chained S
@@ -116,8 +118,13 @@ module _ {S : Type 0} (about : S → About) (keeps : S → List ℕ → Type 0) 
         record v { told = told_of now },
         record {
           told = refl;
+          recorded = shows.recorded;
+          before = shows.before;
+          writing = shows.writing;
           members = subst (AllZip IsSo (slice_set old.members at after)) (sym twin.are)
               (subst (λ l. AllZip IsSo l (twin.over ++ twin.own ∷ twin.under)) (sym (place.setting after)) (twin.others after twin.own place.below twin.under (stays twin.own twin.fits) twin.rest));
+          links = shows.links;
+          submits = shows.submits;
         },
         record {
           happenings = BoardTells ∷ [];
@@ -139,7 +146,12 @@ module _ {S : Type 0} (about : S → About) (keeps : S → List ℕ → Type 0) 
         record mid { told = told_of now },
         record {
           told = refl;
+          recorded = shows.recorded;
+          before = shows.before;
+          writing = shows.writing;
           members = subst (λ l. AllZip IsSo l (twin.over ++ did.0 ∷ twin.under)) (sym (place.setting after)) (twin.others after did.0 place.below twin.under did.1 twin.rest);
+          links = shows.links;
+          submits = shows.submits;
         },
         record {
           happenings = MemberDoes doing ∷ BoardTells ∷ [];
@@ -169,11 +181,11 @@ nothing_sent old new out floor node is (inr did) = ap (λ (o : Out). o.messages)
 for_some : {T : Type 0} (P : T → Type 0) (x : T) → P x → ForSome (Some x) P
 for_some P x has y eq = let is : x ≡ y = cc eq in subst P is has
 
--- a member whose node and links are the same is shown as before
+-- a member whose node is the same is shown as before
 same_shown : {S : Type 0} (about : S → About) (keeps : S → List ℕ → Type 0) (may_leave_now : S → List ℕ → Type 0) (size : ℕ) (before after : Linked S) (m : Member) → after.node ≡ before.node
-    → after.puts ≡ before.puts → after.acks ≡ before.acks → after.submits ≡ before.submits → IsShown about keeps may_leave_now size before m → IsShown about keeps may_leave_now size after m
-same_shown about keeps may_leave_now size before after m node puts acks submits so = record {
-  is = so.is ∙ rw (node, puts, acks, submits) refl;
+    → IsShown about keeps may_leave_now size before m → IsShown about keeps may_leave_now size after m
+same_shown about keeps may_leave_now size before after m node so = record {
+  is = so.is ∙ rw node refl;
   whole = so.whole;
   keeping = rw node so.keeping;
   left = rw node so.left;
@@ -216,12 +228,10 @@ module _ {S : Type 0} (about : S → About) (old : Chained S) (at : ℕ) (before
   -- a member finds a front for a crew
   module _ (did : HasFound old.id old.seat old.words.front before after) where
     pub formed_found : IsFormed about old → IsFormed about then
-    formed_found formed = rw did.are (formed_then old at before _ here about refl (λ idle. idle) (λ is. record {
+    formed_found formed = rw did.are (formed_then old at before _ here about (λ is. record {
       board = is.board;
-      told = is.told;
-      turned = is.turned;
-      free = is.free;
       sizes = is.sizes;
+      member = is.member;
       muster = is.muster;
       front = for_some (IsFrontOf old.id old.seat) did.front did.of_seat;
     }) formed)
@@ -237,18 +247,16 @@ module _ {S : Type 0} (about : S → About) (old : Chained S) (at : ℕ) (before
     pub found_goes : (keeps : S → List ℕ → Type 0) (may_leave_now : S → List ℕ → Type 0) (v : View) (events : List ClientEvent) → Shows about keeps may_leave_now old v → ArePutOut [] events
         → (w : View) × Shows about keeps may_leave_now then w × Goes (bytes_of old) v w events
     found_goes keeps may_leave_now v events shows put_out = board_tells about keeps may_leave_now old at before after here v events shows put_out
-        (λ m so. same_shown about keeps may_leave_now (bytes_of old) before after m (ap (λ x. x.node) did.are) (ap (λ x. x.puts) did.are) (ap (λ x. x.acks) did.are) (ap (λ x. x.submits) did.are) so)
+        (λ m so. same_shown about keeps may_leave_now (bytes_of old) before after m (ap (λ x. x.node) did.are) so)
         found_so
 
   -- a member finds a crew behind it
   module _ (did : HasMustered old.id old.seat old.words.mask before after) where
     pub formed_mustered : IsFormed about old → IsFormed about then
-    formed_mustered formed = rw did.are (formed_then old at before _ here about refl (λ idle. idle) (λ is. record {
+    formed_mustered formed = rw did.are (formed_then old at before _ here about (λ is. record {
       board = is.board;
-      told = is.told;
-      turned = is.turned;
-      free = is.free;
       sizes = is.sizes;
+      member = is.member;
       front = λ x eq. absurd (cc);
       muster = for_some (IsMusterOf old.id old.seat) did.muster (ap (λ (c : FoundCrew). c.board) did.crew, ap (λ (c : FoundCrew). c.seat) did.crew);
     }) formed)
@@ -281,18 +289,16 @@ module _ {S : Type 0} (about : S → About) (old : Chained S) (at : ℕ) (before
         let own : All (λ f. f ≤ old.words.front) (fronts_of before.front) = of_one (λ m. fronts_of m.front) old.members at before after here (λ f. f ≤ old.words.front) told in
         let committed : did.front.number ≤ old.words.front = All-head (λ f. f ≤ old.words.front) did.front.number [] (subst (λ (o : Option FoundFront). All (λ f. f ≤ old.words.front) (fronts_of o)) did.had own) in
         board_tells about keeps may_leave_now old at before after here v events shows put_out
-        (λ m so. same_shown about keeps may_leave_now (bytes_of old) before after m (ap (λ x. x.node) did.are) (ap (λ x. x.puts) did.are) (ap (λ x. x.acks) did.are) (ap (λ x. x.submits) did.are) so)
+        (λ m so. same_shown about keeps may_leave_now (bytes_of old) before after m (ap (λ x. x.node) did.are) so)
         (mustered_so committed)
 
   -- a member finds the gauge of the next slot
   module _ (did : HasGauged old.words before after) where
     pub formed_gauged : IsFormed about old → IsFormed about then
-    formed_gauged formed = rw did.are (formed_then old at before _ here about refl (λ idle. idle) (λ is. record {
+    formed_gauged formed = rw did.are (formed_then old at before _ here about (λ is. record {
       board = is.board;
-      told = is.told;
-      turned = is.turned;
-      free = is.free;
       sizes = is.sizes;
+      member = is.member;
       front = is.front;
       muster = for_some (IsMusterOf old.id old.seat) did.after (subst (λ (c : FoundCrew). (c.board ≡ old.id) × (c.seat ≡ old.seat)) (sym did.crew) (is.muster did.before did.had));
     }) formed)
@@ -328,7 +334,7 @@ module _ {S : Type 0} (about : S → About) (old : Chained S) (at : ℕ) (before
     pub gauged_goes : (keeps : S → List ℕ → Type 0) (may_leave_now : S → List ℕ → Type 0) (v : View) (events : List ClientEvent) → Shows about keeps may_leave_now old v → ArePutOut [] events
         → (w : View) × Shows about keeps may_leave_now then w × Goes (bytes_of old) v w events
     gauged_goes keeps may_leave_now v events shows put_out = board_tells about keeps may_leave_now old at before after here v events shows put_out
-        (λ m so. same_shown about keeps may_leave_now (bytes_of old) before after m (ap (λ x. x.node) did.are) (ap (λ x. x.puts) did.are) (ap (λ x. x.acks) did.are) (ap (λ x. x.submits) did.are) so)
+        (λ m so. same_shown about keeps may_leave_now (bytes_of old) before after m (ap (λ x. x.node) did.are) so)
         gauged_so
 
 -- ---- a floor is taken
@@ -356,16 +362,12 @@ whole_of muster all slot counted =
 
 module _ {S : Type 0} (about : S → About) (old : Chained S) (at : ℕ) (before after : Linked S) (here : slice_get old.members at ≡ Some before) (replies : List GivenReply) (did : HasSettled replies before after) where
   -- by a step that leaves the store, the writes and the known commit
-  module _ (step : NodeState → NodeState) (is : after.node ≡ record { store = before.node.store; state = step before.node.state })
-      (place : (n : NodeState) → (step n).place ≡ n.place) (incarnation : (n : NodeState) → (step n).incarnation ≡ n.incarnation) (board : (n : NodeState) → (step n).board ≡ n.board)
-      (turned : (n : NodeState) → (step n).turned ≡ n.turned) (holds : (n : NodeState) → (step n).holds ≡ n.holds) where
+  module _ (step : NodeState → NodeState) (is : after.node ≡ record { store = before.node.store; state = step before.node.state }) (board : (n : NodeState) → (step n).board ≡ n.board) (place : (n : NodeState) → (step n).place ≡ n.place) where
     formed_by : IsFormed about old → IsFormed about (record old { members = slice_set old.members at after })
-    formed_by formed = rw (did.are, is) (formed_then old at before _ here about (rw (place, incarnation) refl) (λ idle. idle) (λ was. record {
+    formed_by formed = rw (did.are, is) (formed_then old at before _ here about (λ was. record {
       board = board before.node.state ∙ was.board;
-      told = ap (λ p. p.chain) (place before.node.state) ∙ was.told;
-      turned = turned before.node.state ∙ was.turned;
-      free = holds before.node.state ∙ was.free;
       sizes = was.sizes;
+      member = ap is_member (place before.node.state) ∙ was.member;
       front = was.front;
       muster = λ x eq. absurd (cc);
     }) formed)
@@ -401,15 +403,15 @@ module _ {S : Type 0} (about : S → About) (old : Chained S) (at : ℕ) (before
 
   pub formed_settled : IsFormed about old → IsFormed about (record old { members = slice_set old.members at after })
   formed_settled formed = elim did.did [
-    | inl answers ↦ formed_by (λ n. (answer_floor (least_of did.muster.crew.front (gauges_of did.muster.gauges)) n).node) answers.node (λ n. refl) (λ n. refl) (λ n. refl) (λ n. refl) (λ n. refl) formed
-    | inr stops ↦ formed_by (λ n. (stop causes.Memory n).node) stops.node (λ n. refl) (λ n. refl) (λ n. refl) (λ n. refl) (λ n. refl) formed
+    | inl answers ↦ formed_by (λ n. (answer_floor (least_of did.muster.crew.front (gauges_of did.muster.gauges)) n).node) answers.node (λ n. refl) (λ n. refl) formed
+    | inr stops ↦ formed_by (λ n. (stop causes.Memory n).node) stops.node (λ n. refl) (λ n. refl) formed
   ]
 
   pub settled_goes : (keeps : S → List ℕ → Type 0) (may_leave_now : S → List ℕ → Type 0) (v : View) (s : State) (events : List ClientEvent) → Shows about keeps may_leave_now old v → StandsFor (bytes_of old) v s → ArePutOut replies events
       → (w : View) × Shows about keeps may_leave_now (record old { members = slice_set old.members at after }) w × Goes (bytes_of old) v w events
   settled_goes keeps may_leave_now v s events shows (line, backed, stands) put_out =
       let floor = least_of did.muster.crew.front (gauges_of did.muster.gauges) in
-      let disks = map disk_of v.members in
+      let disks = disks_of v.recorded v.writing v.members in
       let told : All (IsMustered old.words.front disks) (told_of old).musters = subst (λ (t : BoardInUse). All (IsMustered t.front disks) t.musters) shows.told stands.disks.mustered in
       let own : All (IsMustered old.words.front disks) (musters_of before.muster) = of_one (λ m. musters_of m.muster) old.members at before after here (IsMustered old.words.front disks) told in
       let one : IsMustered old.words.front disks (muster_seen did.muster) =
@@ -419,8 +421,8 @@ module _ {S : Type 0} (about : S → About) (old : Chained S) (at : ℕ) (before
       subst (λ (f : ℕ). (f ≤ old.words.front) × All (λ d. f ≤ d.durable) disks) least (floor_is_backed old.words.front disks (muster_seen did.muster) one (whole_of did.muster did.whole)) in
       let within : floor ≤ v.told.front = subst (λ (t : BoardInUse). floor ≤ t.front) (sym shows.told) on.0 in
       elim did.did [
-        | inl answers ↦ settled_by (λ n. (answer_floor floor n).node) answers.node (λ n. refl) (λ n. refl) (λ n. refl) (λ n. refl) (λ n. refl) keeps may_leave_now (AnswerFloor floor) v events shows (λ n. refl) (λ n. refl)
+        | inl answers ↦ settled_by (λ n. (answer_floor floor n).node) answers.node (λ n. refl) (λ n. refl) keeps may_leave_now (AnswerFloor floor) v events shows (λ n. refl) (λ n. refl)
             (λ m same. (within, on.1, rw same (rw (← ap (λ (o : Out). o.replies) answers.sent, did.told) put_out), refl))
-        | inr stops ↦ settled_by (λ n. (stop causes.Memory n).node) stops.node (λ n. refl) (λ n. refl) (λ n. refl) (λ n. refl) (λ n. refl) keeps may_leave_now (Stop causes.Memory) v events shows (λ n. refl) (λ n. refl)
-            (λ m same. (memory_is_one, rw same (rw (← ap (λ (o : Out). o.replies) stops.sent, did.told) put_out), refl))
+        | inr stops ↦ settled_by (λ n. (stop causes.Memory n).node) stops.node (λ n. refl) (λ n. refl) keeps may_leave_now (Stop causes.Memory) v events shows (λ n. refl) (λ n. refl)
+            (λ m same. (ap (λ (n : NodeState). n.stopped) same ∙ did.runs, memory_is_one, rw same (rw (← ap (λ (o : Out). o.replies) stops.sent, did.told) put_out), refl))
       ]

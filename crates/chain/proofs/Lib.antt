@@ -1,22 +1,24 @@
-mod AckSteps
 mod AnswerSteps
 mod ArmingSteps
 mod AskingSteps
 mod BeginningSteps
-pub mod Cells
+mod Causes
 mod ComingSteps
 mod CommitSteps
 mod EndSteps
 mod FloorSteps
+mod Following
 mod FrontSteps
-pub mod Keeping
+mod Linkages
+mod MessageSteps
 mod MusterSteps
 mod OpeningSteps
-mod Orderly
 mod PassingSteps
 mod RaisedSteps
 mod ReadingSteps
+mod RecordingSteps
 mod Results
 mod Stepping
-mod SubmitSteps
 mod WordSteps
+pub mod Cells
+pub mod Keeping

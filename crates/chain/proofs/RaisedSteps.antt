@@ -1,223 +1,320 @@
--- A member takes the front that it raised as its known commit.
+-- A member takes the front that it raised as its known commit, and tells the one before it along a link.
 --
 -- That the front isn't below what it knew is a premise here.
-use Rattle.std.proofs.Common.{◌≡◌, ◌⊎◌, ℕ, ◌≤◌, length, List, [], ◌∷◌, ◌++◌, map, nat_lt, refl, ap, sym, subst, ◌∙◌, inl, inr, arith, length-append, append_assoc, ◌≢◌, ◌<◌}
+use Rattle.std.proofs.Common.{◌≡◌, ℕ, ◌+◌, ◌*◌, ◌<◌, ◌≤◌, List, [], ◌∷◌, ◌++◌, length, map, nat_lt, refl, ap, sym, subst, ◌∙◌, inl, inr, arith}
 use Rattle.std.specs.Prelude.{All, Option, Some, None, slice_get, slice_set}
 use Rattle.std.specs.List.{AllZip}
+use Rattle.std.specs.Option.{unwrap_or}
 use Rattle.std.proofs.lemmas.Bool.{cases_Bool}
 use Rattle.std.proofs.lemmas.Bool.Decides.{nat_tests}
 use Rattle.std.proofs.lemmas.List.{append-nil}
-use Rattle.std.proofs.lemmas.List.Elements.{All-append, All-cons, All-nil}
+use Rattle.std.proofs.lemmas.List.Elements.{All-append, All-cons, All-nil, All-set}
+use Rattle.std.proofs.lemmas.Option.{same_Some}
 use Rattle.board.specs.Seats.{FoundFront}
 use Rattle.flush_barrier.specs.Reply.{GivenReply}
 use Rattle.local_store.specs.About.{About}
-use Rattle.chain_core.specs.Node.{IsSound, IsStepOrStop, Keeping, Seen}
-use Rattle.chain_steps.specs.Node.{NodeState, Out, epoch_of, last_of}
-use Rattle.chain_steps.specs.Place.{predecessor_of}
+use Rattle.chain_core.specs.Node.{IsInside, IsStep, IsStepOrStop, Seen}
+use Rattle.chain_steps.specs.Node.{NodeState, Out, Stepped, epoch_of, last_of}
+use Rattle.chain_steps.specs.Place.{is_member, predecessor_of}
 use Rattle.chain_steps.specs.Steps.{know, raised, raised_front, raised_to, send, stop}
-use Rattle.chain_steps.specs.declared.cause.Cause.{Cause}
 use Rattle.chain_steps.specs.declared.cause.Cause.TheVariants as causes
 use Rattle.chain_steps.specs.declared.found.Found.{Found}
 use Rattle.chain_steps.specs.declared.found.Found.TheVariants.{Looked, Raised}
 use Rattle.chain_steps.specs.declared.message.Envelope.{Envelope}
 use Rattle.chain_steps.specs.declared.message.Message.TheVariants.{Ack}
 use Rattle.chain_steps.specs.declared.message.Sent.{Sent}
-use Rattle.world_model.specs.Chain.{ArePutOut, Member, StandsFor, View}
+use Rattle.world_model.specs.Chain.{ArePutOut}
 use Rattle.world_model.specs.Event.{ClientEvent}
-use Rattle.world_model.specs.Life.{KnowRaised, Stop}
 use Rattle.world_model.specs.Machine.{State}
+use Rattle.chain_model.specs.Chain.{StandsFor}
+use Rattle.chain_model.specs.Laws.{HasSent, with_members}
+use Rattle.chain_model.specs.Life.{RaisedKnown, Stop}
+use Rattle.chain_model.specs.View.{Member, View}
+use Rattle.chain_model.proofs.Orderly.{raised_in_order}
 use Rattle.chain.specs.Chain.{Chained, Goes, IsFormed, Shows, bytes_of}
-use Rattle.chain.specs.Fronts.{HasKnown}
-use Rattle.chain.specs.Links.{IsAckOf, ack_in, acks_in}
-use Rattle.chain.specs.Member.{IsLinked, IsShown, Linked, fronts_of, member_of, musters_of, receipts_of}
-use Rattle.chain.proofs.Cells.{place_of, twin_of}
-use Rattle.chain.proofs.Orderly.{committed_there, memory_is_one, raised_there}
-use Rattle.chain.proofs.Stepping.{UsesAsBefore, formed_then, one_does, rests, same_then}
+use Rattle.chain.specs.Fronts.{HasKnown, KnowsTo}
+use Rattle.chain.specs.Links.{AreInside, link_at}
+use Rattle.chain.specs.Member.{IsShown, Linked}
+use Rattle.chain.proofs.Cells.{Place, Twin, place_of, twin_of}
+use Rattle.chain.proofs.Causes.{memory_is_one}
+use Rattle.chain.proofs.Linkages.{at_place, has_sent, one_back, only_to, set_again, set_long}
+use Rattle.chain.proofs.Stepping.{formed_then, one_does, same_then, shown_still, told_stays}
 
--- what such a step leaves of the member's state, and that it sends Acks of its epoch
+-- ---- what is sent
+
+-- what such a step leaves of the member's state, and that it sends Acks to whoever is before it
 record Leaves (old new : NodeState) (messages : List Sent) : Type 0 where
   board : new.board ≡ old.board
   place : new.place ≡ old.place
-  incarnation : new.incarnation ≡ old.incarnation
-  turned : new.turned ≡ old.turned
-  holds : new.holds ≡ old.holds
   table : new.table ≡ old.table
-  few : length messages ≤ 1
-  acks : All (IsAckOf (epoch_of old)) (map (λ (sent : Sent). sent.envelope) messages)
+  before : All (λ (m : Sent). predecessor_of old.place ≡ Some m.to) messages
+  inside : (size : ℕ) → All (λ (e : Envelope). IsInside size e.message) (map (λ (m : Sent). m.envelope) messages)
 
-stop_leaves : (cause : Cause) (node : NodeState) → Leaves node (stop cause node).node (stop cause node).out.messages
-stop_leaves cause node = record { board = refl; place = refl; incarnation = refl; turned = refl; holds = refl; table = refl; few = omega arith; acks = All-nil (IsAckOf (epoch_of node)) }
-
-sends : (to : Option ℕ) (front : ℕ) (node : NodeState) → All (IsAckOf (epoch_of node)) (map (λ (sent : Sent). sent.envelope) (send to (Ack front) node))
-sends None front node = All-nil (IsAckOf (epoch_of node))
-sends (Some slot) front node = All-cons (IsAckOf (epoch_of node)) (record { epoch = epoch_of node; message = Ack front }) [] (refl, tt) (All-nil (IsAckOf (epoch_of node)))
-
-one_sent : (to : Option ℕ) (front : ℕ) (node : NodeState) → length (send to (Ack front) node) ≤ 1
-one_sent None front node = omega arith
-one_sent (Some slot) front node = omega arith
-
-raised_leaves : (front : Option ℕ) (node : NodeState) → Leaves node (raised_to front node).node (raised_to front node).out.messages
-raised_leaves None node = record { board = refl; place = refl; incarnation = refl; turned = refl; holds = refl; table = refl; few = omega arith; acks = All-nil (IsAckOf (epoch_of node)) }
-raised_leaves (Some front) node = elim (cases_Bool (nat_lt (last_of node) front)) [
-  | inl above ↦ rw above (stop_leaves causes.Disorder node)
-  | inr within ↦ rw within (record { board = refl; place = refl; incarnation = refl; turned = refl; holds = refl; table = refl; few = one_sent (predecessor_of node.place) front node; acks = sends (predecessor_of node.place) front node })
-]
-
-leaves : {S : Type 0} (old new : Seen S) (out : Out) → IsStepOrStop old new out (raised old.state) → (new.store ≡ old.store) × Leaves old.state new.state out.messages
-leaves {S} old new out (inl did) = (ap (λ (n : Seen S). n.store) did.node, rw (did.node, did.sent) (raised_leaves (raised_front old.state.found) old.state))
-leaves {S} old new out (inr did) = (ap (λ (n : Seen S). n.store) did.node, rw (did.node, did.sent) (stop_leaves causes.Memory old.state))
-
--- the links carry what belongs on them
-pub linked_known : {S : Type 0} (about : S → About) (m : Linked S) (new : Seen S) (out : Out) (acks : List Envelope) → IsStepOrStop m.node new out (raised m.node.state) → acks ≡ m.acks ++ map (λ (sent : Sent). sent.envelope) out.messages
-    → IsLinked about m → IsLinked about (record m { node = new; acks = acks })
-linked_known about m new out acks did are is =
-    let (store, left) = leaves m.node new out did in
-    record {
-      puts = rw (left.place, store) is.puts;
-      acks = rw (left.place, are) (All-append (IsAckOf (epoch_of m.node.state)) m.acks (map (λ (sent : Sent). sent.envelope) out.messages) is.acks left.acks);
-      submits = rw (left.place, store) is.submits;
-    }
-
--- the last of at most one is all of them
-pub popped : {S : Type 0} (old new : Seen S) (out : Out) (messages rest : List Sent) (sent : Sent) (were acks are : List Envelope) → IsStepOrStop old new out (raised old.state) → messages ≡ out.messages → messages ≡ rest ++ sent ∷ []
-    → acks ≡ were → are ≡ acks ++ sent.envelope ∷ [] → are ≡ were ++ map (λ (sent : Sent). sent.envelope) out.messages
-popped old new out messages rest sent were acks are did is split same more =
-    let few : length out.messages ≤ 1 = (leaves old new out did).1.few in
-    let all : out.messages ≡ rest ++ sent ∷ [] = sym is ∙ split in
-    let none : rest ≡ [] = empty rest (omega (arith, ap (length {A = Sent}) all, length-append rest (sent ∷ []))) in
-    more ∙ ap (λ l. l ++ sent.envelope ∷ []) same ∙ ap (λ ms. were ++ map (λ (sent : Sent). sent.envelope) ms) (sym (all ∙ ap (λ l. l ++ sent ∷ []) none))
-  where
-    empty : (l : List Sent) → length l ≤ 0 → l ≡ []
-    empty [] le = refl
-    empty (x ∷ xs) le = absurd (omega arith)
-
--- where a front is known that is at least what was known, the member is shown at the same volume
-shows_more : {S : Type 0} (about : S → About) (keeps : S → List ℕ → Type 0) (may_leave_now : S → List ℕ → Type 0) (size : ℕ) (before after : Linked S) (m g : Member) → IsShown about keeps may_leave_now size before m
-    → g ≡ member_of after g.volume g.demands → g.volume ≡ m.volume → after.node.store ≡ before.node.store → after.node.state.table ≡ before.node.state.table → before.node.state.stopped ≡ None
-    → before.node.state.known ≤ after.node.state.known → IsShown about keeps may_leave_now size after g
-shows_more about keeps may_leave_now size before after m g so is volume store table runs more = record {
-  is = is;
-  whole = rw volume so.whole;
-  keeping = λ on. rw (volume, store) (so.keeping runs);
-  left = λ c may.
-      let (front, low, high, means) = so.left c (rw (← store) may) in
-      (front, rw table low, omega (arith, high, more), rw (volume, store, table) means);
-  durable = rw (store, table) so.durable;
-  behind = omega (arith, so.behind, more, ap (λ t. t.forgotten) table);
+-- where nothing is sent
+silent_leaves : (new old : NodeState) → new.board ≡ old.board → new.place ≡ old.place → new.table ≡ old.table → Leaves old new []
+silent_leaves new old board place table = record {
+  board = board;
+  place = place;
+  table = table;
+  before = All-nil (λ (m : Sent). predecessor_of old.place ≡ Some m.to);
+  inside = λ size. All-nil (λ (e : Envelope). IsInside size e.message);
 }
 
-module _ {S : Type 0} (about : S → About) (old : Chained S) (at : ℕ) (before after : Linked S) (here : slice_get old.members at ≡ Some before) (replies : List GivenReply) (did : HasKnown replies before after) where
+-- what is sent is for the one before, and no write
+told_before : (to : Option ℕ) (front : ℕ) (node : NodeState) → All (λ (m : Sent). to ≡ Some m.to) (send to (Ack front) node)
+told_before None front node = All-nil (λ (m : Sent). None ≡ Some m.to)
+told_before (Some slot) front node =
+    All-cons (λ (m : Sent). Some slot ≡ Some m.to) (record { to = slot; envelope = record { epoch = epoch_of node; message = Ack front } }) [] refl (All-nil (λ (m : Sent). Some slot ≡ Some m.to))
+
+told_inside : (to : Option ℕ) (front : ℕ) (node : NodeState) (size : ℕ) → All (λ (e : Envelope). IsInside size e.message) (map (λ (m : Sent). m.envelope) (send to (Ack front) node))
+told_inside None front node size = All-nil (λ (e : Envelope). IsInside size e.message)
+told_inside (Some slot) front node size =
+    All-cons (λ (e : Envelope). IsInside size e.message) (record { epoch = epoch_of node; message = Ack front }) [] tt (All-nil (λ (e : Envelope). IsInside size e.message))
+
+-- with a front that it raised, or without
+raised_leaves : (front : Option ℕ) (node : NodeState) → Leaves node (raised_to front node).node (raised_to front node).out.messages
+raised_leaves None node = silent_leaves node node refl refl refl
+raised_leaves (Some front) node = elim (cases_Bool (nat_lt (last_of node) front)) [
+  | inl above ↦ rw above (silent_leaves (stop causes.Disorder node).node node refl refl refl)
+  | inr within ↦ rw within (record { board = refl; place = refl; table = refl; before = told_before (predecessor_of node.place) front node; inside = told_inside (predecessor_of node.place) front node })
+]
+
+-- or memory runs out
+leaves : {S : Type 0} (old new : Seen S) (out : Out) → IsStepOrStop old new out (raised old.state) → (new.store ≡ old.store) × Leaves old.state new.state out.messages
+leaves {S} old new out (inl did) = (ap (λ (n : Seen S). n.store) did.node, rw (did.node, did.sent) (raised_leaves (raised_front old.state.found) old.state))
+leaves {S} old new out (inr did) = (ap (λ (n : Seen S). n.store) did.node, rw (did.node, did.sent) (silent_leaves (stop causes.Memory old.state).node old.state refl refl refl))
+
+-- ---- the link that is lent
+
+-- the link from the slot to the one before it, or to itself, was taken out, and another put in its place
+pub record IsLent {S : Type 0} (old : Chained S) (before : Linked S) (was then : List Envelope) (links : List (List Envelope)) : Type 0 where
+  pub slot : ℕ
+  pub to : ℕ
+  pub slot_is : slot ≡ before.node.state.place.slot
+  pub to_is : to ≡ unwrap_or (predecessor_of before.node.state.place) slot
+  pub slot_lt : slot < 8
+  pub to_lt : to < 8
+  pub lent : was ≡ link_at old.links slot to
+  pub back : links ≡ slice_set old.links (8 * slot + to) then
+
+-- what is read at a place is the same, as often as it is read
+same_there : {A : Type 0} (xs : List A) (at : ℕ) (x y : A) → slice_get xs at ≡ Some x → slice_get xs at ≡ Some y → x ≡ y
+same_there xs at x y here there = same_Some x y (sym here ∙ there)
+
+-- by two exchanges
+pub lent_by : {S : Type 0} (old : Chained S) (at : ℕ) (first second before : Linked S) → slice_get old.members at ≡ Some first → slice_get old.members at ≡ Some second → slice_get old.members at ≡ Some before
+    → (slot to : ℕ) → slot ≡ first.node.state.place.slot → to ≡ unwrap_or (predecessor_of second.node.state.place) slot → slot < 8 → to < 8
+    → (was other then : List Envelope) (mid links : List (List Envelope)) → was ≡ link_at old.links slot to → mid ≡ slice_set old.links (8 * slot + to) other → links ≡ slice_set mid (8 * slot + to) then
+    → IsLent old before was then links
+lent_by {S} old at first second before here_first here_second here slot to slot_is to_is slot_lt to_lt was other then mid links lent out back = record {
+  slot = slot;
+  to = to;
+  slot_is = slot_is ∙ ap (λ (m : Linked S). m.node.state.place.slot) (same_there old.members at first before here_first here);
+  to_is = to_is ∙ ap (λ (m : Linked S). unwrap_or (predecessor_of m.node.state.place) slot) (same_there old.members at second before here_second here);
+  slot_lt = slot_lt;
+  to_lt = to_lt;
+  lent = lent;
+  back = back ∙ ap (λ l. slice_set l (8 * slot + to) then) out ∙ set_again old.links (8 * slot + to) other then;
+}
+
+-- ---- the chain then
+
+module _ {S : Type 0} (old : Chained S) (at : ℕ) (before after : Linked S) (here : slice_get old.members at ≡ Some before) (was then : List Envelope) (links : List (List Envelope)) (lent : IsLent old before was then links) where
   abbrev now : Chained S
-  now = record old { members = slice_set old.members at after }
+  now = record old { members = slice_set old.members at after; links = links }
 
-  both : (after.node.store ≡ before.node.store) × Leaves before.node.state after.node.state did.out.messages
-  both = leaves before.node after.node did.out did.did
+  -- what was on the link is there again
+  same_links : then ≡ was → links ≡ old.links
+  same_links same = lent.back ∙ one_back old.links lent.slot lent.to then lent.slot_lt lent.to_lt (same ∙ lent.lent)
 
-  pub formed_known : IsFormed about old → IsFormed about now
-  formed_known formed =
-      let left = both.1 in
-      formed_then old at before after here about (rw (left.place, left.incarnation) refl) (λ idle. ap (λ (m : Linked S). m.puts) did.are ∙ idle) (λ was. record {
-        board = left.board ∙ was.board;
-        told = ap (λ p. p.chain) left.place ∙ was.told;
-        turned = left.turned ∙ was.turned;
-        free = left.holds ∙ was.free;
-        sizes = ap (λ s. (about s).geometry) both.0 ∙ was.sizes;
-        front = rw (ap (λ (m : Linked S). m.front) did.are) was.front;
-        muster = rw (ap (λ (m : Linked S). m.muster) did.are) was.muster;
-      }) formed
+  -- where the member is the same too, nothing changed
+  pub rests_then : after ≡ before → then ≡ was → now ≡ old
+  rests_then same nothing = ap (λ l. record old { members = slice_set old.members at after; links = l }) (same_links nothing) ∙ same_then old at before after here same
 
-  shown_more : (keeps : S → List ℕ → Type 0) (may_leave_now : S → List ℕ → Type 0) (m g : Member) → IsShown about keeps may_leave_now (bytes_of old) before m → g ≡ member_of after g.volume g.demands → g.volume ≡ m.volume
-      → before.node.state.known ≤ after.node.state.known → IsShown about keeps may_leave_now (bytes_of old) after g
-  shown_more keeps may_leave_now m g so is volume more = shows_more about keeps may_leave_now (bytes_of old) before after m g so is volume both.0 both.1.table did.runs more
+  -- what holds of every chain holds then, where nothing changed
+  pub formed_same : (about : S → About) → after ≡ before → then ≡ was → IsFormed about old → IsFormed about now
+  formed_same about same nothing formed = subst (IsFormed about) (sym (rests_then same nothing)) formed
 
-  module _ (above : (front : FoundFront) → before.node.state.found ≡ Some (Raised front) → before.node.state.known ≤ front.number)
-      (within : (front : FoundFront) → before.node.state.found ≡ Some (Raised front) → front.number ≤ last_of before.node.state)
-      (keeps : S → List ℕ → Type 0) (may_leave_now : S → List ℕ → Type 0) (v : View) (events : List ClientEvent) (shows : Shows about keeps may_leave_now old v) (put_out : ArePutOut replies events) where
-    abbrev GoesOn : Type 0
-    GoesOn = (w : View) × Shows about keeps may_leave_now now w × Goes (bytes_of old) v w events
+  module _ (replies : List GivenReply) (did : KnowsTo replies was then before after) (long : length old.links ≡ 64) where
+    -- what the step leaves of the member
+    both : (after.node.store ≡ before.node.store) × Leaves before.node.state after.node.state did.out.messages
+    both = leaves before.node after.node did.out did.did
 
-    uses : UsesAsBefore before after
-    uses = record { front = ap (λ (m : Linked S). fronts_of m.front) did.are; muster = ap (λ (m : Linked S). musters_of m.muster) did.are; receipt = ap (λ (m : Linked S). receipts_of m.receipt) did.are }
+    -- what is on the link then
+    then_is : then ≡ link_at old.links lent.slot lent.to ++ map (λ (m : Sent). m.envelope) did.out.messages
+    then_is = did.behind ∙ ap (λ l. l ++ map (λ (m : Sent). m.envelope) did.out.messages) lent.lent
 
-    acks_are : after.acks ≡ before.acks ++ map (λ (sent : Sent). sent.envelope) did.out.messages
-    acks_are = ap (λ (m : Linked S). m.acks) did.are
+    -- and on all links
+    sent_on : HasSent before.node.state.place.slot did.out.messages (link_at old.links) (link_at links)
+    sent_on = subst (λ s. HasSent s did.out.messages (link_at old.links) (link_at links)) lent.slot_is
+        (subst (λ ls. HasSent lent.slot did.out.messages (link_at old.links) (link_at ls)) (sym lent.back)
+        (has_sent old.links lent.slot lent.to did.out.messages then long lent.slot_lt lent.to_lt (only_to (predecessor_of before.node.state.place) lent.slot lent.to did.out.messages lent.to_is both.1.before) then_is))
 
-    -- the member is shown so
-    shown_as : (m : Member) (acks : List ℕ) → IsShown about keeps may_leave_now (bytes_of old) before m → acks_in after.acks ≡ acks → record m { node = after.node.state; acks = acks } ≡ member_of after m.volume m.demands
-    shown_as m acks so is = ap (λ (x : Member). record x { node = after.node.state; acks = acks }) so.is ∙ rw (ap (λ (x : Linked S). x.puts) did.are, ap (λ (x : Linked S). x.submits) did.are, is) refl
+    -- so the chain's call did what its contract says
+    pub has_known : HasKnown at replies old now
+    has_known = record {
+      before = before;
+      node = after.node;
+      out = did.out;
+      here = here;
+      runs = did.runs;
+      had = did.had;
+      did = did.did;
+      told = did.told;
+      sent = sent_on;
+      are = ap (λ (m : Linked S). record now { members = slice_set old.members at m }) did.are;
+    }
 
-    stops : (cause : Cause) → cause ≢ causes.Disorder → after.node.state ≡ (stop cause before.node.state).node → did.out ≡ (stop cause before.node.state).out → GoesOn
-    stops cause other node sent = one_does about keeps may_leave_now old at before after here (Stop cause) v events uses shows (λ m so.
-        let node_is : m.node ≡ before.node.state = ap (λ (x : Member). x.node) so.is in
-        let acks : acks_in after.acks ≡ m.acks = ap acks_in (acks_are ∙ ap (λ (o : Out). before.acks ++ map (λ (sent : Sent). sent.envelope) o.messages) sent ∙ append-nil before.acks) ∙ sym (ap (λ (x : Member). x.acks) so.is) in (
-          record m { node = after.node.state },
-          shown_more keeps may_leave_now m (record m { node = after.node.state }) so (shown_as m m.acks so acks) refl (omega (arith, ap (λ (n : NodeState). n.known) node)),
-          (other, rw node_is (rw (← ap (λ (o : Out). o.replies) sent, did.told) put_out), ap (λ (n : NodeState). record m { node = n }) (node ∙ ap (λ (n : NodeState). (stop cause n).node) (sym node_is))),
-        ))
+  -- and what holds of every chain holds where it told
+  pub formed_known : (about : S → About) (replies : List GivenReply) → KnowsTo replies was then before after → IsFormed about old → IsFormed about now
+  formed_known about replies did formed =
+      let left = both replies did formed.all_links in
+      let size : ℕ = 4096 * old.geometry.blocks in
+      let P : Envelope → Type 0 = λ e. IsInside size e.message in
+      let is : IsFormed about (record old { members = slice_set old.members at after }) = formed_then old at before after here about (λ is. record {
+        board = left.1.board ∙ is.board;
+        sizes = ap (λ s. (about s).geometry) left.0 ∙ is.sizes;
+        member = ap is_member left.1.place ∙ is.member;
+        front = rw did.are is.front;
+        muster = rw did.are is.muster;
+      }) formed in
+      record {
+        members = is.members;
+        all_links = ap length lent.back ∙ set_long old.links (8 * lent.slot + lent.to) then ∙ formed.all_links;
+        all_submits = is.all_submits;
+        links_inside = subst (AreInside size) (sym lent.back) (All-set (All P) old.links (8 * lent.slot + lent.to) then (subst (All P) (sym (then_is replies did formed.all_links))
+            (All-append P (link_at old.links lent.slot lent.to) (map (λ (m : Sent). m.envelope) did.out.messages)
+            (subst (All P) (sym (at_place old.links lent.slot lent.to lent.to_lt)) (formed.links_inside (8 * lent.slot + lent.to) [] (omega (arith, formed.all_links, lent.slot_lt, lent.to_lt))))
+            (left.1.inside size))) formed.links_inside);
+        submits_inside = is.submits_inside;
+      }
 
-    stays : after.node.state ≡ before.node.state → did.out ≡ record { messages = []; replies = [] } → GoesOn
-    stays node sent =
-        let acks : after.acks ≡ before.acks = acks_are ∙ ap (λ (o : Out). before.acks ++ map (λ (sent : Sent). sent.envelope) o.messages) sent ∙ append-nil before.acks in
-        let same_node : after.node ≡ before.node = ap (λ s. let n : Seen S = record { store = s; state = after.node.state } in n) both.0 ∙ ap (λ s. let n : Seen S = record { store = before.node.store; state = s } in n) node in
-        let same : after ≡ before = did.are ∙ ap (λ n. record before { node = n; acks = before.acks ++ map (λ (sent : Sent). sent.envelope) did.out.messages }) same_node ∙ ap (λ a. record before { acks = a }) (sym acks_are ∙ acks) in
-        rests about keeps may_leave_now old now v events (same_then old at before after here same) shows (subst (λ (rs : List GivenReply). ArePutOut rs events) (sym did.told ∙ ap (λ (o : Out). o.replies) sent) put_out)
+  -- ---- what happens
 
-    knows : (front : FoundFront) (to : Option ℕ) → predecessor_of before.node.state.place ≡ to → before.node.state.found ≡ Some (Raised front) → after.node.state ≡ (know front.number front.number before.node.state).node
-        → did.out ≡ (know front.number front.number before.node.state).out → GoesOn
-    knows front to place was node sent = one_does about keeps may_leave_now old at before after here (KnowRaised front (acks_in after.acks)) v events uses shows (λ m so.
-        let node_is : m.node ≡ before.node.state = ap (λ (x : Member). x.node) so.is in
-        let m_acks : m.acks ≡ acks_in before.acks = ap (λ (x : Member). x.acks) so.is in
-        let le : before.node.state.known ≤ front.number = above front was in
-        let told : (acks_in after.acks ≡ m.acks) ⊎ (acks_in after.acks ≡ m.acks ++ front.number ∷ []) = told_by to front m.acks m_acks place sent in (
-          record m { node = after.node.state; acks = acks_in after.acks },
-          shown_more keeps may_leave_now m (record m { node = after.node.state; acks = acks_in after.acks }) so (shown_as m (acks_in after.acks) so refl) refl (omega (arith, le, ap (λ (n : NodeState). n.known) node)),
+  module _ (about : S → About) (keeps : S → List ℕ → Type 0) (may_leave_now : S → List ℕ → Type 0) (replies : List GivenReply) (did : KnowsTo replies was then before after) (long : length old.links ≡ 64)
+      (above : (front : FoundFront) → before.node.state.found ≡ Some (Raised front) → before.node.state.known ≤ front.number)
+      (v : View) (s : State) (events : List ClientEvent) (shows : Shows about keeps may_leave_now old v) (stands : StandsFor (bytes_of old) v s) (put_out : ArePutOut replies events) where
+    abbrev IsSo : Linked S → Member → Type 0
+    IsSo m shown = IsShown about keeps may_leave_now (bytes_of old) m shown
+
+    abbrev GoesOn : Chained S → Type 0
+    GoesOn new = (w : View) × Shows about keeps may_leave_now new w × Goes (bytes_of old) v w events
+
+    -- the member in another state
+    abbrev in_state : NodeState → Linked S
+    in_state state = record before { node = record { store = before.node.store; state = state } }
+
+    -- it is in that of the step
+    after_is : (stepped : Stepped) → IsStep before.node after.node did.out stepped → after ≡ in_state stepped.node
+    after_is stepped is = did.are ∙ ap (λ (n : Seen S). record before { node = n }) is.node
+
+    -- whose replies are put out
+    put : (stepped : Stepped) → IsStep before.node after.node did.out stepped → ArePutOut stepped.out.replies events
+    put stepped is = subst (λ rs. ArePutOut rs events) (sym did.told ∙ ap (λ (o : Out). o.replies) is.sent) put_out
+
+    -- where it stands, and as whom it is shown there
+    at_one : Place old.members at before
+    at_one = place_of old.members at before here
+
+    twin : Twin IsSo at_one.above before at_one.below v.members
+    twin = twin_of IsSo at_one.above before at_one.below v.members (subst (λ l. AllZip IsSo l v.members) at_one.split shows.members)
+
+    node_is : twin.own.node ≡ before.node.state
+    node_is = ap (λ (x : Member). x.node) twin.fits.is
+
+    -- memory runs out, and it stops
+    stops : IsStep before.node after.node did.out (stop causes.Memory before.node.state) → GoesOn now
+    stops is =
+        let state = (stop causes.Memory before.node.state).node in
+        let nothing : then ≡ was = did.behind ∙ ap (λ (o : Out). was ++ map (λ (m : Sent). m.envelope) o.messages) is.sent ∙ append-nil was in
+        let same : now ≡ record old { members = slice_set old.members at (in_state state) } = ap (λ l. record now { links = l }) (same_links nothing)
+        ∙ ap (λ (m : Linked S). record old { members = slice_set old.members at m }) (after_is (stop causes.Memory before.node.state) is) in
+        subst GoesOn (sym same)
+        (one_does about keeps may_leave_now old at before (in_state state) here (Stop causes.Memory) v events (record { front = refl; muster = refl; receipt = refl }) shows (λ m so.
+        let node : m.node ≡ before.node.state = ap (λ (x : Member). x.node) so.is in (
+          record m { node = state },
+          shown_still about keeps may_leave_now old before (in_state state) m (record m { node = state }) so (ap (λ (x : Member). record x { node = state }) so.is) refl refl refl refl (λ no. absurd cc),
           (
-            ap (λ (n : NodeState). n.found) node_is ∙ was,
-            rw node_is le,
-            told,
-            rw node_is (rw (← ap (λ (o : Out). o.replies) sent, did.told) put_out),
-            ap (λ (n : NodeState). record m { node = n; acks = acks_in after.acks }) (node ∙ ap (λ (n : NodeState). (know front.number front.number n).node) (sym node_is)),
+            ap (λ (n : NodeState). n.stopped) node ∙ did.runs,
+            memory_is_one,
+            subst (λ (n : NodeState). ArePutOut (stop causes.Memory n).out.replies events) (sym node) (put (stop causes.Memory before.node.state) is),
+            ap (λ (n : NodeState). record m { node = (stop causes.Memory n).node }) (sym node),
           ),
-        ))
-      where
-        told_by : (to : Option ℕ) (front : FoundFront) (acks : List ℕ) → acks ≡ acks_in before.acks → predecessor_of before.node.state.place ≡ to → did.out ≡ (know front.number front.number before.node.state).out
-            → (acks_in after.acks ≡ acks) ⊎ (acks_in after.acks ≡ acks ++ front.number ∷ [])
-        told_by None front acks is place sent = inl (
-            ap acks_in (acks_are ∙ ap (λ (o : Out). before.acks ++ map (λ (sent : Sent). sent.envelope) o.messages) sent ∙ ap (λ (t : Option ℕ). before.acks ++ map (λ (sent : Sent). sent.envelope) (send t (Ack front.number) before.node.state)) place ∙ append-nil before.acks)
-            ∙ sym is)
-        told_by (Some slot) front acks is place sent = inr (
-            ap acks_in (acks_are ∙ ap (λ (o : Out). before.acks ++ map (λ (sent : Sent). sent.envelope) o.messages) sent ∙ ap (λ (t : Option ℕ). before.acks ++ map (λ (sent : Sent). sent.envelope) (send t (Ack front.number) before.node.state)) place)
-            ∙ acks_push before.acks (record { epoch = epoch_of before.node.state; message = Ack front.number }) ∙ ap (λ l. l ++ front.number ∷ []) (sym is))
-          where
-            acks_push : (l : List Envelope) (e : Envelope) → acks_in (l ++ e ∷ []) ≡ acks_in l ++ acks_in (e ∷ [])
-            acks_push [] e = refl
-            acks_push (x ∷ xs) e = ap (λ r. ack_in x.message ++ r) (acks_push xs e) ∙ sym (append_assoc (ack_in x.message) (acks_in xs) (acks_in (e ∷ [])))
+        )))
 
-    by : (found : Option Found) → before.node.state.found ≡ found → after.node.state ≡ (raised_to (raised_front found) before.node.state).node → did.out ≡ (raised_to (raised_front found) before.node.state).out → GoesOn
-    by None was node sent = stays node sent
-    by (Some (Looked front)) was node sent = stays node sent
-    by (Some (Raised front)) was node sent = elim (cases_Bool (nat_lt (last_of before.node.state) front.number)) [
-      | inl over ↦ let beyond : last_of before.node.state < front.number = grind (arith, nat_tests) in absurd (omega (arith, within front was, beyond))
-      | inr reached ↦ knows front (predecessor_of before.node.state.place) refl was (rw reached at node) (rw reached at sent)
+    -- it knows more, and tells the one before it
+    knows : (front : FoundFront) → before.node.state.found ≡ Some (Raised front) → IsStep before.node after.node did.out (know front.number front.number before.node.state) → GoesOn now
+    knows front was_found is =
+        let stepped = know front.number front.number before.node.state in
+        let le : before.node.state.known ≤ front.number = above front was_found in
+        let own : Member = record twin.own { node = stepped.node } in
+        let w : View = record v { members = twin.over ++ own ∷ twin.under; links = link_at links } in
+        subst (λ (m : Linked S). GoesOn (record old { members = slice_set old.members at m; links = links })) (sym (after_is stepped is)) (
+          w,
+          record {
+            told = shows.told ∙ sym (told_stays old at before (in_state stepped.node) here (record { front = refl; muster = refl; receipt = refl }));
+            recorded = shows.recorded;
+            before = shows.before;
+            writing = shows.writing;
+            members = subst (λ l. AllZip IsSo l (twin.over ++ own ∷ twin.under)) (sym (at_one.setting (in_state stepped.node))) (twin.others (in_state stepped.node) own at_one.below twin.under (record {
+              is = ap (λ (x : Member). record x { node = stepped.node }) twin.fits.is;
+              whole = twin.fits.whole;
+              keeping = λ on. twin.fits.keeping did.runs;
+              left = λ c may. let l = twin.fits.left c may in (l.0, l.1, omega (arith, l.2, le), l.3);
+              durable = twin.fits.durable;
+              behind = omega (arith, twin.fits.behind, le);
+            }) twin.rest);
+            links = refl;
+            submits = shows.submits;
+          },
+          record {
+            happenings = RaisedKnown ∷ [];
+            each = events ∷ [];
+            inner = refl;
+            era = (
+              w,
+              events,
+              [],
+              refl,
+              record {
+                above = twin.over;
+                member = twin.own;
+                below = twin.under;
+                front = front;
+                links = link_at links;
+                were = twin.are;
+                runs = ap (λ (n : NodeState). n.stopped) node_is ∙ did.runs;
+                found = ap (λ (n : NodeState). n.found) node_is ∙ was_found;
+                more = rw node_is le;
+                sent = subst (λ (n : NodeState). HasSent n.place.slot (know front.number front.number n).out.messages v.links (link_at links)) (sym node_is)
+                    (subst (λ l. HasSent before.node.state.place.slot stepped.out.messages l (link_at links)) (sym shows.links)
+                    (subst (λ (o : Out). HasSent before.node.state.place.slot o.messages (link_at old.links) (link_at links)) is.sent (sent_on replies did long)));
+                out = subst (λ (n : NodeState). ArePutOut (know front.number front.number n).out.replies events) (sym node_is) (put stepped is);
+                are = ap (λ (n : NodeState). record w { members = twin.over ++ record twin.own { node = (know front.number front.number n).node } ∷ twin.under }) (sym node_is);
+              },
+              (refl, refl),
+            );
+            all = append-nil events;
+          },
+        )
+
+    -- whatever front it keeps: it has all of one that it raised
+    by : (found : Option Found) → before.node.state.found ≡ found → IsStep before.node after.node did.out (raised_to (raised_front found) before.node.state) → GoesOn now
+    by None found is = absurd (did.had (ap raised_front found))
+    by (Some (Looked front)) found is = absurd (did.had (ap raised_front found))
+    by (Some (Raised front)) found is = elim (cases_Bool (nat_lt (last_of before.node.state) front.number)) [
+      | inl over ↦
+          let committed : front.number ≤ last_of before.node.state = subst (λ (n : NodeState). front.number ≤ last_of n) node_is
+          (raised_in_order (bytes_of old) v twin.over twin.own twin.under s front (subst (λ ms. StandsFor (bytes_of old) (with_members v ms) s) twin.are stands)
+          (ap (λ (n : NodeState). n.stopped) node_is ∙ did.runs) (ap (λ (n : NodeState). n.found) node_is ∙ found)) in
+          let beyond : last_of before.node.state < front.number = grind (arith, nat_tests) in
+          absurd (omega (arith, committed, beyond))
+      | inr reached ↦ knows front found (rw reached at is)
     ]
 
-    pub known_goes : GoesOn
+    -- all of this can happen in such a chain
+    pub known_goes : GoesOn now
     known_goes = elim did.did [
-      | inl is ↦ by before.node.state.found refl (ap (λ (n : Seen S). n.state) is.node) is.sent
-      | inr is ↦ stops causes.Memory memory_is_one (ap (λ (n : Seen S). n.state) is.node) is.sent
+      | inl is ↦ by before.node.state.found refl is
+      | inr is ↦ stops is
     ]
-
--- a front that a sound member raised isn't below what it knows
-pub raised_above : (about : About) (keeping : Keeping) (node : NodeState) → IsSound about keeping node → (front : FoundFront) → node.found ≡ Some (Raised front) → node.known ≤ front.number
-raised_above about keeping node is front was = omega (arith, is.ahead, (is.found (Raised front) was).1)
-
--- and a member of a chain has applied all up to a front that it raised
-pub within_here : {S : Type 0} (about : S → About) (keeps : S → List ℕ → Type 0) (may_leave_now : S → List ℕ → Type 0) (old : Chained S) (at : ℕ) (before : Linked S) → slice_get old.members at ≡ Some before
-    → (v : View) (s : State) → Shows about keeps may_leave_now old v → StandsFor (bytes_of old) v s → (front : FoundFront) → before.node.state.found ≡ Some (Raised front) → front.number ≤ last_of before.node.state
-within_here about keeps may_leave_now old at before here v s shows stands front was =
-    let place = place_of old.members at before here in
-    let twin = twin_of (IsShown about keeps may_leave_now (bytes_of old)) place.above before place.below v.members (subst (λ l. AllZip (IsShown about keeps may_leave_now (bytes_of old)) l v.members) place.split shows.members) in
-    let node_is : twin.own.node ≡ before.node.state = ap (λ (m : Member). m.node) twin.fits.is in
-    let applied = subst (λ (n : NodeState). v.told.front ≤ last_of n) node_is (committed_there (bytes_of old) v s stands twin.over twin.own twin.under twin.are) in
-    let raised = raised_there (bytes_of old) v s stands twin.over twin.own twin.under twin.are front (ap (λ (n : NodeState). n.found) node_is ∙ was) in
-    omega (arith, applied, raised)

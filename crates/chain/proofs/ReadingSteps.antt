@@ -1,6 +1,6 @@
 -- A member takes a READ.
 use Rattle.std.proofs.Common.{◌≡◌, ◌⊎◌, ℕ, ◌*◌, ◌≤◌, List, [], ◌∷◌, refl, ap, sym, subst, ◌∙◌, inl, inr}
-use Rattle.std.specs.Prelude.{All, IfSome, Option, None, Some, drop, fold, if◌then◌else◌, is_some, slice_get, slice_set, take}
+use Rattle.std.specs.Prelude.{All, IfSome, None, Some, drop, fold, slice_get, slice_set, take}
 use Rattle.disk_model.specs.Disk.{LeavesOnly}
 use Rattle.flush_barrier.specs.Owed.{Owed}
 use Rattle.flush_barrier.specs.Reply.{GivenReply}
@@ -9,29 +9,28 @@ use Rattle.local_store.specs.Meaning.{Means}
 use Rattle.version_table.specs.Held.{IsClean, writes_upto}
 use Rattle.volume.specs.Writes.{Fits, patched}
 use Rattle.volume.specs.declared.geometry.Geometry.{Geometry}
-use Rattle.chain_core.specs.Node.{IsRefusedBy, IsStep, Seen, size_of, turned_away}
-use Rattle.chain_core.specs.Reads.{HasOnlyRead, IsReadRefused, IsStepOver}
+use Rattle.chain_core.specs.Node.{IsRefusedBy, IsStep, Seen, size_of}
+use Rattle.chain_core.specs.Reads.{IsStepOver}
 use Rattle.chain_core.specs.Stays.{clean_or_dirty}
 use Rattle.chain_core.specs.declared.refusal.Refusal.{Refusal}
 use Rattle.chain_core.specs.declared.refusal.Refusal.TheVariants as refusals
 use Rattle.chain_steps.specs.Node.{NodeState, Out, Stepped}
-use Rattle.chain_steps.specs.Place.{is_member}
-use Rattle.chain_steps.specs.Steps.{range_of, read_asked, stop, volume_at}
+use Rattle.chain_steps.specs.Steps.{range_of, read_asked, volume_at}
 use Rattle.chain_steps.specs.Waiting.{reply_with}
-use Rattle.chain_steps.specs.declared.cause.Cause.{Cause}
 use Rattle.chain_steps.specs.declared.cause.Cause.TheVariants.{Device}
 use Rattle.chain_steps.specs.declared.waiting.Waiting.TheVariants as waits
-use Rattle.world_model.specs.Chain.{ArePutOut, Member, View}
+use Rattle.world_model.specs.Chain.{ArePutOut}
 use Rattle.world_model.specs.Event.{Answered, ClientEvent, Done}
-use Rattle.world_model.specs.Life.{Answer, Ask, Drop, Takes, Taking}
 use Rattle.world_model.specs.Requests.{Held}
+use Rattle.chain_model.specs.Life.{Answer, Ask, Drop, Takes, Taking}
+use Rattle.chain_model.specs.View.{Member, View}
 use Rattle.chain.specs.Asking.{GoesTaking, HasRead, IsUnreadAt, ReadsSo, read_by}
 use Rattle.chain.specs.Chain.{Chained, Goes, IsFormed, Shows, bytes_of}
 use Rattle.chain.specs.Commits.{LeavesAt, MeansOld}
-use Rattle.chain.specs.Member.{IsLeft, IsLinked, IsShown, Linked, fronts_of, member_of, musters_of, receipts_of}
-use Rattle.chain.proofs.AskingSteps.{takes_at, takes_by}
+use Rattle.chain.specs.Member.{IsLeft, IsShown, Linked, fronts_of, member_of, musters_of, receipts_of}
+use Rattle.chain.proofs.AskingSteps.{runs_so, takes_at, takes_by}
 use Rattle.chain.proofs.CommitSteps.{Remains, Works, disk_told, formed_called, is_old, left_then, rests_leaves, runs_leaves, shown_over, with_node, works_formed, works_lead, works_leaves}
-use Rattle.chain.proofs.Orderly.{device_is_one}
+use Rattle.chain.proofs.Causes.{device_is_one}
 use Rattle.chain.proofs.Stepping.{UsesAsBefore, formed_still, in_at, rests, same_then, shown_still}
 
 -- ---- what of the member stays
@@ -46,46 +45,13 @@ away_same stepped old new replies refusals.Full why = absurd why
 away_same stepped old new replies refusals.Early why = absurd why
 away_same stepped old new replies refusals.Busy why = absurd why
 
-remains_at : {S : Type 0} (about : S → About) (old new : Seen S) (state : NodeState) → new.state ≡ state → state.board ≡ old.state.board → state.place ≡ old.state.place → state.incarnation ≡ old.state.incarnation
-    → state.turned ≡ old.state.turned → state.holds ≡ old.state.holds → (about new.store).geometry ≡ (about old.store).geometry → Remains about old new
-remains_at about old new state is board place incarnation turned holds geometry = record {
-  board = ap (λ (n : NodeState). n.board) is ∙ board;
-  place = ap (λ (n : NodeState). n.place) is ∙ place;
-  incarnation = ap (λ (n : NodeState). n.incarnation) is ∙ incarnation;
-  turned = ap (λ (n : NodeState). n.turned) is ∙ turned;
-  holds = ap (λ (n : NodeState). n.holds) is ∙ holds;
-  geometry = geometry;
-}
-
-module _ {S : Type 0} (premise : Type 0) (about : S → About) (failures : S → ℕ) (keeps : S → List ℕ → Type 0) (moment : S → ℕ) (left_since : S → ℕ → List ℕ → Type 0) (offset len : ℕ) where
-  pub read_remains : (token : Owed) (old new : Seen S) (out : Out) → ReadsSo premise about keeps moment left_since offset len token old new out → Remains about old new
+module _ {S : Type 0} (premise : Type 0) (about : S → About) (keeps : S → List ℕ → Type 0) (moment : S → ℕ) (left_since : S → ℕ → List ℕ → Type 0) (offset len : ℕ) where
+  -- nor did a READ that was taken
+  read_remains : (token : Owed) (old new : Seen S) (out : Out) → ReadsSo premise about keeps moment left_since offset len token old new out → Remains about old new
   read_remains token old new out did = elim (clean_or_dirty old.state.table offset len old.state.known) [
-    | inl clean ↦ remains_at about old new old.state ((did.at_once clean).node []) refl refl refl refl refl (ap (λ a. a.geometry) did.tells)
-    | inr dirty ↦ remains_at about old new (read_asked offset len token old.state).node (ap (λ n. n.state) (did.waits dirty).node) refl refl refl refl refl (ap (λ a. a.geometry) did.tells)
+    | inl clean ↦ record { board = ap (λ (n : NodeState). n.board) ((did.at_once clean).node []); place = ap (λ (n : NodeState). n.place) ((did.at_once clean).node []); geometry = ap (λ a. a.geometry) did.tells }
+    | inr dirty ↦ record { board = ap (λ n. n.state.board) (did.waits dirty).node; place = ap (λ n. n.state.place) (did.waits dirty).node; geometry = ap (λ a. a.geometry) did.tells }
   ]
-
-  pub unread_remains : (old new : Seen S) (replies : List GivenReply) (refusal : Refusal) (Reads : Type 0) → IsReadRefused about failures (HasOnlyRead premise about failures keeps moment left_since old.store new.store) Reads old new replies refusal
-      → Remains about old new
-  unread_remains old new replies refusal Reads (inl away) =
-      let same = (away_same _ old new replies refusal away).0 in
-      remains_at about old new old.state (ap (λ n. n.state) same) refl refl refl refl refl (ap (λ n. (about n.store).geometry) same)
-  unread_remains old new replies refusal Reads (inr (inl vain)) = remains_at about old new old.state vain.3.state refl refl refl refl refl (ap (λ a. a.geometry) vain.3.store.tells)
-  unread_remains old new replies refusal Reads (inr (inr broken)) =
-      remains_at about old new (stop (Device broken.3.error) old.state).node broken.3.node refl refl refl refl refl (ap (λ a. a.geometry) broken.3.failed.broken)
-
--- the links carry what they carried
-pub linked_still : {S : Type 0} (about : S → About) (m : Linked S) (new : Seen S) → Remains about m.node new → IsLinked about m → IsLinked about (record m { node = new })
-linked_still about m new stays is = record { puts = rw (stays.place, stays.geometry) is.puts; acks = rw stays.place is.acks; submits = rw (stays.place, stays.geometry) is.submits }
-
--- ---- why a READ isn't taken
-
-stopped_none : (stopped : Option Cause) (other : Option ℕ) → (if is_some stopped then Some 154 else other) ≡ None → stopped ≡ None
-stopped_none None other is = refl
-stopped_none (Some cause) other is = let no : Some 154 ≡ None = is in absurd (cc)
-
--- a member that turns no request away runs
-pub runs_so : (node : NodeState) → turned_away node ≡ None → node.stopped ≡ None
-runs_so node away = stopped_none node.stopped (if is_member node.place then None else Some 151) away
 
 module _ {S : Type 0} (premise : Type 0) (about : S → About) (failures : S → ℕ) (keeps : S → List ℕ → Type 0) (moment : S → ℕ) (left_since : S → ℕ → List ℕ → Type 0) (offset len : ℕ)
     (may_leave_now : S → List ℕ → Type 0) (old : Chained S) (at : ℕ) (before after : Linked S) (here : slice_get old.members at ≡ Some before) where
@@ -148,7 +114,7 @@ module _ {S : Type 0} (premise : Type 0) (about : S → About) (failures : S →
 
   module _ (token : Owed) (replies : List GivenReply) (did : HasRead (ReadsSo premise about keeps moment left_since offset len token) replies before after) where
     pub read_formed : IsFormed about old → IsFormed about now
-    read_formed formed = formed_called about old at before here after did.are (read_remains premise about failures keeps moment left_since offset len token before.node after.node did.out did.did) formed
+    read_formed formed = formed_called about old at before here after did.are (read_remains premise about keeps moment left_since offset len token before.node after.node did.out did.did) formed
 
     module _ (so : premise) (counts_now : (store : S) (t : ℕ) (c : List ℕ) → t ≤ moment store → may_leave_now store c → left_since store t c)
         (run : (volume : List ℕ) → keeps before.node.store volume → LeavesOnly moment left_since before.node.store after.node.store (Means (meaning_with (about before.node.store) volume))) where
@@ -209,6 +175,7 @@ module _ {S : Type 0} (premise : Type 0) (about : S → About) (failures : S →
               record m { demands = rest },
               shown_read m fits,
               (
+                ap (λ (n : NodeState). n.stopped) node_is ∙ did.runs,
                 refl,
                 subst (λ (n : NodeState). IsClean n.table offset len n.known) (sym node_is) clean,
                 fits.whole,

@@ -1,31 +1,24 @@
 -- One member of a chain steps: what is shown of the chain then, and what happened in it.
-use Rattle.std.proofs.Common.{◌≡◌, true, ℕ, zero, suc, ◌<◌, List, [], ◌∷◌, ◌++◌, length, refl, ap, sym, subst, ◌∙◌}
-use Rattle.std.specs.Prelude.{All, IfSome, None, Some, map, slice_get, slice_index_or, slice_set}
+use Rattle.std.proofs.Common.{◌≡◌, true, ℕ, ◌<◌, List, [], ◌∷◌, ◌++◌, length, refl, ap, sym, subst, ◌∙◌}
+use Rattle.std.specs.Prelude.{All, None, Some, slice_get, slice_index_or, slice_set}
 use Rattle.std.specs.List.{AllZip, flat_map}
 use Rattle.std.proofs.lemmas.List.{append-nil, set-get_or}
 use Rattle.std.proofs.lemmas.List.Elements.{All-head, All-set}
 use Rattle.std.proofs.lemmas.Option.{get_or_from_slice_get, slice_get_read}
 use Rattle.local_store.specs.About.{About}
-use Rattle.world_model.specs.Chain.{ArePutOut, Member, View}
-use Rattle.world_model.specs.ChainLaws.{with_members}
-use Rattle.world_model.specs.ChainSteps.{flat_same, maps_same}
-use Rattle.world_model.specs.Counting.{all_behind}
+use Rattle.world_model.specs.Chain.{ArePutOut}
+use Rattle.world_model.proofs.Counting.{all_behind, flat_same}
 use Rattle.world_model.specs.Event.{ClientEvent}
-use Rattle.world_model.specs.Life.{Does, Doing, Happening, Happens, MemberDoes}
-use Rattle.chain.specs.Chain.{Chained, Goes, IsFormed, IsIn, Shows, are_inner, bytes_of, recorded_as, told_of}
+use Rattle.chain_model.specs.Laws.{with_members}
+use Rattle.chain_model.specs.Life.{Does, Doing, Happening, Happens, MemberDoes}
+use Rattle.chain_model.specs.View.{Member, View}
+use Rattle.chain.specs.Chain.{Chained, Goes, IsFormed, IsIn, Shows, are_inner, bytes_of, told_of}
 use Rattle.chain.specs.Member.{IsShown, Linked, fronts_of, member_of, musters_of, receipts_of}
 use Rattle.chain.proofs.Cells.{Place, place_of, twin_of}
 
 -- what all have, the one at a place has
 pub all_at : {A : Type 0} (P : A → Type 0) (xs : List A) (at : ℕ) (x : A) → slice_get xs at ≡ Some x → All P xs → P x
 all_at P xs at x here all = let place = place_of xs at x here in All-head P x place.below (all_behind P place.above (x ∷ place.below) (subst (All P) place.split all))
-
--- the head stays without Puts
-pub head_then : {S : Type 0} (ms : List (Linked S)) (at : ℕ) (before after : Linked S) → slice_get ms at ≡ Some before → (before.puts ≡ [] → after.puts ≡ [])
-    → IfSome (slice_get ms 0) (λ m. m.puts ≡ []) → IfSome (slice_get (slice_set ms at after) 0) (λ m. m.puts ≡ [])
-head_then [] at before after here idle head = head
-head_then (m ∷ ms) zero before after here idle head = let same : Some m ≡ Some before = here in let is : m ≡ before = cc same in idle (ap (λ x. x.puts) (sym is) ∙ head)
-head_then (m ∷ ms) (suc at) before after here idle head = head
 
 -- what a call reads at a place
 pub read_at : {S : Type 0} (old now : Chained S) (at : ℕ) (x : Linked S) → old ≡ now → at < length now.members → x ≡ slice_index_or old.members at x → slice_get old.members at ≡ Some x
@@ -50,16 +43,18 @@ module _ {S : Type 0} (old : Chained S) (at : ℕ) (before after : Linked S) (he
   pub told_stays : UsesAsBefore before after → told_of then ≡ told_of old
   told_stays same = rw (gathers (λ m. fronts_of m.front) same.front, gathers (λ m. musters_of m.muster) same.muster, gathers (λ m. receipts_of m.receipt) same.receipt) refl
 
-  -- the member is in the chain still
-  pub formed_then : (about : S → About) → recorded_as after ≡ recorded_as before → (before.puts ≡ [] → after.puts ≡ []) → (IsIn about old.id old.seat old.chain old.geometry before → IsIn about old.id old.seat old.chain old.geometry after) → IsFormed about old → IsFormed about then
-  formed_then about recorded idle stays formed = record {
-    recorded = ap (map recorded_as) (place.setting after) ∙ maps_same recorded_as place.above before after place.below recorded ∙ ap (map recorded_as) (sym place.split) ∙ formed.recorded;
-    head = head_then old.members at before after here idle formed.head;
-    members = All-set (IsIn about old.id old.seat old.chain old.geometry) old.members at after (stays (all_at (IsIn about old.id old.seat old.chain old.geometry) old.members at before here formed.members)) formed.members;
+  -- the member is one of the chain still
+  pub formed_then : (about : S → About) → (IsIn about old.id old.seat old.geometry before → IsIn about old.id old.seat old.geometry after) → IsFormed about old → IsFormed about then
+  formed_then about stays formed = record {
+    members = All-set (IsIn about old.id old.seat old.geometry) old.members at after (stays (all_at (IsIn about old.id old.seat old.geometry) old.members at before here formed.members)) formed.members;
+    all_links = formed.all_links;
+    all_submits = formed.all_submits;
+    links_inside = formed.links_inside;
+    submits_inside = formed.submits_inside;
   }
 
   pub formed_still : (about : S → About) → after ≡ before → IsFormed about old → IsFormed about then
-  formed_still about same formed = formed_then about (ap recorded_as same) (λ idle. ap (λ m. m.puts) same ∙ idle) (subst (IsIn about old.id old.seat old.chain old.geometry) (sym same)) formed
+  formed_still about same formed = formed_then about (subst (IsIn about old.id old.seat old.geometry) (sym same)) formed
 
   -- the same member in its place changes nothing
   pub same_then : after ≡ before → then ≡ old
@@ -103,7 +98,12 @@ module _ {S : Type 0} (about : S → About) (keeps : S → List ℕ → Type 0) 
           with_members v (twin.over ++ did.0 ∷ twin.under),
           record {
             told = shows.told ∙ sym (told_stays old at before after here same);
+            recorded = shows.recorded;
+            before = shows.before;
+            writing = shows.writing;
             members = subst (λ l. AllZip IsSo l (twin.over ++ did.0 ∷ twin.under)) (sym (place.setting after)) (twin.others after did.0 place.below twin.under did.1 twin.rest);
+            links = shows.links;
+            submits = shows.submits;
           },
           record { happenings = h ∷ []; each = events ∷ []; inner = inner; era = (with_members v (twin.over ++ did.0 ∷ twin.under), events, [], refl, did.2, (refl, refl)); all = append-nil events },
         )
@@ -117,5 +117,5 @@ module _ {S : Type 0} (about : S → About) (keeps : S → List ℕ → Type 0) 
         (did.0, did.1, record { above = over; old = m; new = did.0; below = under; were = are; are = refl; change = did.2 }))
 
 -- the member at a place is in the chain
-pub in_at : {S : Type 0} (about : S → About) (c : Chained S) (at : ℕ) (m : Linked S) → slice_get c.members at ≡ Some m → IsFormed about c → IsIn about c.id c.seat c.chain c.geometry m
-in_at about c at m here formed = all_at (IsIn about c.id c.seat c.chain c.geometry) c.members at m here formed.members
+pub in_at : {S : Type 0} (about : S → About) (c : Chained S) (at : ℕ) (m : Linked S) → slice_get c.members at ≡ Some m → IsFormed about c → IsIn about c.id c.seat c.geometry m
+in_at about c at m here formed = all_at (IsIn about c.id c.seat c.geometry) c.members at m here formed.members

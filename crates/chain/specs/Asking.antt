@@ -1,5 +1,5 @@
 -- What a member does with a write or a FLUSH of its sessions.
-use Rattle.std.specs.Prelude.{◌≡◌, ◌⊎◌, ℕ, ◌≤◌, true, ⊤, IfSome, None, Some, List, [], ◌∷◌, ◌++◌, map, slice_get, slice_set}
+use Rattle.std.specs.Prelude.{◌≡◌, ◌⊎◌, ℕ, ◌≤◌, true, ⊤, IfSome, None, Some, List, [], ◌∷◌, map, slice_get, slice_set}
 use Rattle.disk_model.specs.Disk.{LeavesOnly}
 use Rattle.flush_barrier.specs.Owed.{Owed, OwedAt}
 use Rattle.flush_barrier.specs.Reply.{GivenReply}
@@ -16,12 +16,17 @@ use Rattle.chain_core.specs.Node.{IsRefusedBy, IsStep, Seen}
 use Rattle.chain_core.specs.Reads.{HasOnlyRead, IsReadRefused, IsStepOver}
 use Rattle.chain_core.specs.declared.refusal.Refusal.{Refusal}
 use Rattle.chain_core.specs.declared.refusal.Refusal.TheVariants as refusals
-use Rattle.world_model.specs.Chain.{ArePutOut, StandsFor, View}
+use Rattle.world_model.specs.Chain.{ArePutOut}
 use Rattle.world_model.specs.Event.{ClientEvent, Flush, Fua, Read, Write}
-use Rattle.world_model.specs.Life.{Era, Happening, all_events}
+use Rattle.world_model.specs.Life.{all_events}
 use Rattle.world_model.specs.Machine.{State}
 use Rattle.world_model.specs.Requests.{Held}
+use Rattle.chain_model.specs.Chain.{StandsFor}
+use Rattle.chain_model.specs.Laws.{HasSent}
+use Rattle.chain_model.specs.Life.{Era, Happening}
+use Rattle.chain_model.specs.View.{View}
 use Rattle.chain.specs.Chain.{Chained, Shows, bytes_of}
+use Rattle.chain.specs.Links.{link_at}
 use Rattle.chain.specs.Member.{Linked}
 
 -- the request whose token this is
@@ -37,14 +42,14 @@ abbrev pub IsUnnumbered : WriteToken → Type 0
 IsUnnumbered (tokens.Plain token) = ⊤
 IsUnnumbered (tokens.Fua token) = token.number ≡ None
 
--- The write is on its way to the head, and its token waits under the next ticket.
-pub record HasSubmitted {S : Type 0} (token : WriteToken) (write : Placed) (old new : Linked S) : Type 0 where
-  pub runs : old.node.state.stopped ≡ None
-  pub ticket : old.node.state.ticket ≤ MAX_NUMBER
-  pub are : new ≡ record old {
-    node = record { store = old.node.store; state = (submit token write old.node.state).node };
-    submits = old.submits ++ map (λ sent. sent.envelope) (submit token write old.node.state).out.messages;
-  }
+-- The write of the member at the place is on its way to the head, and its token waits under the next ticket.
+pub record HasSubmitted {S : Type 0} (at : ℕ) (token : WriteToken) (write : Placed) (old new : Chained S) : Type 0 where
+  pub before : Linked S
+  pub here : slice_get old.members at ≡ Some before
+  pub runs : before.node.state.stopped ≡ None
+  pub ticket : before.node.state.ticket ≤ MAX_NUMBER
+  pub sent : HasSent before.node.state.place.slot (submit token write before.node.state).out.messages (link_at old.submits) (link_at new.submits)
+  pub are : new ≡ record old { members = slice_set old.members at (record before { node = record { store = before.node.store; state = (submit token write before.node.state).node } }); submits = new.submits }
 
 -- The FLUSH waits for the first front that is looked up behind it.
 pub record HasFlushed {S : Type 0} (token : OwedAt) (old new : Linked S) : Type 0 where

@@ -1,51 +1,57 @@
 -- What contracts see of a chain, what holds of every one, and when a call of it is of the one volume.
-use Rattle.std.specs.Prelude.{◌≡◌, ℕ, ◌+◌, ◌*◌, Bool, ◌&&◌, false, true, Some, List, [], ◌∷◌, All, IfSome, map, slice_get, slice_set}
+use Rattle.std.specs.Prelude.{◌≡◌, ℕ, ◌+◌, ◌*◌, Bool, ◌&&◌, false, true, Option, Some, List, [], ◌∷◌, All, length, slice_get, slice_set}
 use Rattle.std.specs.List.{AllZip, flat_map}
 use Rattle.std.specs.Option.{ForSome}
 use Rattle.board.specs.Seats.{BoardId}
 use Rattle.configurations.specs.Record.{Record}
-use Rattle.configurations.specs.declared.member.Member as recorded
 use Rattle.flush_barrier.specs.Reply.{GivenReply}
 use Rattle.gate_journal.specs.Receipt.{Receipt}
 use Rattle.local_store.specs.About.{About}
 use Rattle.volume.specs.declared.geometry.Geometry.{Geometry}
 use Rattle.chain_steps.specs.Node.{is_stopped}
-use Rattle.world_model.specs.Chain.{ArePutOut, StandsFor, BoardInUse, View}
+use Rattle.chain_steps.specs.Place.{is_member}
+use Rattle.chain_steps.specs.declared.message.Envelope.{Envelope}
+use Rattle.world_model.specs.Chain.{ArePutOut, BoardInUse}
 use Rattle.world_model.specs.Event.{ClientEvent}
-use Rattle.world_model.specs.Life.{Era, Happening, HeadNumbers, PutApplied, AckTaken, FrontRaised, BoardTells, MemberDoes, MemberTakes, RequestsSent, RequestsTakenUp, SessionBegins, SessionEnds, all_events}
+use Rattle.world_model.specs.Life.{all_events}
 use Rattle.world_model.specs.Machine.{State}
+use Rattle.chain_model.specs.Chain.{StandsFor}
+use Rattle.chain_model.specs.Life.{BoardTells, Era, FrontRaised, Happening, MemberDoes, MemberSubmits, MemberTakes, MemberTold, MessageTaken, RaisedKnown, RecordBegun, RecordEnded, RequestsSent, RequestsTakenUp, SessionBegins, SessionEnds, SubmitTaken}
+use Rattle.chain_model.specs.View.{View}
+use Rattle.chain.specs.Links.{AreInside, link_at}
 use Rattle.chain.specs.LoneBoard.{Words}
 use Rattle.chain.specs.Member.{IsFrontOf, IsMusterOf, IsShown, Linked, fronts_of, musters_of, receipts_of}
 
--- A chain: its board with the words on it and the one seat, the record that its members were told, the sizes of its volume, and
--- its members from the head to the tail.
+-- A chain: its board with the words on it and the one seat; the recorded chain, the one recorded before it, and the record that is
+-- being written; the sizes of its volume; whoever stands at the slots; and the chain links and submit links between these.
 pub record Chained (S : Type 0) : Type 0 where
   pub id : BoardId
   pub seat : ℕ
   pub words : Words
-  pub chain : Record
+  pub recorded : Record
+  pub before : Record
+  pub writing : Option Record
   pub geometry : Geometry
   pub members : List (Linked S)
+  pub links : List (List Envelope)
+  pub submits : List (List Envelope)
 
--- the member as it is recorded
-abbrev pub recorded_as : {S : Type 0} → Linked S → recorded.Member
-recorded_as m = record { slot = m.node.state.place.slot; incarnation = m.node.state.incarnation }
-
--- a member of this board and seat, which was told this record, whose Turn has come, and whose volume has these sizes
-pub record IsIn {S : Type 0} (about : S → About) (id : BoardId) (seat : ℕ) (chain : Record) (geometry : Geometry) (m : Linked S) : Type 0 where
+-- a member of this board and seat, whose volume has these sizes, and which is in the chain that it was told
+pub record IsIn {S : Type 0} (about : S → About) (id : BoardId) (seat : ℕ) (geometry : Geometry) (m : Linked S) : Type 0 where
   pub board : m.node.state.board ≡ id
-  pub told : m.node.state.place.chain ≡ chain
-  pub turned : m.node.state.turned ≡ true
-  pub free : m.node.state.holds ≡ false
   pub sizes : (about m.node.store).geometry ≡ geometry
+  pub member : is_member m.node.state.place ≡ true
   pub front : ForSome m.front (IsFrontOf id seat)
   pub muster : ForSome m.muster (IsMusterOf id seat)
 
--- what holds of every chain: its members are those recorded, and nothing is on its way down to the head
+-- what holds of every chain: each member is one of its board and sizes, in the chain that it was told; there is a link of each kind from
+-- each slot to each; and each write on its way lies in the volume
 pub record IsFormed {S : Type 0} (about : S → About) (c : Chained S) : Type 0 where
-  pub recorded : map recorded_as c.members ≡ c.chain.members
-  pub head : IfSome (slice_get c.members 0) (λ m. m.puts ≡ [])
-  pub members : All (IsIn about c.id c.seat c.chain c.geometry) c.members
+  pub members : All (IsIn about c.id c.seat c.geometry) c.members
+  pub all_links : length c.links ≡ 64
+  pub all_submits : length c.submits ≡ 64
+  pub links_inside : AreInside (4096 * c.geometry.blocks) c.links
+  pub submits_inside : AreInside (4096 * c.geometry.blocks) c.submits
 
 -- ---- as which view it is shown
 
@@ -72,7 +78,12 @@ bytes_of c = 4096 * c.geometry.blocks
 -- The chain is shown so, with what its sessions keep, whatever that is.
 pub record Shows {S : Type 0} (about : S → About) (keeps : S → List ℕ → Type 0) (may_leave_now : S → List ℕ → Type 0) (c : Chained S) (v : View) : Type 0 where
   pub told : v.told ≡ told_of c
+  pub recorded : v.recorded ≡ c.recorded
+  pub before : v.before ≡ c.before
+  pub writing : v.writing ≡ c.writing
   pub members : AllZip (IsShown about keeps may_leave_now (bytes_of c)) c.members v.members
+  pub links : v.links ≡ link_at c.links
+  pub submits : v.submits ≡ link_at c.submits
 
 -- ---- what a call does
 
@@ -94,12 +105,16 @@ pub record RestsAt {S : Type 0} (at : ℕ) (old new : Chained S) : Type 0 where
 -- this is neither of sessions nor of what waits for a member
 abbrev pub is_inner : Happening → Bool
 is_inner (MemberTakes taking) = false
+is_inner MemberSubmits = false
 is_inner (MemberDoes doing) = true
-is_inner HeadNumbers = true
-is_inner PutApplied = true
-is_inner AckTaken = true
+is_inner RaisedKnown = true
+is_inner MessageTaken = true
+is_inner SubmitTaken = true
 is_inner FrontRaised = true
 is_inner BoardTells = true
+is_inner RecordBegun = true
+is_inner RecordEnded = true
+is_inner MemberTold = true
 is_inner SessionBegins = false
 is_inner SessionEnds = false
 is_inner RequestsSent = false

@@ -15,7 +15,7 @@ use Rattle.chain_steps.specs.declared.cause.Cause.TheVariants.{Told}
 use Rattle.chain_core.specs.Commits.{HasBegun, HasEnded, HasRunOut, HasStoppedBy, HasWorked}
 use Rattle.chain_core.specs.Node.{Seen}
 use Rattle.chain_core.specs.Reads.{HasOnlyRead}
-use Rattle.world_model.specs.Chain.{Member}
+use Rattle.chain_model.specs.View.{Member}
 use Rattle.chain.specs.Chain.{Chained, bytes_of}
 use Rattle.chain.specs.LoneBoard.{Lone, posted}
 use Rattle.chain.specs.Member.{IsLeft, IsShown, Linked}

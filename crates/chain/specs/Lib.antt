@@ -10,3 +10,4 @@ pub mod Muster
 pub mod Musters
 pub mod Opening
 pub mod Passing
+pub mod Recording

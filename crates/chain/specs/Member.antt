@@ -1,36 +1,24 @@
--- What contracts see of a member with its links, and as which member of a view it is shown.
-use Rattle.std.specs.Prelude.{◌≡◌, ℕ, ◌≤◌, Option, Some, None, List, [], ◌∷◌, All, length, map}
+-- What contracts see of a member with what of the board it has in use, and as which member of a view it is shown.
+use Rattle.std.specs.Prelude.{◌≡◌, ℕ, ◌≤◌, Option, Some, None, List, [], ◌∷◌, length, map}
 use Rattle.board.specs.Seats.{BoardId, FoundFront, FoundGauge}
 use Rattle.flush_barrier.specs.Reply.{GivenReply}
 use Rattle.gate_journal.specs.Receipt.{Receipt}
 use Rattle.local_store.specs.About.{About, meaning_with}
 use Rattle.local_store.specs.Meaning.{Means}
-use Rattle.chain_steps.specs.Node.{NodeState, Out, durable_of, epoch_of}
+use Rattle.chain_steps.specs.Node.{NodeState, Out, durable_of}
 use Rattle.chain_steps.specs.Steps.{volume_at}
-use Rattle.chain_steps.specs.declared.message.Envelope.{Envelope}
-use Rattle.chain_core.specs.Node.{Seen, size_of}
+use Rattle.chain_core.specs.Node.{Seen}
 use Rattle.world_model.specs.Backing as model
-use Rattle.world_model.specs.Chain.{Member}
 use Rattle.world_model.specs.Requests.{Held}
-use Rattle.chain.specs.Links.{IsAckOf, IsPutOf, IsSubmitOf, acks_in, puts_in, submits_in}
+use Rattle.chain_model.specs.View.{Member}
 use Rattle.chain.specs.declared.muster.Muster.{Muster}
 
--- A member with its store: the chain link to it from the one before it, the one back, and its submit link to the head; a front
--- that was looked up for a crew, a crew with its gauges, and a receipt that isn't posted.
+-- A member with its store: a front that was looked up for a crew, a crew with its gauges, and a receipt that isn't posted.
 pub record Linked (S : Type 0) : Type 0 where
   pub node : Seen S
-  pub puts : List Envelope
-  pub acks : List Envelope
-  pub submits : List Envelope
   pub front : Option FoundFront
   pub muster : Option Muster
   pub receipt : Option Receipt
-
--- the links carry what belongs on them, of the member's epoch and size
-pub record IsLinked {S : Type 0} (about : S → About) (m : Linked S) : Type 0 where
-  pub puts : All (IsPutOf (epoch_of m.node.state) (size_of (about m.node.store))) m.puts
-  pub acks : All (IsAckOf (epoch_of m.node.state)) m.acks
-  pub submits : All (IsSubmitOf (epoch_of m.node.state) (size_of (about m.node.store))) m.submits
 
 -- this is of the board, and was found by the seat
 abbrev pub IsFrontOf : BoardId → ℕ → FoundFront → Type 0
@@ -52,7 +40,7 @@ pub record HasCalled {S : Type 0} (Did : Seen S → Seen S → Out → Type 0) (
 
 -- at the volume of its durable front, with the demands of its sessions
 abbrev pub member_of : {S : Type 0} → Linked S → List ℕ → List Held → Member
-member_of m volume demands = record { node = m.node.state; volume = volume; puts = puts_in m.puts; acks = acks_in m.acks; submits = submits_in m.submits; demands = demands }
+member_of m volume demands = record { node = m.node.state; volume = volume; demands = demands }
 
 -- a content of its disk means some front from the durable one to the known commit, with the volume there
 abbrev pub IsLeft : About → List ℕ → NodeState → List ℕ → Type 0

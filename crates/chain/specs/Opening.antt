@@ -28,9 +28,6 @@ beginning_of about id chain store = record {
       commit = None;
     };
   };
-  puts = [];
-  acks = [];
-  submits = [];
   front = None;
   muster = None;
   receipt = None;

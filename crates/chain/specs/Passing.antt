@@ -1,17 +1,37 @@
 -- What a member does with the first message of a link.
-use Rattle.std.specs.Prelude.{◌≡◌, ◌⊎◌, ℕ, Option, Some, None, Result, Ok, Err, All, IfSome, List, [], ◌∷◌, ◌++◌, length, map, slice_get}
+use Rattle.std.specs.Prelude.{◌≡◌, ◌⊎◌, ℕ, ◌+◌, ◌-◌, Option, Some, None, Result, Ok, Err, List, [], ◌∷◌, ◌++◌, map, slice_get, slice_set}
 use Rattle.flush_barrier.specs.Reply.{GivenReply}
-use Rattle.local_store.specs.About.{About}
-use Rattle.chain_steps.specs.Node.{NodeState, Refused, Stepped, Taken, epoch_of}
+use Rattle.chain_steps.specs.Node.{NodeState, Refused, Stepped, Taken, last_of}
+use Rattle.chain_steps.specs.Place.{predecessor_of, successor_of}
 use Rattle.chain_steps.specs.Steps.{deliver, stop}
 use Rattle.chain_steps.specs.declared.cause.Cause.{Cause}
 use Rattle.chain_steps.specs.declared.cause.Cause.TheVariants as causes
 use Rattle.chain_steps.specs.declared.message.Envelope.{Envelope}
-use Rattle.chain_core.specs.Node.{Seen, size_of}
+use Rattle.chain_steps.specs.declared.message.Message.{Message}
+use Rattle.chain_steps.specs.declared.message.Message.TheVariants as messages
+use Rattle.chain_core.specs.Node.{Seen}
 use Rattle.chain_core.specs.Refusal.{number_of}
 use Rattle.chain_core.specs.declared.refusal.Refusal.{Refusal}
+use Rattle.chain_model.specs.Laws as laws
 use Rattle.chain.specs.Chain.{Chained}
+use Rattle.chain.specs.Links.{link_at}
 use Rattle.chain.specs.Member.{Linked}
+
+-- ---- of one member
+
+-- whom it tells of the message: those before it of an Ack, and those behind it of all else
+abbrev pub target_of : NodeState → Message → Option ℕ
+target_of node (messages.Put n origin write) = successor_of node.place
+target_of node (messages.Ack front) = predecessor_of node.place
+target_of node (messages.Turn applied) = successor_of node.place
+target_of node (messages.Submit ticket write) = successor_of node.place
+
+-- how many messages it sends then at most
+abbrev pub most_of : NodeState → Message → ℕ
+most_of node (messages.Put n origin write) = 1
+most_of node (messages.Ack front) = 1
+most_of node (messages.Turn applied) = last_of node - node.known + 1
+most_of node (messages.Submit ticket write) = 1
 
 -- The first message of the link, from the member at the slot, is taken by this step, after which the member runs: it is gone
 -- from the link, and what the step sends is sent.
@@ -59,83 +79,72 @@ pub record IsRefused (slot : ℕ) (node : NodeState) (link : List Envelope) (num
 
 -- ---- of a chain
 
--- the first of these gets these messages behind those that are on their way to it
-abbrev pub with_puts : {S : Type 0} → List Envelope → List (Linked S) → List (Linked S)
-with_puts sent [] = []
-with_puts sent (m ∷ ms) = record m { puts = m.puts ++ sent } ∷ ms
+-- The member at the place took the first message that came from the slot by its chain link, and sent what that step sends.
+pub record MessageIsTaken {S : Type 0} (from at : ℕ) (old new : Chained S) (replies : List GivenReply) : Type 0 where
+  pub before : Linked S
+  pub envelope : Envelope
+  pub stepped : Stepped
+  pub here : slice_get old.members at ≡ Some before
+  pub ran : before.node.state.stopped ≡ None
+  pub taken : deliver from envelope before.node.state ≡ Taken stepped
+  pub runs : stepped.node.stopped ≡ None
+  pub told : replies ≡ stepped.out.replies
+  pub passed : laws.HasPassed from before.node.state.place.slot envelope stepped.out.messages (link_at old.links) (link_at new.links)
+  pub are : new ≡ record old { members = slice_set old.members at (record before { node = record { store = before.node.store; state = stepped.node } }); links = new.links }
 
--- The member at the place takes the first Put on its way to it, and sends it on.
-pub record PutComes {S : Type 0} (at : ℕ) (old new : Chained S) (replies : List GivenReply) : Type 0 where
-  pub slot : ℕ
-  pub above : List (Linked S)
+-- The member at the place took the first message that came from the slot by its submit link, and sent what that step sends.
+pub record SubmitIsTaken {S : Type 0} (from at : ℕ) (old new : Chained S) (replies : List GivenReply) : Type 0 where
+  pub before : Linked S
+  pub envelope : Envelope
+  pub stepped : Stepped
+  pub here : slice_get old.members at ≡ Some before
+  pub ran : before.node.state.stopped ≡ None
+  pub taken : deliver from envelope before.node.state ≡ Taken stepped
+  pub runs : stepped.node.stopped ≡ None
+  pub told : replies ≡ stepped.out.replies
+  pub gone : laws.HasTaken from before.node.state.place.slot envelope (link_at old.submits) (link_at new.submits)
+  pub sent : laws.HasSent before.node.state.place.slot stepped.out.messages (link_at old.links) (link_at new.links)
+  pub are : new ≡ record old { members = slice_set old.members at (record before { node = record { store = before.node.store; state = stepped.node } }); links = new.links; submits = new.submits }
+
+-- The member at the place stopped, since memory ran out, or since the first message from the slot isn't one that comes in a chain: it
+-- stays on its link, and nothing is sent.
+pub record MessageHalts {S : Type 0} (links_of : Chained S → List (List Envelope)) (from at : ℕ) (old new : Chained S) (replies : List GivenReply) : Type 0 where
+  pub before : Linked S
+  pub envelope : Envelope
+  pub rest : List Envelope
+  pub cause : Cause
+  pub here : slice_get old.members at ≡ Some before
+  pub ran : before.node.state.stopped ≡ None
+  pub first : link_at (links_of old) from before.node.state.place.slot ≡ envelope ∷ rest
+  pub why : (cause ≡ causes.Memory) ⊎ (deliver from envelope before.node.state ≡ Taken (stop cause before.node.state))
+  pub told : replies ≡ (stop cause before.node.state).out.replies
+  pub are : new ≡ record old { members = slice_set old.members at (record before { node = record { store = before.node.store; state = (stop cause before.node.state).node } }) }
+
+abbrev pub MessageComes : {S : Type 0} → (from at : ℕ) → Chained S → Chained S → List GivenReply → Type 0
+MessageComes from at old new replies = (MessageIsTaken from at old new replies ⊎ MessageHalts (λ c. c.links) from at old new replies)
+
+abbrev pub SubmitComes : {S : Type 0} → (from at : ℕ) → Chained S → Chained S → List GivenReply → Type 0
+SubmitComes from at old new replies = (SubmitIsTaken from at old new replies ⊎ MessageHalts (λ c. c.submits) from at old new replies)
+
+-- No message is on this link to the member at the place, and nothing changed.
+pub record HasNone {S : Type 0} (links_of : Chained S → List (List Envelope)) (from at : ℕ) (old new : Chained S) : Type 0 where
   pub member : Linked S
-  pub below : List (Linked S)
-  pub node : Seen S
-  pub left : List Envelope
-  pub sent : List Envelope
-  pub place : length above ≡ at
-  pub were : old.members ≡ above ++ member ∷ below
-  pub did : Passes slot member.node node member.puts left sent replies
-  pub are : new ≡ record old { members = above ++ record member { node = node; puts = left } ∷ with_puts sent below }
-
--- The member at the place takes the first Ack on its way from the one behind it, and tells the one before it.
-pub record AckComes {S : Type 0} (at : ℕ) (old new : Chained S) (replies : List GivenReply) : Type 0 where
-  pub slot : ℕ
-  pub above : List (Linked S)
-  pub member : Linked S
-  pub next : Linked S
-  pub below : List (Linked S)
-  pub node : Seen S
-  pub left : List Envelope
-  pub sent : List Envelope
-  pub place : length above ≡ at
-  pub were : old.members ≡ above ++ member ∷ next ∷ below
-  pub did : Passes slot member.node node next.acks left sent replies
-  pub are : new ≡ record old { members = above ++ record member { node = node; acks = member.acks ++ sent } ∷ record next { acks = left } ∷ below }
-
--- The head takes the first write that is submitted from the member at the place, and sends it on.
-pub record SubmitComes {S : Type 0} (from : ℕ) (old new : Chained S) (replies : List GivenReply) : Type 0 where
-  pub one : List (Linked S)
-  pub sender : Linked S
-  pub other : List (Linked S)
-  pub head : Linked S
-  pub below : List (Linked S)
-  pub node : Seen S
-  pub left : List Envelope
-  pub sent : List Envelope
-  pub place : length one ≡ from
-  pub were : old.members ≡ one ++ sender ∷ other
-  pub without : one ++ record sender { submits = left } ∷ other ≡ head ∷ below
-  pub did : Passes sender.node.state.place.slot head.node node sender.submits left sent replies
-  pub are : new ≡ record old { members = record head { node = node } ∷ with_puts sent below }
-
--- The first of these members takes the first write of a submit link from the member at the slot, and sends it on.
-pub record HeadTakes {S : Type 0} (slot : ℕ) (old new : List (Linked S)) (link left : List Envelope) (replies : List GivenReply) : Type 0 where
-  pub head : Linked S
-  pub below : List (Linked S)
-  pub node : Seen S
-  pub sent : List Envelope
-  pub were : old ≡ head ∷ below
-  pub did : Passes slot head.node node link left sent replies
-  pub are : new ≡ record head { node = node } ∷ with_puts sent below
-
--- these members are of the epoch, and their volume has so many bytes
-abbrev pub AreOf : {S : Type 0} → (S → About) → ℕ → ℕ → List (Linked S) → Type 0
-AreOf about epoch size members = All (λ m. (epoch_of m.node.state ≡ epoch) × (size_of (about m.node.store) ≡ size)) members
-
--- No message is on this link, and nothing changed.
-pub record HasNone {S : Type 0} (link_of : Linked S → List Envelope) (at : ℕ) (old new : Chained S) : Type 0 where
-  pub empty : IfSome (slice_get old.members at) (λ member. link_of member ≡ [])
+  pub here : slice_get old.members at ≡ Some member
+  pub empty : link_at (links_of old) from member.node.state.place.slot ≡ []
   pub same : new ≡ old
 
--- The member refuses the first message of the link, which stays there, and nothing changed.
-pub record Refuses {S : Type 0} (link_of : Linked S → List Envelope) (from at : ℕ) (old new : Chained S) (refusal : Refusal) : Type 0 where
-  pub slot : ℕ
-  pub sender : Linked S
+-- The link is one from the member at the place to itself, and nothing changed.
+pub record IsItself {S : Type 0} (from at : ℕ) (old new : Chained S) : Type 0 where
   pub member : Linked S
-  pub behind : slice_get old.members from ≡ Some sender
   pub here : slice_get old.members at ≡ Some member
-  pub refused : IsRefused slot member.node.state (link_of sender) (number_of refusal)
+  pub itself : from ≡ member.node.state.place.slot
+  pub same : new ≡ old
+
+-- The member at the place refuses the first message of the link, which stays there, and nothing changed.
+pub record Refuses {S : Type 0} (links_of : Chained S → List (List Envelope)) (from at : ℕ) (old new : Chained S) (refusal : Refusal) : Type 0 where
+  pub member : Linked S
+  pub here : slice_get old.members at ≡ Some member
+  pub refused : IsRefused from member.node.state (link_at (links_of old) from member.node.state.place.slot) (number_of refusal)
   pub same : new ≡ old
 
 -- the replies in a call's answer, where it has some

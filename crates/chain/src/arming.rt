@@ -1,5 +1,5 @@
 //! What is to happen to the disk of a member, where that is in memory.
-ghost use Rattle.std.specs.Prelude.{◌≡◌, ◌<◌, [], length, OnErr, OnOk};
+ghost use Rattle.std.specs.Prelude.{◌<◌, [], length, OnErr, OnOk};
 ghost use Rattle.local_store.specs.Arming.{IsAsItWas};
 ghost use Rattle.chain.specs.Arming.{HasArmed, HasNewScript, HasOldScript};
 ghost use Rattle.chain.specs.Chain.{Changes, IsOfOneVolume};

@@ -1,10 +1,12 @@
 ghost use Rattle.std.specs.Prelude.{◌≡◌, ◌<◌, IfSome, length, slice_get};
 ghost use Rattle.chain_steps.specs.Node.{durable_of, is_stopped, last_of};
+ghost use Rattle.chain_model.specs.View.{is_in};
 
+use crate::links::Links;
 use crate::lone_board::LoneBoard;
 use crate::member::Member;
 use board::Board;
-use chain_steps::Cause;
+use chain_steps::{Cause, incarnation_in};
 use configurations::Record;
 use gate_journal::Slot;
 use local_store::StoreLike;
@@ -12,14 +14,23 @@ use std::alloc::Global;
 use std::marker::Model;
 use volume::Geometry;
 
-/// A chain of one to eight members. It has no `Drop`, since it holds tokens: `abandon` ends it.
+/// A chain of members at slots, whose record changes. It has no `Drop`, since it holds tokens: `abandon` ends it.
 pub struct Chain<S: StoreLike> {
     pub(crate) alloc: Global,
     pub(crate) board: LoneBoard,
-    pub(crate) record: Record,
+    /// The recorded chain.
+    pub(crate) recorded: Record,
+    /// The one that was recorded before it.
+    pub(crate) before: Record,
+    /// The record that is being written.
+    pub(crate) writing: Option<Record>,
     pub(crate) geometry: Geometry,
-    /// From the head to the tail.
+    /// Whoever stands at the slots: a member that was removed too.
     pub(crate) members: Vec<Member<S>>,
+    /// The chain links.
+    pub(crate) links: Links,
+    /// The submit links.
+    pub(crate) submits: Links,
 }
 
 impl<S: StoreLike> Model for Chain<S> {
@@ -31,23 +42,31 @@ impl<S: StoreLike> Model for Chain<S> {
       id = c.board.id;
       seat = c.board.seat;
       words = c.board.words;
-      chain = c.record;
+      recorded = c.recorded;
+      before = c.before;
+      writing = c.writing;
       geometry = c.geometry;
       members = c.members.items;
+      links = c.links;
+      submits = c.submits;
     } };
 
     ghost invariant = { λ c. IsFormed S.about (record {
       id = c.board.id;
       seat = c.board.seat;
       words = c.board.words;
-      chain = c.record;
+      recorded = c.recorded;
+      before = c.before;
+      writing = c.writing;
       geometry = c.geometry;
       members = c.members.items;
+      links = c.links;
+      submits = c.submits;
     }) };
 }
 
 impl<S: StoreLike + Drop> Chain<S> {
-    /// How many members it has.
+    /// How many members it has, those too that were removed.
     pub fn len(&self) -> usize
         ensures { result ≡ length self.now.members }
     {
@@ -59,6 +78,24 @@ impl<S: StoreLike + Drop> Chain<S> {
         ensures { result ≡ self.now.geometry }
     {
         self.geometry
+    }
+
+    /// The recorded chain.
+    pub fn recorded(&self) -> &Record
+        ensures { result.now ≡ self.now.recorded }
+    {
+        &self.recorded
+    }
+
+    /// Whether the member at a place is in the recorded chain, by its slot and incarnation.
+    pub fn is_recorded(&self, at: usize) -> bool
+        requires { at < length self.now.members }
+        ensures { IfSome (slice_get self.now.members at) (λ m. result ≡ is_in self.now.recorded m.node.state.place.slot m.node.state.incarnation) }
+    {
+        match incarnation_in(&self.recorded, self.members[at].slot()) {
+            Some(recorded) => recorded.number() == self.members[at].incarnation(),
+            None => false,
+        }
     }
 
     /// Its board.
@@ -81,7 +118,7 @@ impl<S: StoreLike + Drop> Chain<S> {
         requires { at < length self.now.members }
         ensures { IfSome (slice_get self.now.members at) (λ m. result ≡ m.node.state.place.slot) }
     {
-        self.record.members()[at].slot
+        self.members[at].slot()
     }
 
     /// Why the member at a place stopped. `None` while it runs.

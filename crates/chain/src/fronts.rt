@@ -1,5 +1,5 @@
 //! Fronts.
-ghost use Rattle.std.specs.Prelude.{◌≡◌, ◌≢◌, ◌⊎◌, ◌<◌, ◌≤◌, ◌+◌, ℕ, Some, List, false, true, [], length, max, IfNone, IfSome};
+ghost use Rattle.std.specs.Prelude.{◌≡◌, ◌⊎◌, ◌<◌, ◌≤◌, ◌+◌, ℕ, Some, List, false, true, [], length, max, IfNone, IfSome};
 ghost use Rattle.disk_model.specs.Disk.{LeavesOnly};
 ghost use Rattle.local_store.specs.About.{meaning_with};
 ghost use Rattle.local_store.specs.Meaning.{Means};
@@ -7,7 +7,7 @@ ghost use Rattle.chain_steps.specs.Node.{durable_of, is_stopped, last_of};
 ghost use Rattle.board.specs.Seats.{FoundFront};
 ghost use Rattle.chain.specs.Chain.{Changes, IsOfOneVolume, RestsAt};
 ghost use Rattle.chain.specs.Commits.{LeavesAt};
-ghost use Rattle.chain.specs.Fronts.{HasAnswered, HasKnown, HasLooked, HasNoLooked, HasNoRaised, HasRaised, IsNoTail, RaisesAt};
+ghost use Rattle.chain.specs.Fronts.{HasAnswered, HasKnown, HasLooked, HasNoLooked, HasNoRaised, HasRaised, KnowsTo, MayNotRaise, RaisesAt};
 ghost use Rattle.chain.specs.Musters.{LacksAt};
 ghost use Rattle.chain.specs.LoneBoard.{raised};
 
@@ -15,8 +15,9 @@ use crate::chain::Chain;
 use crate::lone_board::LoneBoard;
 use crate::member::Member;
 use chain_core::{Out, Served};
-use chain_steps::{Cause, Found};
+use chain_steps::{Cause, Envelope, Found};
 use local_store::StoreLike;
+use std::collections::VecDeque;
 
 impl<S: StoreLike + Drop> Member<S> {
     /// Looks the committed front up, and keeps it. Once stopped, nothing changes.
@@ -67,12 +68,12 @@ impl<S: StoreLike + Drop> Member<S> {
         Some(self.node.answer_front().replies)
     }
 
-    /// Takes the front that it raised as its known commit: its plain writes up to it are answered, and the one before it is told.
-    /// `None` where none is kept, or once stopped: nothing changed. Where memory runs out, it stops.
-    pub(crate) fn raised(&mut self) -> Option<Vec<Served>>
-        ensures known { IfSome result (λ replies. HasKnown replies.items self.old self.new) }
+    /// Takes the front that it raised as its known commit: its plain writes up to it are answered, and the one before it is told
+    /// along a link. `None` where none is kept, or once stopped: nothing changed. Where memory runs out, it stops.
+    pub(crate) fn raised(&mut self, to: &mut VecDeque<Envelope>) -> Option<Vec<Served>>
+        ensures known { IfSome result (λ replies. KnowsTo replies.items to.old.items to.new.items self.old self.new) }
         ensures above { IfSome result (λ replies. (front : FoundFront) → self.old.node.state.found ≡ Some (Found.Raised front) → self.old.node.state.known ≤ front.number) }
-        ensures idle { IfNone result (((is_stopped self.old.node.state ≡ true) ⊎ HasNoRaised self.old) × (self.new ≡ self.old)) }
+        ensures idle { IfNone result (((is_stopped self.old.node.state ≡ true) ⊎ HasNoRaised self.old) × (self.new ≡ self.old) × (to.new.items ≡ to.old.items)) }
     {
         if self.node.stopped().is_some() {
             return None;
@@ -81,7 +82,7 @@ impl<S: StoreLike + Drop> Member<S> {
             return None;
         }
         self.node.sound();
-        if self.acks.reserve(1).is_err() {
+        if to.reserve(1).is_err() {
             return Some(self.node.stop_by(Cause::Memory).replies);
         }
         let Out {
@@ -89,7 +90,7 @@ impl<S: StoreLike + Drop> Member<S> {
             replies,
         } = self.node.raised();
         if let Some(sent) = messages.pop() {
-            self.acks.push_back_reserved(sent.envelope);
+            to.push_back_reserved(sent.envelope);
         }
         Some(replies)
     }
@@ -106,15 +107,16 @@ impl<S: StoreLike + Drop> Chain<S> {
         self.members[at].look(&mut self.board)
     }
 
-    /// The tail raises the committed front to its last applied write if it is below, and keeps the front that is there then. Where
-    /// another member is at the place, nothing changes; nor once the tail stopped.
+    /// The member at a place, a tail that has its Turn and holds the front for no joiner, raises the committed front to its last applied
+    /// write if it is below, and keeps the front that is there then. Where another member is at the place, nothing changes; nor once
+    /// it stopped.
     pub fn raise(&mut self, at: usize) -> bool
         requires { at < length self.old.members }
         ensures raised { result ≡ true → RaisesAt at self.old self.new }
-        ensures idle { result ≡ false → IsNoTail at self.old self.new ⊎ RestsAt at self.old self.new }
+        ensures idle { result ≡ false → LacksAt at self.old self.new MayNotRaise ⊎ RestsAt at self.old self.new }
         ensures one_volume { S.keeps_model → IsOfOneVolume S.about S.keeps S.may_leave_now self.old self.new [] }
     {
-        if self.members.len() - at != 1 {
+        if self.members[at].cause().is_none() && !self.members[at].node.may_raise() {
             return false;
         }
         self.members[at].raise(&mut self.board)
@@ -135,13 +137,20 @@ impl<S: StoreLike + Drop> Chain<S> {
     }
 
     /// The member at a place takes the front that it raised as its known commit: its plain writes up to it are answered, and the one
-    /// before it is told. `None` where it keeps none, or once it stopped: nothing changed. Where memory runs out, it stops.
+    /// before it is told. `None` where it keeps none, or once it stopped: nothing changed. It stops where memory runs out, or the front is
+    /// above its last write, which none is in a chain.
     pub fn raised(&mut self, at: usize) -> Option<Vec<Served>>
         requires { at < length self.old.members }
-        ensures known { IfSome result (λ replies. Changes at self.old self.new (HasKnown replies.items)) }
+        ensures known { IfSome result (λ replies. HasKnown at replies.items self.old self.new) }
         ensures idle { IfNone result (RestsAt at self.old self.new ⊎ LacksAt at self.old self.new HasNoRaised) }
         ensures one_volume { S.keeps_model → IfSome result (λ replies. IsOfOneVolume S.about S.keeps S.may_leave_now self.old self.new replies.items) }
     {
-        self.members[at].raised()
+        let slot = self.members[at].slot();
+        let to = self.members[at].node.place().predecessor().unwrap_or(slot);
+        let mut link = VecDeque::new(self.alloc);
+        self.links.exchange(slot, to, &mut link);
+        let replies = self.members[at].raised(&mut link);
+        self.links.exchange(slot, to, &mut link);
+        replies
     }
 }

@@ -1,9 +1,9 @@
 //! The board of a chain, which one seat steps on.
-ghost use Rattle.std.specs.Prelude.{◌≡◌, ◌≤◌, [], max, IfOk};
-ghost use Rattle.board.specs.Seats.{FoundCrew};
+ghost use Rattle.std.specs.Prelude.{◌≡◌, ◌≢◌, ◌≤◌, ℕ, [], max, true, IfOk};
+ghost use Rattle.board.specs.Mask.{counts};
 ghost use Rattle.chain_core.specs.Node.{Keeps};
 ghost use Rattle.chain_steps.specs.Node.{last_of};
-ghost use Rattle.chain.specs.LoneBoard.{gauge_in, gauge_of, posted, raised};
+ghost use Rattle.chain.specs.LoneBoard.{counted_out, gauge_in, gauge_of, posted, raised};
 
 use board::{Board, Crew, Front, Gauge, Gauges, Refusal, Seat};
 use chain_core::Node;
@@ -22,7 +22,8 @@ pub(crate) struct LoneBoard {
 }
 
 impl Model for LoneBoard {
-    ghost use Rattle.std.specs.Prelude.{◌≡◌, length};
+    ghost use Rattle.std.specs.Prelude.{◌≡◌, length, true};
+    ghost use Rattle.board.specs.Seats.{IsRuled};
     ghost use Rattle.board.specs.Steps.{words_after};
     ghost use Rattle.chain.specs.LoneBoard.{Lone, words_of};
 
@@ -35,7 +36,8 @@ impl Model for LoneBoard {
     } };
 
     ghost invariant = { λ lone. (lone.seat.board ≡ lone.board) × (lone.board.opening.seats ≡ 1)
-        × (length (words_after lone.board.opening.words lone.seat.steps) ≡ 10) };
+        × (length (words_after lone.board.opening.words lone.seat.steps) ≡ 10)
+        × (lone.seat.counts ≡ true) × IsRuled lone.seat };
 }
 
 impl LoneBoard {
@@ -51,7 +53,9 @@ impl LoneBoard {
             ≡ record { front = front; mask = mask; gauges = gauges }) }
     {
         let (board, mut seats) = Board::new(alloc, front, mask, gauges, 1)?;
-        let seat = seats.pop().unwrap();
+        let mut seat = seats.pop().unwrap();
+        // From its first step on, a seat tells the board's rule.
+        board.look(&mut seat);
         Ok(LoneBoard { board, seat })
     }
 
@@ -76,6 +80,15 @@ impl LoneBoard {
         ensures { self.new ≡ record self.old { words = posted self.old.words receipt } }
     {
         self.board.post(&mut self.seat, receipt);
+    }
+
+    /// Counts the slot no longer; the others as before.
+    pub(crate) fn count_out(&mut self, slot: Slot)
+        ensures words { self.new ≡ record self.old { words = counted_out self.old.words slot } }
+        ensures others { (other : ℕ) → other ≢ slot → counts self.old.words.mask other ≡ true → counts (counted_out self.old.words slot).mask other ≡ true }
+    {
+        prove!(slot.number() < Slot::COUNT);
+        self.board.count_out(&mut self.seat, slot);
     }
 
     /// The committed front.

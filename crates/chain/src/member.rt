@@ -1,25 +1,19 @@
-//! A member with its links.
-ghost use Rattle.std.specs.Prelude.{◌≡◌};
-ghost use Rattle.chain_steps.specs.Node.{durable_of, last_of};
+//! A member, and what of the board it has in use.
+ghost use Rattle.std.specs.Prelude.{◌≡◌, ◌≢◌, ◌↔◌, IsTrue, None};
+ghost use Rattle.chain_steps.specs.Node.{durable_of, epoch_of, last_of};
 
 use crate::muster::Muster;
 use board::Front;
 use chain_core::Node;
-use chain_steps::{Cause, Envelope};
-use gate_journal::Synced;
+use chain_steps::Cause;
+use configurations::Epoch;
+use gate_journal::{Slot, Synced};
 use local_store::StoreLike;
-use std::collections::VecDeque;
 use std::marker::Model;
 
-/// A member of a chain with what is on its way to it and from it, and what of the board it has in use.
+/// A member of a chain, with what of the board it has in use.
 pub struct Member<S: StoreLike> {
     pub(crate) node: Node<S>,
-    /// The chain link to it from the one before it.
-    pub(crate) puts: VecDeque<Envelope>,
-    /// The chain link from it to the one before it.
-    pub(crate) acks: VecDeque<Envelope>,
-    /// Its submit link, to the head.
-    pub(crate) submits: VecDeque<Envelope>,
     /// A front that was looked up for a crew.
     pub(crate) front: Option<Front>,
     /// A crew, and its gauges as far as they are looked up.
@@ -29,32 +23,47 @@ pub struct Member<S: StoreLike> {
 }
 
 impl<S: StoreLike> Model for Member<S> {
-    ghost use Rattle.chain.specs.Member.{IsLinked, Linked};
+    ghost use Rattle.chain.specs.Member.{Linked};
 
     ghost Value = { Linked S };
 
     ghost view = { λ m. record {
       node = m.node;
-      puts = m.puts.items;
-      acks = m.acks.items;
-      submits = m.submits.items;
       front = m.front;
       muster = m.muster;
       receipt = m.receipt;
     } };
-
-    ghost invariant = { λ m. IsLinked S.about (record {
-      node = m.node;
-      puts = m.puts.items;
-      acks = m.acks.items;
-      submits = m.submits.items;
-      front = m.front;
-      muster = m.muster;
-      receipt = m.receipt;
-    }) };
 }
 
 impl<S: StoreLike + Drop> Member<S> {
+    /// Its slot.
+    pub(crate) fn slot(&self) -> Slot
+        ensures { result ≡ self.now.node.state.place.slot }
+    {
+        self.node.place().slot()
+    }
+
+    /// The incarnation of its disk.
+    pub(crate) fn incarnation(&self) -> u64
+        ensures { result ≡ self.now.node.state.incarnation }
+    {
+        self.node.incarnation()
+    }
+
+    /// Whether it was told a chain of an epoch, if it runs.
+    pub(crate) fn is_told(&self, epoch: Epoch) -> bool
+        ensures { IsTrue result ↔ (self.now.node.state.stopped ≡ None → epoch_of self.now.node.state ≡ epoch) }
+    {
+        self.cause().is_some() || self.node.place().epoch() == epoch
+    }
+
+    /// Whether it has stopped, if it is at a slot.
+    pub(crate) fn has_stopped_at(&self, slot: Slot) -> bool
+        ensures { IsTrue result ↔ (self.now.node.state.place.slot ≡ slot → self.now.node.state.stopped ≢ None) }
+    {
+        self.slot() != slot || self.cause().is_some()
+    }
+
     /// Why it stopped. `None` while it runs.
     pub(crate) fn cause(&self) -> Option<Cause>
         ensures { result ≡ self.now.node.state.stopped }
@@ -96,9 +105,6 @@ impl<S: StoreLike + Drop> Member<S> {
     {
         let Member {
             node,
-            puts: _,
-            acks: _,
-            submits: _,
             front: _,
             muster: _,
             receipt: _,

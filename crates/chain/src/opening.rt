@@ -1,13 +1,14 @@
 //! How a chain begins, and how it is given up.
-ghost use Rattle.std.specs.Prelude.{◌≡◌, ◌<◌, ◌≤◌, ℕ, List, All, None, false, length, map, replicate, IfErr, IfOk, IfSome, slice_get};
+ghost use Rattle.std.specs.Prelude.{◌≡◌, ◌<◌, ℕ, List, [], All, None, false, length, map, replicate, IfErr, IfOk, IfSome, slice_get};
 ghost use Rattle.chain_core.specs.Node.{size_of};
 ghost use Rattle.local_store.specs.About.{IsOfVersionTwo};
-ghost use Rattle.world_model.specs.Chain.{View};
-ghost use Rattle.world_model.specs.ChainLaws.{IsBeginning};
+ghost use Rattle.chain_model.specs.Laws.{IsBeginning};
+ghost use Rattle.chain_model.specs.View.{View};
 ghost use Rattle.chain.specs.Chain.{Shows};
 ghost use Rattle.chain.specs.Opening.{AreEven, beginning_of, gauges_of, mask_of, recorded_in, words_of};
 
 use crate::chain::Chain;
+use crate::links::Links;
 use crate::lone_board::LoneBoard;
 use crate::member::Member;
 use board::Board;
@@ -15,7 +16,6 @@ use chain_core::Node;
 use configurations::{Member as Recorded, Record};
 use local_store::StoreLike;
 use std::alloc::{AllocError, Global};
-use std::collections::VecDeque;
 
 impl<S: StoreLike + Drop> Member<S> {
     /// The member whose store this is, in a chain that begins.
@@ -28,9 +28,6 @@ impl<S: StoreLike + Drop> Member<S> {
     {
         Member {
             node: Node::new(alloc, board, told, store),
-            puts: VecDeque::new(alloc),
-            acks: VecDeque::new(alloc),
-            submits: VecDeque::new(alloc),
             front: None,
             muster: None,
             receipt: None,
@@ -40,7 +37,7 @@ impl<S: StoreLike + Drop> Member<S> {
 
 impl<S: StoreLike + Drop> Chain<S> {
     /// A chain that begins over these stores: one of each recorded member, in the chain's order, none of them broken, their disks
-    /// of version 2, all at one front, with volumes of the same sizes.
+    /// of version 2, their logs not lent, all at one front, with volumes of the same sizes; each incarnation is at least 1.
     ///
     /// Where memory runs out, it hands the stores back.
     pub fn new(alloc: Global, told: Record, stores: Vec<S>) -> Result<Chain<S>, Vec<S>>
@@ -51,7 +48,8 @@ impl<S: StoreLike + Drop> Chain<S> {
         requires version { All (λ store. IsOfVersionTwo (S.about store)) stores.items }
         requires here { All (λ store. (S.about store).lent ≡ None) stores.items }
         requires keeps { S.keeps_model → All (λ store. (volume : List ℕ) × S.keeps store volume × (length volume ≡ size_of (S.about store))) stores.items }
-        ensures told { IfOk result (λ chain. chain.chain ≡ told) }
+        ensures told { IfOk result (λ chain. (chain.recorded ≡ told) × (chain.before ≡ told) × (chain.writing ≡ None)) }
+        ensures links { IfOk result (λ chain. (chain.links ≡ replicate 64 []) × (chain.submits ≡ replicate 64 [])) }
         ensures sizes { IfOk result (λ chain. IfSome (slice_get stores.items 0) (λ first. chain.geometry ≡ (S.about first).geometry)) }
         ensures words { IfOk result (λ chain. IfSome (slice_get stores.items 0) (λ first. chain.words ≡ words_of (S.about first).front told.members)) }
         ensures members { IfOk result (λ chain. chain.members ≡ map (beginning_of S.about chain.id told) stores.items) }
@@ -70,6 +68,15 @@ impl<S: StoreLike + Drop> Chain<S> {
         let Ok(board) = LoneBoard::new(alloc, front, mask, gauges) else {
             return Err(stores);
         };
+        let Ok(before) = copy_of(alloc, &told) else {
+            return Err(stores);
+        };
+        let Ok(links) = Links::new(alloc) else {
+            return Err(stores);
+        };
+        let Ok(submits) = Links::new(alloc) else {
+            return Err(stores);
+        };
         let members = match begin_all(alloc, board.board(), &told, copies, stores) {
             Ok(members) => members,
             Err(stores) => return Err(stores),
@@ -77,13 +84,17 @@ impl<S: StoreLike + Drop> Chain<S> {
         Ok(Chain {
             alloc,
             board,
-            record: told,
+            recorded: told,
+            before,
+            writing: None,
             geometry,
             members,
+            links,
+            submits,
         })
     }
 
-    /// Gives the chain up, and its stores back, from the head's to the tail's. The tokens that wait are abandoned.
+    /// Gives the chain up, and its stores back, in the order of their places. The tokens that wait are abandoned.
     ///
     /// Where memory runs out, the stores are dropped.
     pub fn abandon(self) -> Result<Vec<S>, AllocError>
@@ -92,9 +103,13 @@ impl<S: StoreLike + Drop> Chain<S> {
         let Chain {
             alloc,
             board: _,
-            record: _,
+            recorded: _,
+            before: _,
+            writing: _,
             geometry: _,
             mut members,
+            links: _,
+            submits: _,
         } = self;
         let Ok(mut stores) = Vec::with_capacity(alloc, members.len()) else {
             while let Some(member) = members.pop() {
@@ -153,7 +168,7 @@ fn copies_of(alloc: Global, told: &Record, count: usize) -> Result<Vec<Record>, 
 }
 
 /// The record once more.
-fn copy_of(alloc: Global, told: &Record) -> Result<Record, AllocError>
+pub(crate) fn copy_of(alloc: Global, told: &Record) -> Result<Record, AllocError>
     ensures { IfOk result (λ copy. copy ≡ told.now) }
 {
     let members = Vec::from_slice(alloc, told.members())?;

@@ -13,8 +13,8 @@ ghost use Rattle.chain.specs.Chain.{Changes, IsOfOneVolume, bytes_of};
 ghost use Rattle.chain.specs.Commits.{LeavesAt};
 
 use crate::chain::Chain;
-use crate::links::send;
 use crate::member::Member;
+use crate::messages::send;
 use chain_core::{Node, Out, Refusal, Refused, Served};
 use chain_steps::{Cause, Envelope, WriteToken};
 use flush_barrier::{OwedFlush, OwedRead};
@@ -58,23 +58,6 @@ fn submit_to<S: StoreLike + Drop>(
 }
 
 impl<S: StoreLike + Drop> Member<S> {
-    /// Sends a write to the head, and keeps its token.
-    pub(crate) fn submit(
-        &mut self,
-        alloc: Global,
-        token: WriteToken,
-        write: Write,
-    ) -> Result<(), Refused<WriteToken>>
-        requires of_board { board_of token ≡ self.old.node.state.board }
-        requires inside { Fits (size_of (S.about self.old.node.store)) write }
-        requires some { 0 < length write.bytes }
-        ensures submitted { OnOk result (HasSubmitted token write self.old self.new) }
-        ensures back { IfErr result (λ r. r.token ≡ token) }
-        ensures refused { IfErr result (λ r. IsTurnedAway (MAX_NUMBER < self.old.node.state.ticket) (stop Cause.LastTicket self.old.node.state) r.replies.items r.refusal self.old self.new) }
-    {
-        submit_to(alloc, &mut self.node, &mut self.submits, token, write)
-    }
-
     /// Takes a FLUSH.
     pub(crate) fn flush(&mut self, token: OwedFlush) -> Result<(), Refused<OwedFlush>>
         requires of_board { token.board ≡ self.old.node.state.board }
@@ -136,14 +119,26 @@ impl<S: StoreLike + Drop> Chain<S> {
         requires unnumbered { IsUnnumbered token }
         requires inside { Fits (bytes_of self.old) write }
         requires some { 0 < length write.bytes }
-        ensures submitted { OnOk result (Changes at self.old self.new (HasSubmitted token write)) }
+        ensures submitted { OnOk result (HasSubmitted at token write self.old self.new) }
         ensures back { IfErr result (λ r. r.token ≡ token) }
         ensures refused { IfErr result (λ r. Changes at self.old self.new (λ old new. IsTurnedAway (MAX_NUMBER < old.node.state.ticket) (stop Cause.LastTicket old.node.state) r.replies.items r.refusal old new)) }
         ensures pleads { IfErr result (λ r. HasPleaAt at self.new r.refusal) }
         ensures takes { S.keeps_model → OnOk result (TakesOfOneVolume S.about S.keeps S.may_leave_now at (asked_by token write) self.old self.new []) }
         ensures one_volume { S.keeps_model → IfErr result (λ r. IsOfOneVolume S.about S.keeps S.may_leave_now self.old self.new r.replies.items) }
     {
-        self.members[at].submit(self.alloc, token, write)
+        let slot = self.members[at].slot();
+        let head = self.members[at].node.place().head();
+        let mut link = VecDeque::new(self.alloc);
+        self.submits.exchange(slot, head, &mut link);
+        let taken = submit_to(
+            self.alloc,
+            &mut self.members[at].node,
+            &mut link,
+            token,
+            write,
+        );
+        self.submits.exchange(slot, head, &mut link);
+        taken
     }
 
     /// The member at a place takes a FLUSH of its sessions, which waits for the first front that is looked up behind it. The token

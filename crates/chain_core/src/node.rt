@@ -136,6 +136,13 @@ impl<S: StoreLike + Drop> Node<S> {
         &self.place
     }
 
+    /// The incarnation of its disk.
+    pub fn incarnation(&self) -> u64
+        ensures { result ≡ self.now.state.incarnation }
+    {
+        self.incarnation
+    }
+
     /// Whether it may raise the front: its Turn has come, it holds the front for no joiner, and it is the tail of the chain that
     /// it was told.
     pub fn may_raise(&self) -> bool

@@ -12,13 +12,13 @@ use Rattle.chain_steps.specs.declared.waiting.Waiting.{Waiting}
 use Rattle.chain_steps.specs.declared.waiting.Waiting.TheVariants as tokens
 use Rattle.world_model.specs.Chain.{ArePutOut, at_member, owing_at, reply_event}
 use Rattle.world_model.specs.Event.{ClientEvent}
-use Rattle.world_model.specs.MemberSteps.{both_gone, flushes_stay, put_out_split, up_to}
+use Rattle.world_model.proofs.MemberSteps.{both_gone, flushes_stay, put_out_split, up_to}
 use Rattle.world_model.specs.Order.{volume_after}
 use Rattle.world_model.specs.Requests.{Looked, Owing, Requests, StandsFor, ticket_of}
-use Rattle.world_model.specs.Runs.{plays_then}
-use Rattle.world_model.specs.Settling.{changes_all, settles_all}
-use Rattle.world_model.specs.Standing.{Shows, Stays}
-use Rattle.world_model.specs.TokenSteps.{answers_flush, answers_fua, answers_plain, answers_read, binds, drops_token, refuses_token}
+use Rattle.world_model.proofs.Runs.{plays_then}
+use Rattle.world_model.proofs.Settling.{changes_all, settles_all}
+use Rattle.world_model.proofs.Standing.{Shows, Stays}
+use Rattle.world_model.proofs.TokenSteps.{answers_flush, answers_fua, answers_plain, answers_read, binds, drops_token, refuses_token}
 use Rattle.chain_model.specs.Chain.{IsApplied}
 
 module _ (size backed : ℕ) (r : Requests) (node : NodeState) where

@@ -16,11 +16,10 @@ use Rattle.chain_steps.specs.declared.message.Envelope.{Envelope}
 use Rattle.chain_steps.specs.declared.message.Message.{Message}
 use Rattle.chain_steps.specs.declared.message.Message.TheVariants as messages
 use Rattle.world_model.specs.Backing.{Disk, IsBacked}
-use Rattle.world_model.specs.BackingSteps.{backs_committed}
+use Rattle.world_model.proofs.BackingSteps.{backs_committed}
 use Rattle.world_model.specs.Chain.{AreBefore}
-use Rattle.world_model.specs.ChainSteps.{flat_same, flat_split, maps_same}
-use Rattle.world_model.specs.Counting.{all_at, all_behind}
-use Rattle.world_model.specs.DemandSteps as demands
+use Rattle.world_model.proofs.Counting.{all_at, all_behind, flat_same, flat_split, maps_same}
+use Rattle.world_model.proofs.DemandSteps as demands
 use Rattle.world_model.specs.Event.{ClientEvent}
 use Rattle.chain_model.specs.Links.{Node, hops_of}
 use Rattle.world_model.specs.Machine.{Plays, State}
@@ -28,7 +27,7 @@ use Rattle.world_model.specs.Order.{volume_after}
 use Rattle.chain_model.specs.Replicas.{Hop}
 use Rattle.world_model.specs.Requests.{Held, Requests, Submitted, sent_event}
 use Rattle.world_model.specs.Requests as requests
-use Rattle.world_model.specs.TokenSteps.{first_writes_are, raises}
+use Rattle.world_model.proofs.TokenSteps.{first_writes_are, raises}
 use Rattle.chain_model.specs.Turning.{Stands}
 use Rattle.chain_model.specs.Chain.{AreLinked, ArePlaced, Belongs, HasApplied, HasVolume, IsTold, StandsFor, StandsWith}
 use Rattle.chain_model.proofs.Changing.{Goes, all_changed, around, plays_of, requests_split}

@@ -13,8 +13,7 @@ use Rattle.chain_steps.specs.declared.message.Envelope.{Envelope}
 use Rattle.chain_steps.specs.declared.waiting.Waiting.{Waiting}
 use Rattle.world_model.specs.Backing.{Disk, IsBacked}
 use Rattle.world_model.specs.Chain.{AreBefore, IsTokenBefore}
-use Rattle.world_model.specs.ChainSteps.{all_between, flat_same, flat_split, maps_same}
-use Rattle.world_model.specs.Counting.{all_at, all_before, all_behind}
+use Rattle.world_model.proofs.Counting.{all_at, all_before, all_behind, all_between, flat_same, flat_split, maps_same}
 use Rattle.world_model.specs.Event.{ClientEvent}
 use Rattle.chain_model.specs.Links.{Node, hops_of}
 use Rattle.world_model.specs.Machine.{Move, Plays, RunsOn, State, shown}

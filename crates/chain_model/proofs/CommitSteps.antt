@@ -9,13 +9,12 @@ use Rattle.volume.specs.Writes.{patched}
 use Rattle.chain_steps.specs.Node.{last_of}
 use Rattle.chain_steps.specs.Steps.{ended}
 use Rattle.world_model.specs.Backing.{Disk, IsBacked}
-use Rattle.world_model.specs.BackingSteps.{all_rise, backs_more_disk}
+use Rattle.world_model.proofs.BackingSteps.{all_rise, backs_more_disk}
 use Rattle.world_model.specs.Chain.{AreBefore}
-use Rattle.world_model.specs.ChainSteps.{flat_split, maps_same}
-use Rattle.world_model.specs.Counting.{all_at}
+use Rattle.world_model.proofs.Counting.{all_at, flat_split, maps_same}
 use Rattle.world_model.specs.Machine.{Plays}
 use Rattle.world_model.specs.Requests.{Requests}
-use Rattle.world_model.specs.Standing.{shows_stay}
+use Rattle.world_model.proofs.Standing.{shows_stay}
 use Rattle.chain_model.specs.Chain.{HasApplied, HasVolume, IsApplied, IsTold, StandsFor}
 use Rattle.chain_model.proofs.Changing.{all_changed, are, changes, requests_split, were}
 use Rattle.chain_model.specs.Laws.{EndsCommit, with_members}

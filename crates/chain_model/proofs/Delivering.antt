@@ -8,7 +8,7 @@ use Rattle.configurations.specs.Record.{Record}
 use Rattle.version_table.specs.declared.kept.Kept.{Kept}
 use Rattle.chain_steps.specs.Node.{last_of}
 use Rattle.chain_steps.specs.declared.message.Envelope.{Envelope}
-use Rattle.world_model.specs.Counting.{all_at}
+use Rattle.world_model.proofs.Counting.{all_at, get_there}
 use Rattle.chain_model.proofs.Lanes.{numbered_at}
 use Rattle.chain_model.specs.Links.{Became, Delivers, Net, Node, Takes, Worked, Works, feed, first_of, hop_at, hops_from, hops_of, is_slot, member_of, stage_of}
 use Rattle.chain_model.proofs.LinkSteps.{deliver_shows, down_weaker, feed_nothing, feed_put, stage_turned, takes_shows}
@@ -20,7 +20,6 @@ use Rattle.chain_model.proofs.TurningFollow.{puts_are_of_line}
 use Rattle.chain_model.specs.TurningLaws.{Quietly}
 use Rattle.chain_model.specs.TurningSteps.{Down, IsRunning, applied}
 use Rattle.chain_model.proofs.TurningTops.{members_agree, number_stands, quiet_stands}
-use Rattle.world_model.specs.WriteSteps.{get_there}
 use Rattle.chain_model.specs.Chain.{ArePlaced}
 use Rattle.chain_model.proofs.NetSteps.{Among}
 use Rattle.chain_model.proofs.Ordering.{is_node, its_place, near, was_node, within, worked}

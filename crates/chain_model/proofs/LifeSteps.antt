@@ -10,15 +10,15 @@ use Rattle.version_table.specs.Held.{writes_upto}
 use Rattle.volume.specs.Writes.{patched}
 use Rattle.world_model.specs.Chain.{raised_by}
 use Rattle.world_model.specs.Event.{ClientEvent}
-use Rattle.world_model.specs.Life.{RunsEras, all_events}
+use Rattle.world_model.specs.Life.{all_events}
 use Rattle.world_model.specs.Machine.{May, Move, Plays, Restart, RunsOn, State, after, shown, start}
 use Rattle.world_model.specs.Requests.{Held, sent_event}
-use Rattle.world_model.specs.Runs.{plays_nothing, plays_then}
+use Rattle.world_model.proofs.Runs.{plays_nothing, plays_then}
 use Rattle.chain_model.proofs.BoardSteps.{connects, forgets, raises_front, sends_all, takes_up, tells_disks}
 use Rattle.chain_model.specs.Chain.{StandsFor}
 use Rattle.chain_model.proofs.CommitSteps.{ends_commit}
 use Rattle.chain_model.specs.Laws.{KnowsRaised, with_members}
-use Rattle.chain_model.specs.Life.{Answer, AnswerFloor, AnswerFront, Ask, BeginCommit, BoardTells, Does, Doing, Drop, EndCommit, Era, FrontRaised, Happening, HappeningsAreOfOneVolume, KeepRaised, Life, LivesAreOfOneVolume, LookUp, MemberDoes, MemberSubmits, MemberTakes, MemberTold, MessageTaken, RaisedKnown, RecordBegun, RecordEnded, Refuse, RequestsSent, RequestsTakenUp, SessionBegins, SessionEnds, Stop, SubmitTaken, Takes, Taking, Wait}
+use Rattle.chain_model.specs.Life.{Answer, AnswerFloor, AnswerFront, Ask, BeginCommit, BoardTells, Does, Doing, Drop, EndCommit, Era, FrontRaised, Happening, HappeningsAreOfOneVolume, KeepRaised, Life, LivesAreOfOneVolume, LookUp, MemberDoes, MemberSubmits, MemberTakes, MemberTold, MessageTaken, RaisedKnown, RecordBegun, RecordEnded, Refuse, RequestsSent, RequestsTakenUp, RunsEras, SessionBegins, SessionEnds, Stop, SubmitTaken, Takes, Taking, Wait}
 use Rattle.chain_model.proofs.MemberSteps.{answers, begins, keeps_raised, looks_up, pays}
 use Rattle.chain_model.proofs.MessageSteps.{takes_message}
 use Rattle.chain_model.proofs.PassingSteps.{its_raised, knows_itself, stops}

@@ -8,10 +8,10 @@ use Rattle.version_table.specs.declared.kept.Origin.{Origin}
 use Rattle.volume.specs.Writes.{Placed}
 use Rattle.chain_steps.specs.declared.waiting.Waiting.{Waiting}
 use Rattle.chain_steps.specs.declared.waiting.Waiting.TheVariants as tokens
-use Rattle.world_model.specs.Counting.{all_before, all_behind, count-append, get_left_only}
+use Rattle.world_model.proofs.Counting.{all_before, all_behind, count-append, get_left_only}
 use Rattle.world_model.specs.Machine.{Asked, State}
 use Rattle.world_model.specs.Requests.{Bound, Entry, IsBound, IsNumbered, IsOfNumber, IsOfOrigin, IsOfTicket, IsSent, Names, Owing, Requests, Sending, StandsUnder, Submitted, count_submits, named_writes, origin_of}
-use Rattle.world_model.specs.Standing.{Stays}
+use Rattle.world_model.proofs.Standing.{Stays}
 use Rattle.chain_model.specs.Turning.{Begins}
 use Rattle.chain_model.specs.Chain.{IsApplied}
 

@@ -14,17 +14,16 @@ use Rattle.chain_steps.specs.Waiting.{bound, is_paid_flush, is_paid_write, is_re
 use Rattle.chain_steps.specs.declared.found.Found.TheVariants as founds
 use Rattle.chain_steps.specs.declared.waiting.Waiting.{Waiting}
 use Rattle.world_model.specs.Chain.{ArePutOut, IsTokenBefore, looked_by, owing_at}
-use Rattle.world_model.specs.ChainSteps.{tokens_changed, tokens_left}
-use Rattle.world_model.specs.Counting.{all_at, all_behind}
+use Rattle.world_model.proofs.Counting.{all_at, all_behind, contains_there}
 use Rattle.world_model.specs.Event.{ClientEvent}
 use Rattle.world_model.specs.Machine.{Plays, State}
-use Rattle.world_model.specs.MemberSteps.{contains_there, drops_found, stays_then, then_stays, twice_not}
+use Rattle.world_model.proofs.MemberSteps.{drops_found, stays_then, then_stays, tokens_changed, tokens_left, twice_not}
 use Rattle.world_model.specs.Order.{volume_after}
 use Rattle.world_model.specs.Requests.{Looked, Requests, Submitted}
 use Rattle.world_model.specs.Requests as requests
-use Rattle.world_model.specs.Runs.{plays_then}
-use Rattle.world_model.specs.Standing.{Shows, Stays, shows_stay}
-use Rattle.world_model.specs.TokenSteps.{backs_more, drops_looked, looks}
+use Rattle.world_model.proofs.Runs.{plays_then}
+use Rattle.world_model.proofs.Standing.{Shows, Stays, shows_stay}
+use Rattle.world_model.proofs.TokenSteps.{backs_more, drops_looked, looks}
 use Rattle.chain_model.proofs.Answering.{answers_paid, answers_reads, applied_bound, applied_left, binds_all, bound_ticket}
 use Rattle.chain_model.specs.Chain.{HasVolume, IsTold, StandsFor, StandsWith}
 use Rattle.chain_model.proofs.Changing.{around, changes_requests, changes_there, requests_split}

@@ -18,16 +18,15 @@ use Rattle.chain_steps.specs.declared.message.Envelope.{Envelope}
 use Rattle.chain_steps.specs.declared.message.Message.{Message}
 use Rattle.chain_steps.specs.declared.message.Message.TheVariants as messages
 use Rattle.chain_steps.specs.declared.message.Sent.{Sent}
-use Rattle.world_model.specs.Counting.{all_at}
+use Rattle.world_model.proofs.Counting.{all_at, pairs_around}
 use Rattle.chain_model.proofs.Lanes.{begins_all, begins_trans}
 use Rattle.chain_model.specs.Links.{AllSuit, Net, Node, Stamped, at_epoch, from_slot, hop_at, hop_of, hops_from, hops_of, is_slot, member_of, sent_again, stamped}
 use Rattle.world_model.specs.Order.{HasApplied, volume_after}
-use Rattle.world_model.specs.OrderSteps.{volume_at_number}
+use Rattle.world_model.proofs.OrderSteps.{volume_at_number}
 use Rattle.chain_model.specs.Placed.{Apart, IsPlaced, above_in, below_in}
 use Rattle.chain_model.proofs.PlacedSteps.{places_suit}
 use Rattle.chain_model.specs.Replicas.{Hop, Stage, Past}
 use Rattle.chain_model.specs.Replicas as replicas
-use Rattle.world_model.specs.TakingSteps.{pairs_around}
 use Rattle.chain_model.specs.Turning.{Begins, Fronts, Knows, Made, Passes, Stands}
 use Rattle.chain_model.specs.Chain.{ArePlaced, IsTold}
 use Rattle.chain_model.specs.Laws.{sent_to}

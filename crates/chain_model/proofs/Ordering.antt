@@ -12,8 +12,7 @@ use Rattle.chain_steps.specs.Node.{NodeState, epoch_of, is_stopped, last_of}
 use Rattle.chain_steps.specs.Place.{Standing, is_tail, predecessor_of, successor_of}
 use Rattle.chain_steps.specs.declared.message.Envelope.{Envelope}
 use Rattle.chain_steps.specs.declared.message.Sent.{Sent}
-use Rattle.world_model.specs.ChainSteps.{maps_same}
-use Rattle.world_model.specs.Counting.{all_at}
+use Rattle.world_model.proofs.Counting.{all_at, maps_same}
 use Rattle.chain_model.specs.Links.{Net, Node, Sends, Takes, Worked, Works, feed, hops_of, member_of, stamped}
 use Rattle.chain_model.proofs.LinkSteps.{down_weaker, feed_nothing, stage_turned, work_shows}
 use Rattle.chain_model.specs.Replicas.{Hop, Message, Replica}

@@ -22,8 +22,7 @@ use Rattle.chain_steps.specs.declared.message.Envelope.{Envelope}
 use Rattle.chain_steps.specs.declared.message.Message.{Message}
 use Rattle.chain_steps.specs.declared.message.Message.TheVariants as messages
 use Rattle.world_model.specs.Chain.{looked_by, raised_by}
-use Rattle.world_model.specs.ChainSteps.{flat_split}
-use Rattle.world_model.specs.Counting.{all_at, all_behind}
+use Rattle.world_model.proofs.Counting.{all_at, all_behind, flat_split}
 use Rattle.world_model.specs.Machine.{State}
 use Rattle.world_model.specs.Requests as requests
 use Rattle.chain_model.specs.Chain.{Belongs, BelongsToHead, IsForHead, IsTold, StandsFor}

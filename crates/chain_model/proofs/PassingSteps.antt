@@ -18,16 +18,15 @@ use Rattle.chain_steps.specs.declared.message.Message.TheVariants as messages
 use Rattle.chain_steps.specs.declared.waiting.Waiting.{Waiting}
 use Rattle.world_model.specs.Backing.{Disk, IsBacked}
 use Rattle.world_model.specs.Chain.{AreBefore, ArePutOut, IsBefore, IsTokenBefore, owing_at}
-use Rattle.world_model.specs.ChainSteps.{all_between, flat_same, flat_split, maps_same, tokens_left}
-use Rattle.world_model.specs.Counting.{all_at, all_before, all_behind}
+use Rattle.world_model.proofs.Counting.{all_at, all_before, all_behind, all_between, flat_same, flat_split, maps_same}
 use Rattle.world_model.specs.Event.{ClientEvent}
+use Rattle.world_model.proofs.MemberSteps.{stays_then, tokens_left}
 use Rattle.chain_model.specs.Links.{Works, hops_of}
 use Rattle.world_model.specs.Machine.{Plays, State}
-use Rattle.world_model.specs.MemberSteps.{stays_then}
 use Rattle.world_model.specs.Requests.{Requests, Submitted}
 use Rattle.world_model.specs.Requests as requests
-use Rattle.world_model.specs.Runs.{plays_nothing}
-use Rattle.world_model.specs.Standing.{Shows}
+use Rattle.world_model.proofs.Runs.{plays_nothing}
+use Rattle.world_model.proofs.Standing.{Shows}
 use Rattle.chain_model.specs.Turning.{Stands}
 use Rattle.chain_model.proofs.Answering.{answers_committed, applied_left, refuses_those}
 use Rattle.chain_model.specs.Chain.{AreLinked, HasApplied, HasVolume, IsTold, StandsFor, StandsWith}

@@ -23,17 +23,15 @@ use Rattle.chain_steps.specs.declared.message.Sent.{Sent}
 use Rattle.chain_steps.specs.declared.waiting.Waiting.{Waiting}
 use Rattle.chain_steps.specs.declared.waiting.Waiting.TheVariants as tokens
 use Rattle.world_model.specs.Chain.{ArePutOut}
-use Rattle.world_model.specs.ChainSteps.{tokens_left}
-use Rattle.world_model.specs.Counting.{all_at}
+use Rattle.world_model.proofs.Counting.{all_at}
 use Rattle.world_model.specs.Event.{ClientEvent}
+use Rattle.world_model.proofs.MemberSteps.{learns_number, stays_then, tickets_learned, tokens_left}
 use Rattle.chain_model.specs.Links.{Net, Node, Takes, hops_of, sent_again, stamped}
 use Rattle.chain_model.proofs.LinkSteps.{drop_shows}
 use Rattle.world_model.specs.Machine.{Plays, State}
-use Rattle.world_model.specs.MemberSteps.{stays_then}
 use Rattle.chain_model.specs.Replicas as replicas
-use Rattle.world_model.specs.Standing.{shows_stay}
+use Rattle.world_model.proofs.Standing.{shows_stay}
 use Rattle.chain_model.specs.Turning.{Stands}
-use Rattle.world_model.specs.WriteSteps.{learns_number, tickets_learned}
 use Rattle.chain_model.proofs.Answering.{applied_left, refuses_those}
 use Rattle.chain_model.specs.Chain.{ArePlaced, Belongs, HasApplied, IsAbove, IsApplied, IsTold, StandsFor, StandsWith}
 use Rattle.chain_model.proofs.Changing.{are, changes, were}

@@ -20,7 +20,7 @@ use Rattle.chain_steps.specs.declared.message.Message.{Message}
 use Rattle.chain_steps.specs.declared.message.Message.TheVariants as messages
 use Rattle.world_model.specs.Backing.{Disk, IsBacked, IsMustered, IsOnDisk, Muster}
 use Rattle.world_model.specs.Chain.{IsBefore}
-use Rattle.world_model.specs.Counting.{all_at, all_before, all_behind, all_without}
+use Rattle.world_model.proofs.Counting.{all_at, all_before, all_behind, all_without}
 use Rattle.chain_model.specs.Links.{AllTold, Net, Node, Records, Stamped, at_epoch, hops_from, hops_of, stage_of, stamped}
 use Rattle.chain_model.proofs.LinkSteps.{remove_shows, same_shows}
 use Rattle.world_model.specs.Machine.{State}

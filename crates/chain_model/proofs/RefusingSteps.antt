@@ -20,7 +20,7 @@ use Rattle.chain_steps.specs.declared.message.Message.{Message}
 use Rattle.chain_steps.specs.declared.message.Message.TheVariants as messages
 use Rattle.chain_steps.specs.declared.waiting.Waiting.{Waiting}
 use Rattle.world_model.specs.Chain.{ArePutOut, reply_event}
-use Rattle.world_model.specs.Counting.{all_at}
+use Rattle.world_model.proofs.Counting.{all_at}
 use Rattle.world_model.specs.Event.{Answered, ClientEvent, Failed}
 use Rattle.world_model.specs.Machine.{State}
 use Rattle.world_model.specs.Requests.{Held, sent_event}

@@ -20,7 +20,7 @@ use Rattle.chain_steps.specs.declared.cause.Cause.{Cause}
 use Rattle.chain_steps.specs.declared.message.Envelope.{Envelope}
 use Rattle.world_model.specs.Backing.{Disk, IsMustered}
 use Rattle.world_model.specs.Chain.{AreBefore, IsBefore, IsTokenBefore, looked_by, owing_at, raised_by}
-use Rattle.world_model.specs.Counting.{count-cons, one_if, one_if-same}
+use Rattle.world_model.proofs.Counting.{count-cons, one_if, one_if-same}
 use Rattle.chain_model.specs.Links.{Net, Node, at_epoch, first_of, from_slot, hop_at, hop_of, hops_from, hops_of, is_end, is_slot}
 use Rattle.world_model.specs.Machine.{Restart, State, Waits, after, start}
 use Rattle.world_model.specs.Order.{AreNumberedFrom, volume_after}
@@ -28,8 +28,8 @@ use Rattle.chain_model.specs.Placed.{Apart, Close}
 use Rattle.chain_model.specs.Replicas.{Hop}
 use Rattle.world_model.specs.Requests.{Bound, Entry, Held, IsBound, IsFresh, IsSent, Looked, Owing, Requests, Sending, Submitted, count_line, count_submits, count_tokens, named_writes}
 use Rattle.world_model.specs.Requests as requests
-use Rattle.world_model.specs.Standing.{no_map}
-use Rattle.world_model.specs.TokenSteps.{restarts, starts}
+use Rattle.world_model.proofs.Standing.{no_map}
+use Rattle.world_model.proofs.TokenSteps.{restarts, starts}
 use Rattle.chain_model.specs.Turning.{Stands}
 use Rattle.chain_model.proofs.TurningFollow.{start_stands}
 use Rattle.chain_model.specs.TurningLaws.{fresh, started}

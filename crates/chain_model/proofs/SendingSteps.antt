@@ -23,15 +23,13 @@ use Rattle.chain_steps.specs.declared.waiting.Waiting.TheVariants as tokens
 use Rattle.chain_steps.specs.declared.waiting.WriteToken.{WriteToken}
 use Rattle.world_model.specs.Backing.{Disk, IsBacked}
 use Rattle.world_model.specs.Chain.{AreBefore, IsBefore, IsTokenBefore, at_member, owing_at}
-use Rattle.world_model.specs.ChainSteps.{flat_same}
-use Rattle.world_model.specs.Counting.{all_at, all_before, all_behind}
-use Rattle.world_model.specs.DemandSteps as demands
+use Rattle.world_model.proofs.Counting.{all_at, all_before, all_behind, flat_same, pairs_around}
+use Rattle.world_model.proofs.DemandSteps as demands
 use Rattle.world_model.specs.Machine.{State, written}
 use Rattle.chain_model.specs.Replicas.{Hop}
 use Rattle.world_model.specs.Requests.{Held, IsNew, IsOfKind, IsUnused, Owing, Requests, Submitted, origin_of, ticket_of}
 use Rattle.world_model.specs.Requests as requests
-use Rattle.world_model.specs.Standing.{Stays, shows_stay}
-use Rattle.world_model.specs.TakingSteps.{pairs_around}
+use Rattle.world_model.proofs.Standing.{Stays, shows_stay}
 use Rattle.chain_model.specs.Turning.{Stands}
 use Rattle.chain_model.specs.Chain.{HasApplied, HasVolume, IsApplied, IsTold, StandsWith}
 use Rattle.chain_model.proofs.Changing.{Fits, all_changed, are, changes, requests_split, were}

@@ -11,7 +11,7 @@ use Rattle.chain_steps.specs.Place.{incarnation_in}
 use Rattle.chain_steps.specs.declared.message.Envelope.{Envelope}
 use Rattle.world_model.specs.Machine.{State}
 use Rattle.world_model.specs.Requests.{Requests, StandsFor, Submitted}
-use Rattle.world_model.specs.Standing.{Stays}
+use Rattle.world_model.proofs.Standing.{Stays}
 use Rattle.chain_model.specs.Laws.{AreSame, HasTaken}
 use Rattle.chain_model.proofs.LineSteps.{all_without_some, loses_submits}
 use Rattle.chain_model.specs.View.{incarnation_at, submitted_among, submitted_from, submitted_in, submitted_on}

@@ -16,22 +16,20 @@ use Rattle.chain_steps.specs.declared.message.Envelope.{Envelope}
 use Rattle.chain_steps.specs.declared.message.Message.{Message}
 use Rattle.chain_steps.specs.declared.message.Message.TheVariants as messages
 use Rattle.world_model.specs.Chain.{AreBefore, ArePutOut, IsBefore, IsTokenBefore}
-use Rattle.world_model.specs.ChainSteps.{all_between, flat_same, maps_same}
+use Rattle.world_model.proofs.Counting.{all_at, all_between, all_without, contains_there, flat_same, get_there, maps_same}
 use Rattle.world_model.specs.Backing.{Disk, IsBacked}
-use Rattle.world_model.specs.Counting.{all_at, all_without}
 use Rattle.world_model.specs.Event.{ClientEvent}
 use Rattle.chain_model.proofs.Lanes.{numbered_at}
 use Rattle.chain_model.specs.Links.{Node, hops_of}
 use Rattle.world_model.specs.Machine.{Plays, State}
-use Rattle.world_model.specs.MemberSteps.{contains_there, drops_found}
+use Rattle.world_model.proofs.MemberSteps.{drops_found, learns_number, tickets_learned}
 use Rattle.world_model.specs.Order.{volume_after}
 use Rattle.chain_model.specs.Replicas as replicas
 use Rattle.world_model.specs.Requests.{Requests, Submitted}
 use Rattle.world_model.specs.Requests as requests
-use Rattle.world_model.specs.Standing.{Stays, shows_stay}
-use Rattle.world_model.specs.TokenSteps.{numbers}
+use Rattle.world_model.proofs.Standing.{Stays, shows_stay}
+use Rattle.world_model.proofs.TokenSteps.{numbers}
 use Rattle.chain_model.specs.Turning.{Stands}
-use Rattle.world_model.specs.WriteSteps.{get_there, learns_number, tickets_learned}
 use Rattle.chain_model.specs.Chain.{ArePlaced, BelongsToHead, HasApplied, HasVolume, IsForHead, IsTold, StandsFor, StandsWith}
 use Rattle.chain_model.proofs.Changing.{all_changed, are, around, changes, requests_split, were}
 use Rattle.chain_model.proofs.Delivering.{order_numbers}

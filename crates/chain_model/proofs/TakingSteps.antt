@@ -16,14 +16,15 @@ use Rattle.chain_steps.specs.declared.found.Found.TheVariants as founds
 use Rattle.chain_steps.specs.declared.waiting.Waiting.{Waiting}
 use Rattle.chain_steps.specs.declared.waiting.Waiting.TheVariants as tokens
 use Rattle.world_model.specs.Chain.{IsTokenBefore, at_member, looked_by, owing_at}
-use Rattle.world_model.specs.DemandSteps.{answers_demand, asks, drops_demand, flushes, refuses_demand}
+use Rattle.world_model.proofs.Counting.{pairs_around}
+use Rattle.world_model.proofs.DemandSteps.{answers_demand, asks, drops_demand, flushes, refuses_demand}
 use Rattle.world_model.specs.Event.{Answered, ClientEvent, Done, Failed, Read}
 use Rattle.world_model.specs.Machine.{IsFlush, Plays, State}
 use Rattle.world_model.specs.Order.{volume_after}
+use Rattle.world_model.proofs.OrderSteps.{clean_range}
 use Rattle.world_model.specs.Requests.{Held, Owing, Requests, ticket_of}
 use Rattle.world_model.specs.Requests as requests
-use Rattle.world_model.specs.Standing.{Stays, shows_stay}
-use Rattle.world_model.specs.TakingSteps.{clean_range, pairs_around}
+use Rattle.world_model.proofs.Standing.{Stays, shows_stay}
 use Rattle.chain_model.specs.Chain.{IsApplied, StandsFor, StandsWith}
 use Rattle.chain_model.proofs.Changing.{changes_requests}
 use Rattle.chain_model.proofs.MemberSteps.{around_it, chain_with, idle, it_drops_found, reach, volume_is}

@@ -21,18 +21,17 @@ use Rattle.chain_steps.specs.declared.message.Envelope.{Envelope}
 use Rattle.chain_steps.specs.declared.waiting.Waiting.{Waiting}
 use Rattle.world_model.specs.Backing.{Disk, IsBacked}
 use Rattle.world_model.specs.Chain.{AreBefore, ArePutOut, IsBefore, IsTokenBefore, at_member, owing_at}
-use Rattle.world_model.specs.ChainSteps.{all_between, flat_same, maps_same, tokens_left}
-use Rattle.world_model.specs.Counting.{all_at, all_before}
+use Rattle.world_model.proofs.Counting.{all_at, all_before, all_between, flat_same, maps_same}
 use Rattle.world_model.specs.Event.{ClientEvent}
+use Rattle.world_model.proofs.MemberSteps.{drops_found, stays_then, tokens_left}
 use Rattle.chain_model.proofs.LinkSteps.{head_learn_shows, learn_shows}
 use Rattle.chain_model.specs.Links.{Learns, Net, Node, Works, first_of, hops_of, is_end, sent_again}
 use Rattle.world_model.specs.Machine.{Plays, State}
-use Rattle.world_model.specs.MemberSteps.{drops_found, stays_then}
 use Rattle.world_model.specs.Order.{volume_after}
 use Rattle.chain_model.specs.Placed.{Apart}
 use Rattle.world_model.specs.Requests.{Owing, Requests}
 use Rattle.world_model.specs.Requests as requests
-use Rattle.world_model.specs.Standing.{Stays, shows_stay}
+use Rattle.world_model.proofs.Standing.{Stays, shows_stay}
 use Rattle.chain_model.specs.Turning.{Begins, Stands}
 use Rattle.chain_model.specs.TurningSteps.{HeadIsTold}
 use Rattle.chain_model.proofs.TurningTops.{head_told_stands, told_stands}

@@ -20,8 +20,8 @@ use Rattle.chain_steps.specs.declared.waiting.WriteToken.{WriteToken}
 use Rattle.world_model.specs.Backing.{IsBacked}
 use Rattle.world_model.specs.Chain.{ArePutOut, BoardInUse}
 use Rattle.world_model.specs.Event.{Answered, ClientEvent, Done, Failed, Read}
-use Rattle.world_model.specs.Life.{RunsEras}
-use Rattle.world_model.specs.Machine.{IsFlush, Plays, State, start, written}
+use Rattle.world_model.specs.Life.{all_events}
+use Rattle.world_model.specs.Machine.{IsFlush, May, Move, Plays, Restart, RunsOn, State, after, shown, start, written}
 use Rattle.world_model.specs.Requests.{Held, IsNew, IsOfKind, sent_event}
 use Rattle.chain_model.specs.Chain.{StandsFor}
 use Rattle.chain_model.specs.Laws.{HasPassed, HasSent, HasTaken, IsBeginning, IsNext, with_members}
@@ -295,6 +295,13 @@ Life size v [] w events = (w ≡ v) × (events ≡ [])
 Life size v (era ∷ []) w events = (now : List (List ClientEvent)) × (events ≡ now ∷ []) × Era size v era w now
 Life size v (era ∷ next ∷ eras) w events =
     (end begun : View) × (now : List (List ClientEvent)) × (later : List (List (List ClientEvent))) × (events ≡ now ∷ later) × Era size v era end now × IsCut end begun × Life size begun (next ∷ eras) w later
+
+-- one run for each era, none of them with a restart, and one restart between two: they show what clients see of each
+abbrev pub RunsEras : ℕ → State → List (List (List ClientEvent)) → State → Type 0
+RunsEras size s [] t = t ≡ s
+RunsEras size s (era ∷ []) t = (moves : List Move) × RunsOn s moves t × (shown size s moves ≡ all_events era)
+RunsEras size s (era ∷ next ∷ eras) t =
+    (moves : List Move) × (end : State) × (front : ℕ) × RunsOn s moves end × (shown size s moves ≡ all_events era) × May end (Restart front) × RunsEras size (after end (Restart front)) (next ∷ eras) t
 
 -- Whatever happens in a chain is of one volume.
 abbrev pub HappeningsAreOfOneVolume : Type 0

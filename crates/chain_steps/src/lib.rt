@@ -20,6 +20,6 @@ pub use asked::AskedRead;
 pub use cause::Cause;
 pub use found::Found;
 pub use message::{Envelope, Message, Sent};
-pub use place::Place;
+pub use place::{Place, incarnation_in};
 pub use tokens::Tokens;
 pub use waiting::{Due, Waiting, WriteToken};

@@ -1,3 +1,6 @@
+ghost use Rattle.std.specs.Prelude.{◌≡◌, ◌<◌, ◌≤◌, length, IfSome};
+ghost use Rattle.chain_steps.specs.Place.{incarnation_in, place_in};
+
 use configurations::{Epoch, Incarnation, Member, Record};
 use gate_journal::Slot;
 use std::marker::Model;
@@ -48,7 +51,7 @@ impl Place {
         ensures within { IfSome result (λ at. at < length self.now.chain.members) }
         ensures few { length self.now.chain.members ≤ 8 }
     {
-        self.chain.members().iter().position(|m| m.slot == slot)
+        place_in(&self.chain, slot)
     }
 
     /// Whether the member of this incarnation stands in the chain, at its slot.
@@ -111,9 +114,7 @@ impl Place {
     pub fn incarnation_of(&self, slot: Slot) -> Option<Incarnation>
         ensures { result ≡ incarnation_in self.now.chain slot }
     {
-        self.place_of(slot)
-            .and_then(|at| self.chain.members().get(at))
-            .map(|m| m.incarnation)
+        incarnation_in(&self.chain, slot)
     }
 
     /// The slot at a place, counted from the head.
@@ -122,4 +123,22 @@ impl Place {
     {
         self.chain.members().get(place).map(|m| m.slot)
     }
+}
+
+/// Where a slot stands in a chain, counted from the head, if it does.
+fn place_in(chain: &Record, slot: Slot) -> Option<usize>
+    ensures place { result ≡ place_in chain.now slot }
+    ensures within { IfSome result (λ at. at < length chain.now.members) }
+    ensures few { length chain.now.members ≤ 8 }
+{
+    chain.members().iter().position(|m| m.slot == slot)
+}
+
+/// The incarnation of the member that a chain has at a slot, if the slot is the chain's.
+pub fn incarnation_in(chain: &Record, slot: Slot) -> Option<Incarnation>
+    ensures { result ≡ incarnation_in chain.now slot }
+{
+    place_in(chain, slot)
+        .and_then(|at| chain.members().get(at))
+        .map(|m| m.incarnation)
 }

@@ -23,7 +23,7 @@ use Rattle.nbd_session.specs.declared.phase.Phase.{Phase}
 use Rattle.nbd_session.specs.declared.phase.Phase.TheVariants.{Greeted, Negotiating, Skipping, Transmitting, Leaving, Over}
 use Rattle.world_model.specs.Chain.{ArePutOut, reply_event}
 use Rattle.world_model.specs.Event.{ClientEvent}
-use Rattle.world_model.specs.Standing.{get_set}
+use Rattle.world_model.proofs.Standing.{get_set}
 use Rattle.clients.specs.Calls.{AreAtPlaces, Delivers, EndsInput, HasNothing, IsDemandOf, IsHanded, IsSameClient, PutsOut, StayOver, TakesPiece, TakesReply, bytes_out, has_waiting, is_closed}
 use Rattle.clients.specs.Clients.{AreSessions, Client, GoOn, HasClient, IsOf, IsOver, Sessions, no_one, of_session, place_of}
 use Rattle.clients.specs.declared.delivered.Delivered.{Delivered}

@@ -1,6 +1,6 @@
 -- One era after another: lemmas.
-use Rattle.std.proofs.Common.{◌≡◌, ℕ, List, [], ◌∷◌, ◌++◌, length, map, refl, ap, sym, subst, ◌∙◌}
-use Rattle.std.specs.Prelude.{◌*◌, All, Some, slice_get, zip}
+use Rattle.std.proofs.Common.{◌≡◌, ℕ, List, [], ◌∷◌, ◌++◌, map, refl, ap, sym, subst, ◌∙◌}
+use Rattle.std.specs.Prelude.{◌*◌, true, All, IfSome, Some, slice_get, zip}
 use Rattle.std.specs.List.{range_with_len}
 use Rattle.std.proofs.lemmas.Option.{get_or_from_slice_get}
 use Rattle.disk_model.specs.Memory.{given_of}
@@ -11,24 +11,26 @@ use Rattle.local_store.specs.Meaning.{Meaning, Means}
 use Rattle.nbd_session.specs.declared.answer.Export.{Export}
 use Rattle.volume.specs.Writes.{volume_of}
 use Rattle.volume.specs.declared.geometry.Geometry.{Geometry}
-use Rattle.world_model.specs.Chain.{StandsFor}
-use Rattle.world_model.specs.ChainLaws.{FirstChain, IsOnEachDisk, RestartsChain}
-use Rattle.world_model.specs.Life.{HappeningsAreOfOneVolume}
+use Rattle.chain_model.specs.Chain.{StandsFor}
+use Rattle.chain_model.specs.Laws.{FirstChain, IsOnEachDisk, RestartsChain}
+use Rattle.chain_model.specs.Life.{HappeningsAreOfOneVolume}
+use Rattle.chain_model.specs.View.{may_be_recorded}
 use Rattle.world_model.specs.Machine.{Restart, State, after, shown, start}
-use Rattle.world_model.specs.Refusing.{RefusalsHavePleas, StopsHaveCauses}
+use Rattle.chain_model.specs.Refusing.{RefusalsHavePleas, StopsHaveCauses}
 use Rattle.chain.specs.Chain.{bytes_of}
+use Rattle.chain.specs.Member.{Linked}
 use Rattle.clients.specs.Clients.{AreSessions}
 use Rattle.clients.specs.Laws.{FirstHasNone, OutputsAreLawful}
 use Rattle.world.specs.World.{IsJoined, Seen}
 use Rattle.life.specs.Begun.{BeginsWith, IsCutFrom, export_of, first_about, stores_of}
-use Rattle.life.specs.Headline.{EraLeads, ErasLead, HasWhatIsOwed, IsOneLife}
+use Rattle.life.specs.Headline.{AreRefusedSo, EraLeads, ErasLead, HasWhatIsOwed, IsOneLife}
 use Rattle.life.specs.Lived.{AreOfOneVolume, IsFresh}
-use Rattle.life.specs.Plays.{DeedsLead, GoesOnFrom}
+use Rattle.life.specs.Plays.{DeedsLead, GoesOnFrom, IsRecorded}
 use Rattle.life.specs.declared.answer.Answer.{Answer}
 use Rattle.life.specs.declared.era.Answers.{Answers}
 use Rattle.life.specs.declared.era.Era.{Era}
 use Rattle.life.proofs.Beside.{zip_there}
-use Rattle.life.proofs.Lives.{each_disk, era_lawful, exported_as, recovers}
+use Rattle.life.proofs.Lives.{each_disk, era_lawful, exported_as, may_be, recovers}
 use Rattle.life.proofs.Passing.{goes_plays}
 use Rattle.life.proofs.Pleas.{refused_so}
 use Rattle.life.proofs.Stops.{there_at}
@@ -47,6 +49,10 @@ module _ {S : Type 0} (premise : Type 0) (about : S → About) (keeps : S → Li
 
   abbrev Fresh : Export → Seen S → State → Type 0
   Fresh export w s = IsFresh about keeps may_leave_now export.size export w s
+
+  -- whatever a stop may leave of the member's disk has what is owed, if it may be recorded
+  abbrev HasOwed : ℕ → State → Seen S → Linked S → Type 0
+  HasOwed size s w m = may_be_recorded w.chain.recorded w.chain.writing m.node.state ≡ true → (bytes : List ℕ) → may_leave_now m.node.store bytes → HasWhatIsOwed size s (about m.node.store) bytes
 
   -- an era whose deeds were played, behind which the chain goes on from a disk
   pub era_leads : HappeningsAreOfOneVolume → RefusalsHavePleas → StopsHaveCauses → RestartsChain → IsOnEachDisk → FirstHasNone → OutputsAreLawful
@@ -67,21 +73,23 @@ module _ {S : Type 0} (premise : Type 0) (about : S → About) (keeps : S → Li
       let exported : mid.sessions.export ≡ export = one.remain.export ∙ fresh.has in
       let again : export_of mid.chain.geometry ≡ export = exported_as about keeps may_leave_now mid joined_then ∙ exported in
       let (m, here, cut) = zip_there (λ m left. IsCutFrom may_leave_now disk era.cut m.node.store left) mid.chain.members goes.disks era.returned goes.returns goes.cut goes.there in
-      let (may, later) = recovers about keeps may_leave_now restarts mid one.w plays.1 era.returned m (given_of goes.returns) goes.meaning new one_meaning one.shows stands_then here cut.left goes.means (ap export_of goes.sizes) goes.begins in (
+      let (may, later) = recovers about keeps may_leave_now restarts mid one.w plays.1 era.returned m (given_of goes.returns) goes.meaning new one_meaning one.shows stands_then here
+      (may_be about keeps may_leave_now mid.chain m (subst (λ o. IfSome o (IsRecorded mid.chain)) here goes.recorded)) cut.left goes.means (ap export_of goes.sizes) goes.begins in (
         after plays.1 (Restart goes.meaning.front),
         record {
           end = mid;
           played = played;
           events = one.events;
           lawful = era_lawful about keeps may_leave_now old mid (zip era.deeds.items answers) dropped fresh.view export turn first lawful fresh.no_clients are fresh.has;
-          refused = refused_so about keeps may_leave_now pleas causes (bytes_of old.chain) old mid fresh.view one.w one.events fresh.shows one.shows fresh.runs one.goes;
           moves = plays.0;
           state = plays.1;
           runs = plays.2;
           shows = subst (λ n. shown n s plays.0 ≡ one.events) (sym size) plays.3;
-          disks = subst (λ n. All (λ x. (bytes : List ℕ) → may_leave_now x.node.store bytes → HasWhatIsOwed n plays.1 (about x.node.store) bytes) mid.chain.members) (stays ∙ sym size)
-              (all_from (λ x. (bytes : List ℕ) → may_leave_now x.node.store bytes → HasWhatIsOwed (bytes_of mid.chain) plays.1 (about x.node.store) bytes) mid.chain.members
-              (λ at x there bytes left. each_disk about keeps may_leave_now each_has mid one.w plays.1 one.shows stands_then at x there bytes left));
+          refused = subst (λ n. AreRefusedSo about keeps may_leave_now n old s mid plays.1 one.events) (sym size)
+              (refused_so about keeps may_leave_now pleas causes happenings old mid fresh.view one.w s plays.1 one.events fresh.shows one.shows stands plays.4 fresh.runs one.goes);
+          disks = subst (λ n. All (HasOwed n plays.1 mid) mid.chain.members) (stays ∙ sym size)
+              (all_from (HasOwed (bytes_of mid.chain) plays.1 mid) mid.chain.members
+              (λ at x there may bytes left. each_disk about keeps may_leave_now each_has mid one.w plays.1 one.shows stands_then at x there may bytes left));
           goes_on = goes;
           may = may;
           restarts = refl;

@@ -1,12 +1,11 @@
 -- One deed after another, and one era after another: lemmas.
-use Rattle.std.proofs.Common.{◌≡◌, ℕ, ◌+◌, ◌≤◌, Bool, true, false, List, [], ◌∷◌, ◌++◌, length, take, ltb, refl, ap, sym, subst, ◌∙◌, inl, inr, arith}
-use Rattle.std.specs.Prelude.{◌==◌, ◌*◌, All, None, Option, Some, fold, get_or, slice_get, zip}
+use Rattle.std.proofs.Common.{◌≡◌, ℕ, ◌≤◌, Bool, true, false, List, [], ◌∷◌, ◌++◌, length, take, ltb, refl, ap, sym, subst, ◌∙◌, inl, inr, arith}
+use Rattle.std.specs.Prelude.{◌||◌, ◌==◌, All, None, Option, Some, fold, get_or, slice_get, zip}
 use Rattle.std.specs.List.{AllZip}
 use Rattle.std.proofs.lemmas.Bool.{eqb-true, ltb-false, ltb-true}
 use Rattle.std.proofs.lemmas.Grind.{flat_map-append}
 use Rattle.std.proofs.lemmas.List.{append_assoc, append-nil, length-append, take-append-le, take_all}
 use Rattle.std.proofs.lemmas.List.Quantifiers.{position-Some}
-use Rattle.disk_model.specs.declared.memory.MemDisk.{MemDisk}
 use Rattle.flush_barrier.specs.declared.session_id.SessionId.{SessionId}
 use Rattle.local_store.specs.About.{About, meaning_with}
 use Rattle.local_store.specs.Meaning.{Meaning, Means}
@@ -15,18 +14,17 @@ use Rattle.nbd_session.specs.Lawful.{History, IsLawful, nothing}
 use Rattle.nbd_session.specs.Replies.{WireReply}
 use Rattle.nbd_session.specs.declared.answer.Export.{Export}
 use Rattle.version_table.specs.Held.{writes_upto}
-use Rattle.volume.specs.Writes.{patched, volume_of}
-use Rattle.volume.specs.declared.geometry.Geometry.{Geometry}
+use Rattle.volume.specs.Writes.{patched}
 use Rattle.chain_steps.specs.Node.{NodeState}
 use Rattle.chain_steps.specs.Steps.{volume_at}
-use Rattle.chain_steps.specs.declared.cause.Cause.{Cause}
-use Rattle.world_model.specs.Chain.{StandsFor, View}
-use Rattle.world_model.specs.ChainLaws.{FirstChain, IsBeginning, IsOnEachDisk, RestartsChain, with_members}
+use Rattle.chain_model.specs.Chain.{StandsFor}
+use Rattle.chain_model.specs.View.{View, is_in_some, may_be_recorded}
+use Rattle.chain_model.specs.Laws.{IsBeginning, IsOnEachDisk, RestartsChain, with_members}
 use Rattle.world_model.specs.Event.{ClientEvent}
-use Rattle.world_model.specs.Life.{HappeningsAreOfOneVolume, all_events}
-use Rattle.world_model.specs.Machine.{May, Restart, State, after, machine_volume, shown, start}
-use Rattle.world_model.specs.Refusing.{RefusalsHavePleas, StopsHaveCauses}
-use Rattle.chain.specs.Chain.{bytes_of}
+use Rattle.world_model.specs.Life.{all_events}
+use Rattle.chain_model.specs.Life.{HappeningsAreOfOneVolume}
+use Rattle.world_model.specs.Machine.{May, Restart, State, after}
+use Rattle.chain.specs.Chain.{Chained, bytes_of}
 use Rattle.chain.specs.Member.{IsShown, Linked}
 use Rattle.chain.proofs.Cells.{place_of as cell_of, twin_of}
 use Rattle.clients.specs.Clients.{AllGo, AreSessions, Client, Extends, IsOf, Sessions, no_one, place_of, replies_in}
@@ -34,13 +32,10 @@ use Rattle.clients.specs.Laws.{FirstHasNone, IsLawfulFor, OutputsAreLawful}
 use Rattle.clients.proofs.Places.{same_id}
 use Rattle.world.specs.World.{HappensSo, IsJoined, IsOfOneVolume, Seen, Shows}
 use Rattle.life.specs.Begun.{BeginsWith, export_of}
-use Rattle.life.specs.Headline.{AreRefusedSo, EraLeads, ErasLead, Fit, HasWhatIsOwed, IsLawfulEra, IsLawfulSession, IsOneLife, Trace, fed_in, handed_in}
+use Rattle.life.specs.Headline.{Fit, HasWhatIsOwed, IsLawfulEra, IsLawfulSession, Trace, fed_in, handed_in}
 use Rattle.life.specs.Lived.{AreOfOneVolume, HappenInTurn, HappenedUntil, IsFresh}
-use Rattle.life.specs.Plays.{DeedsLead, GoesOnFrom, causes_of}
-use Rattle.life.specs.declared.era.Answers.{Answers}
-use Rattle.life.specs.declared.era.Era.{Era}
-use Rattle.life.proofs.Passing.{goes_plays, happens_as, happens_then, none_happens}
-use Rattle.life.proofs.Pleas.{refused_so}
+use Rattle.life.specs.Plays.{IsRecorded}
+use Rattle.life.proofs.Passing.{happens_as, happens_then, none_happens}
 use Rattle.life.specs.Played.{fed_by, handed_by}
 use Rattle.life.specs.declared.answer.Answer.{Answer}
 use Rattle.life.specs.declared.era.Deed.{Deed}
@@ -239,11 +234,12 @@ module _ {S : Type 0} (about : S → About) (keeps : S → List ℕ → Type 0) 
   -- what a disk is left with means a front of its member, and the machine restarts there
   pub recovers : RestartsChain → (old : Seen S) (v : View) (s : State) (at : ℕ) (m : Linked S) (c : List ℕ) (meaning : Meaning) (new : Seen S)
       → ((one other : Meaning) (bytes : List ℕ) → Means one bytes → Means other bytes → one ≡ other)
-      → Shows about keeps may_leave_now old v → StandsFor (bytes_of old.chain) v s → slice_get old.chain.members at ≡ Some m → may_leave_now m.node.store c → Means meaning c
+      → Shows about keeps may_leave_now old v → StandsFor (bytes_of old.chain) v s → slice_get old.chain.members at ≡ Some m → may_be_recorded old.chain.recorded old.chain.writing m.node.state ≡ true
+      → may_leave_now m.node.store c → Means meaning c
       → export_of meaning.geometry ≡ export_of old.chain.geometry
       → BeginsWith about keeps may_leave_now meaning.geometry meaning.front meaning.volume new
       → May s (Restart meaning.front) × IsFresh about keeps may_leave_now (bytes_of old.chain) (export_of old.chain.geometry) new (after s (Restart meaning.front))
-  recovers law old v s at m c meaning new one_meaning shows stands here left means sizes begun =
+  recovers law old v s at m c meaning new one_meaning shows stands here may left means sizes begun =
       let place = cell_of old.chain.members at m here in
       let twin = twin_of (IsShown about keeps may_leave_now (bytes_of old.chain)) place.above m place.below v.members (subst (λ l. AllZip (IsShown about keeps may_leave_now (bytes_of old.chain)) l v.members) place.split shows.chain.members) in
       let so = twin.fits in
@@ -254,7 +250,8 @@ module _ {S : Type 0} (about : S → About) (keeps : S → List ℕ → Type 0) 
       let begins : IsBeginning front (fold patched own.volume (writes_upto own.node.table front)) begun.view =
       rw node (subst (λ f. IsBeginning f (volume_at own.volume m.node.state front) begun.view) (ap (λ x. x.front) same) (subst (λ l. IsBeginning meaning.front l begun.view) (ap (λ x. x.volume) same) begun.begins)) in
       let did = law (bytes_of old.chain) v twin.over own twin.under s front begun.view
-      (subst (λ ms. StandsFor (bytes_of old.chain) (with_members v ms) s) twin.are (same_members v (bytes_of old.chain) s stands)) (rw node durable) (rw node known) begins in
+      (subst (λ ms. StandsFor (bytes_of old.chain) (with_members v ms) s) twin.are (same_members v (bytes_of old.chain) s stands))
+      (rw (shows.chain.recorded, shows.chain.writing, node) may) (rw node durable) (rw node known) begins in
       subst (λ f. May s (Restart f) × IsFresh about keeps may_leave_now (bytes_of old.chain) (export_of old.chain.geometry) new (after s (Restart f))) (sym (ap (λ x. x.front) same)) (
         did.0,
         record {
@@ -276,10 +273,15 @@ module _ {S : Type 0} (about : S → About) (keeps : S → List ℕ → Type 0) 
 
   -- ---- what is left of disks
 
-  -- whatever a stop may leave of each member's disk has what is owed
+  -- who is recorded may be recorded
+  pub may_be : (c : Chained S) (m : Linked S) → IsRecorded c m → may_be_recorded c.recorded c.writing m.node.state ≡ true
+  may_be c m is = ap (λ b. b || is_in_some c.writing m.node.state.place.slot m.node.state.incarnation) is
+
+  -- whatever a stop may leave of the disk of each member that may be recorded has what is owed
   pub each_disk : IsOnEachDisk → (w : Seen S) (v : View) (s : State) → Shows about keeps may_leave_now w v → StandsFor (bytes_of w.chain) v s
-      → (at : ℕ) (m : Linked S) → slice_get w.chain.members at ≡ Some m → (bytes : List ℕ) → may_leave_now m.node.store bytes → HasWhatIsOwed (bytes_of w.chain) s (about m.node.store) bytes
-  each_disk law w v s shows stands at m here bytes left =
+      → (at : ℕ) (m : Linked S) → slice_get w.chain.members at ≡ Some m → may_be_recorded w.chain.recorded w.chain.writing m.node.state ≡ true
+      → (bytes : List ℕ) → may_leave_now m.node.store bytes → HasWhatIsOwed (bytes_of w.chain) s (about m.node.store) bytes
+  each_disk law w v s shows stands at m here may bytes left =
       let place = cell_of w.chain.members at m here in
       let twin = twin_of (IsShown about keeps may_leave_now (bytes_of w.chain)) place.above m place.below v.members (subst (λ l. AllZip (IsShown about keeps may_leave_now (bytes_of w.chain)) l v.members) place.split shows.chain.members) in
       let so = twin.fits in
@@ -287,7 +289,8 @@ module _ {S : Type 0} (about : S → About) (keeps : S → List ℕ → Type 0) 
       let (front, durable, known, is) = so.left bytes left in
       let node : own.node ≡ m.node.state = ap (λ x. x.node) so.is in
       let (owed, taken, volume) = law (bytes_of w.chain) v twin.over own twin.under s front
-      (subst (λ ms. StandsFor (bytes_of w.chain) (with_members v ms) s) twin.are (same_members v (bytes_of w.chain) s stands)) (rw node durable) (rw node known) in
+      (subst (λ ms. StandsFor (bytes_of w.chain) (with_members v ms) s) twin.are (same_members v (bytes_of w.chain) s stands))
+      (rw (shows.chain.recorded, shows.chain.writing, node) may) (rw node durable) (rw node known) in
       record {
         front = front;
         owed = owed;

@@ -1,23 +1,25 @@
 -- Whose disks a chain's members have, and of which sizes: no step changes that. Lemmas.
-use Rattle.std.proofs.Common.{◌≡◌, ℕ, zero, suc, Bool, true, false, List, [], ◌∷◌, ◌++◌, length, map, refl, ap, sym, subst, ◌∙◌, inl, inr, arith}
+use Rattle.std.proofs.Common.{◌≡◌, ℕ, zero, suc, Bool, true, false, List, [], ◌∷◌, length, map, refl, ap, sym, subst, ◌∙◌, inl, inr, arith}
 use Rattle.std.specs.Prelude.{◌⊎◌, ◌≢◌, Option, None, Some, Result, Ok, Err, IfNone, IfSome, slice_get, slice_set}
 use Rattle.std.proofs.lemmas.Bool.{cases_lt}
-use Rattle.std.proofs.lemmas.List.{map-append}
-use Rattle.chain.specs.Asking.{IsTurnedAway, IsUnreadAt}
+use Rattle.chain.specs.Asking.{HasSubmitted, IsTurnedAway, IsUnreadAt}
 use Rattle.chain.specs.Chain.{Chained, Changes, RestsAt}
 use Rattle.chain.specs.Commits.{HasBegunCommits, HasCheckpointed, HasTicked, PostsAt}
-use Rattle.chain.specs.Fronts.{IsNoTail, RaisesAt}
+use Rattle.chain.specs.Fronts.{HasKnown, MayNotRaise, RaisesAt}
 use Rattle.chain.specs.Member.{Linked}
 use Rattle.chain.specs.Musters.{LacksAt}
-use Rattle.chain.specs.Passing.{AckComes, Passes, PutComes, SubmitComes, with_puts}
+use Rattle.chain.specs.Passing.{HasNone, IsItself, MessageComes, MessageHalts, SubmitComes}
 use Rattle.chain_core.specs.Commits.{HasEnded, HasRunOut, HasStoppedBy, HasWorked}
 use Rattle.chain_core.specs.Node as core
 use Rattle.chain_core.specs.Node.{IsRefusedBy, IsStep, IsStepOrStop}
 use Rattle.chain_core.specs.Reads.{HasBrokenOff, HasOnlyRead}
 use Rattle.chain_core.specs.declared.refusal.Refusal.{Refusal}
 use Rattle.chain_core.specs.declared.refusal.Refusal.TheVariants as refusals
-use Rattle.chain_steps.specs.Node.{Commit, NodeState, Out, Stepped, durable_of}
+use Rattle.chain_steps.specs.Node.{Commit, Out, Stepped}
+use Rattle.chain_steps.specs.Steps.{raised as raised_step, stop, submit}
 use Rattle.chain_steps.specs.declared.message.Envelope.{Envelope}
+use Rattle.chain_steps.specs.declared.waiting.WriteToken.{WriteToken}
+use Rattle.chain_steps.specs.declared.waiting.WriteToken.TheVariants as tokens
 use Rattle.disk_model.specs.declared.error.DiskError.{DiskError}
 use Rattle.disk_model.specs.declared.error.DiskError.TheVariants.{ReadFault}
 use Rattle.disk_model.specs.declared.memory.MemDisk.{MemDisk}
@@ -29,6 +31,7 @@ use Rattle.nbd_session.specs.declared.demand.Demand.{Demand}
 use Rattle.nbd_session.specs.declared.demand.Demand.TheVariants as demands
 use Rattle.nbd_session.specs.declared.refusal.Refusal as sessions
 use Rattle.std.specs.declared.alloc.AllocError.{AllocError}
+use Rattle.volume.specs.Writes.{Placed}
 use Rattle.volume.specs.declared.geometry.Geometry.{Geometry}
 use Rattle.world.specs.Taking.{HasRefused, HasTaken, Takes}
 use Rattle.world.specs.World.{Seen}
@@ -106,54 +109,47 @@ module _ {S : Type 0} (about : S → About) where
   refused_by Stops stepped old new replies refusals.Early is = absurd is
   refused_by Stops stepped old new replies refusals.Busy is = absurd is
 
-  passes : (slot : ℕ) (old new : core.Seen S) (link left sent : List Envelope) (replies : List GivenReply) → Passes slot old new link left sent replies → own (about new.store) ≡ own (about old.store)
-  passes slot old new link left sent replies (inl taken) = ap (λ n. own (about n.store)) taken.are
-  passes slot old new link left sent replies (inr halted) = ap (λ n. own (about n.store)) halted.are
-
   turned_away : (Stops : Type 0) (stepped : Stepped) (replies : List GivenReply) (refusal : Refusal) (m n : Linked S) → IsTurnedAway Stops stepped replies refusal m n → own_of n ≡ own_of m
   turned_away Stops stepped replies refusal m n (inl (refused, are)) = refused_by Stops stepped m.node n.node replies refusal refused
   turned_away Stops stepped replies refusal m n (inr cannot) = ap own_of cannot.same
 
   -- ---- messages
 
-  sent_on : (sent : List Envelope) (ms : List (Linked S)) → map own_of (with_puts sent ms) ≡ map own_of ms
-  sent_on sent [] = refl
-  sent_on sent (m ∷ ms) = refl
-
-  owners_behind : (above xs ys : List (Linked S)) → map own_of xs ≡ map own_of ys → map own_of (above ++ xs) ≡ map own_of (above ++ ys)
-  owners_behind above xs ys same = map-append own_of above xs ∙ ap (λ l. map own_of above ++ l) same ∙ sym (map-append own_of above ys)
-
-  owners_of_two : (o p : ℕ × Geometry) (xs ys : List (ℕ × Geometry)) → o ≡ p → xs ≡ ys → o ∷ xs ≡ p ∷ ys
-  owners_of_two o p xs ys one others = ap (λ a. a ∷ xs) one ∙ ap (λ l. p ∷ l) others
-
-  put_stays : (at : ℕ) (old new : Chained S) (replies : List GivenReply) → PutComes at old new replies → StayOwn old new
-  put_stays at old new replies comes = record {
-    geometry = ap (λ c. c.geometry) comes.are;
-    owners = ap (λ c. map own_of c.members) comes.are
-        ∙ owners_behind comes.above (record comes.member { node = comes.node; puts = comes.left } ∷ with_puts comes.sent comes.below) (comes.member ∷ comes.below)
-        (owners_of_two (own (about comes.node.store)) (own_of comes.member) (map own_of (with_puts comes.sent comes.below)) (map own_of comes.below)
-        (passes comes.slot comes.member.node comes.node comes.member.puts comes.left comes.sent replies comes.did) (sent_on comes.sent comes.below))
-        ∙ sym (ap (map own_of) comes.were);
+  halts : (links_of : Chained S → List (List Envelope)) (from at : ℕ) (old new : Chained S) (replies : List GivenReply) → MessageHalts links_of from at old new replies → StayOwn old new
+  halts links_of from at old new replies is = record {
+    geometry = ap (λ c. c.geometry) is.are;
+    owners = ap (λ c. map own_of c.members) is.are
+        ∙ map_set own_of old.members at is.before (record is.before { node = record { store = is.before.node.store; state = (stop is.cause is.before.node.state).node } }) is.here refl;
   }
 
-  ack_stays : (at : ℕ) (old new : Chained S) (replies : List GivenReply) → AckComes at old new replies → StayOwn old new
-  ack_stays at old new replies comes = record {
-    geometry = ap (λ c. c.geometry) comes.are;
-    owners = ap (λ c. map own_of c.members) comes.are
-        ∙ owners_behind comes.above (record comes.member { node = comes.node; acks = comes.member.acks ++ comes.sent } ∷ record comes.next { acks = comes.left } ∷ comes.below) (comes.member ∷ comes.next ∷ comes.below)
-        (ap (λ a. a ∷ own_of comes.next ∷ map own_of comes.below) (passes comes.slot comes.member.node comes.node comes.next.acks comes.left comes.sent replies comes.did))
-        ∙ sym (ap (map own_of) comes.were);
+  message_stays : (from at : ℕ) (old new : Chained S) (replies : List GivenReply) → MessageComes from at old new replies → StayOwn old new
+  message_stays from at old new replies (inl is) = record {
+    geometry = ap (λ c. c.geometry) is.are;
+    owners = ap (λ c. map own_of c.members) is.are
+        ∙ map_set own_of old.members at is.before (record is.before { node = record { store = is.before.node.store; state = is.stepped.node } }) is.here refl;
+  }
+  message_stays from at old new replies (inr is) = halts (λ c. c.links) from at old new replies is
+
+  submit_stays : (from at : ℕ) (old new : Chained S) (replies : List GivenReply) → SubmitComes from at old new replies → StayOwn old new
+  submit_stays from at old new replies (inl is) = record {
+    geometry = ap (λ c. c.geometry) is.are;
+    owners = ap (λ c. map own_of c.members) is.are
+        ∙ map_set own_of old.members at is.before (record is.before { node = record { store = is.before.node.store; state = is.stepped.node } }) is.here refl;
+  }
+  submit_stays from at old new replies (inr is) = halts (λ c. c.submits) from at old new replies is
+
+  submitted : (at : ℕ) (token : WriteToken) (write : Placed) (old new : Chained S) → HasSubmitted at token write old new → StayOwn old new
+  submitted at token write old new is = record {
+    geometry = ap (λ c. c.geometry) is.are;
+    owners = ap (λ c. map own_of c.members) is.are
+        ∙ map_set own_of old.members at is.before (record is.before { node = record { store = is.before.node.store; state = (submit token write is.before.node.state).node } }) is.here refl;
   }
 
-  number_stays : (from : ℕ) (old new : Chained S) (replies : List GivenReply) → SubmitComes from old new replies → StayOwn old new
-  number_stays from old new replies comes = record {
-    geometry = ap (λ c. c.geometry) comes.are;
-    owners = ap (λ c. map own_of c.members) comes.are
-        ∙ owners_of_two (own (about comes.node.store)) (own_of comes.head) (map own_of (with_puts comes.sent comes.below)) (map own_of comes.below)
-        (passes comes.sender.node.state.place.slot comes.head.node comes.node comes.sender.submits comes.left comes.sent replies comes.did) (sent_on comes.sent comes.below)
-        ∙ sym (ap (map own_of) comes.without)
-        ∙ owners_behind comes.one (record comes.sender { submits = comes.left } ∷ comes.other) (comes.sender ∷ comes.other) refl
-        ∙ sym (ap (map own_of) comes.were);
+  known : (at : ℕ) (replies : List GivenReply) (old new : Chained S) → HasKnown at replies old new → StayOwn old new
+  known at replies old new is = record {
+    geometry = ap (λ c. c.geometry) is.are;
+    owners = ap (λ c. map own_of c.members) is.are
+        ∙ map_set own_of old.members at is.before (record is.before { node = is.node }) is.here (step_or_stop is.before.node is.node is.out (raised_step is.before.node.state) is.did);
   }
 
   -- ---- calls of a chain
@@ -168,11 +164,15 @@ module _ {S : Type 0} (about : S → About) where
   answers_or (Some told) old new Did Idle is did idle = did is.did.replies is.did.did
   answers_or None old new Did Idle is did idle = idle is.idle.did
 
-  comes_or : (link_of : Linked S → List Envelope) (from at : ℕ) (given : Result (Option Told) Refusal) (old new : Seen S) (Did : List GivenReply → Chained S → Chained S → Type 0) → Comes link_of from at given old new Did
-      → ((replies : List GivenReply) → Did replies old.chain new.chain → StayOwn old.chain new.chain) → StayOwn old.chain new.chain
-  comes_or link_of from at (Ok (Some told)) old new Did is did = did is.taken.replies is.taken.did
-  comes_or link_of from at (Ok None) old new Did is did = stay_same old.chain new.chain is.none.did.same
-  comes_or link_of from at (Err refusal) old new Did is did = stay_same old.chain new.chain is.refused.did.same
+  comes_or : (links_of : Chained S → List (List Envelope)) (from at : ℕ) (given : Result (Option Told) Refusal) (old new : Seen S) (Idle : Chained S → Chained S → Type 0) (Did : List GivenReply → Chained S → Chained S → Type 0)
+      → Comes links_of from at given old new Idle Did → ((replies : List GivenReply) → Did replies old.chain new.chain → StayOwn old.chain new.chain) → (Idle old.chain new.chain → StayOwn old.chain new.chain) → StayOwn old.chain new.chain
+  comes_or links_of from at (Ok (Some told)) old new Idle Did is did idle = did is.taken.replies is.taken.did
+  comes_or links_of from at (Ok None) old new Idle Did is did idle = idle is.none.did
+  comes_or links_of from at (Err refusal) old new Idle Did is did idle = stay_same old.chain new.chain is.refused.did.same
+
+  none_came : (from at : ℕ) (old new : Chained S) → HasNone (λ c. c.links) from at old new ⊎ IsItself from at old new → StayOwn old new
+  none_came from at old new (inl is) = stay_same old new is.same
+  none_came from at old new (inr is) = stay_same old new is.same
 
   rests : (at : ℕ) (old new : Chained S) → RestsAt at old new → StayOwn old new
   rests at old new is = stay_same old new is.same
@@ -187,9 +187,9 @@ module _ {S : Type 0} (about : S → About) where
     owners = ap (λ c. map own_of c.members) is.are ∙ map_set own_of old.members at is.before is.after is.here (ap own_of is.did.are);
   }
 
-  no_tail : (at : ℕ) (old new : Chained S) → IsNoTail at old new ⊎ RestsAt at old new → StayOwn old new
-  no_tail at old new (inl is) = stay_same old new is.same
-  no_tail at old new (inr is) = stay_same old new is.same
+  may_not : (at : ℕ) (old new : Chained S) → LacksAt at old new MayNotRaise ⊎ RestsAt at old new → StayOwn old new
+  may_not at old new (inl is) = stay_same old new is.same
+  may_not at old new (inr is) = stay_same old new is.same
 
   posts : (at : ℕ) (old new : Chained S) → PostsAt at old new → StayOwn old new
   posts at old new is = record {
@@ -202,8 +202,8 @@ module _ {S : Type 0} (about : S → About) where
 
     taken : (at : ℕ) (demand : Demand) (replies : List GivenReply) (old new : Chained S) → HasTaken premise about keeps moment left_since at demand replies old new → StayOwn old new
     taken at (demands.Read token offset len) replies old new did = stay_changed at old new _ did (λ m n is. ap own is.did.tells)
-    taken at (demands.Write token write) replies old new (did, none) = stay_changed at old new _ did (λ m n is. ap own_of is.are)
-    taken at (demands.Fua token write) replies old new (did, none) = stay_changed at old new _ did (λ m n is. ap own_of is.are)
+    taken at (demands.Write token write) replies old new (did, none) = submitted at (tokens.Plain token) write old new did
+    taken at (demands.Fua token write) replies old new (did, none) = submitted at (tokens.Fua token) write old new did
     taken at (demands.Flush token) replies old new (did, none) = stay_changed at old new _ did (λ m n is. ap own_of is.are)
 
     unread : (offset len : ℕ) (replies : List GivenReply) (refusal : Refusal) (m n : Linked S) → IsUnreadAt premise about failures keeps moment left_since offset len replies refusal m n → own_of n ≡ own_of m
@@ -293,15 +293,15 @@ module _ {S : Type 0} (about : S → About) where
 
     acts_stay : (act : Act) (at : ℕ) (answer : Answer) (old new : Seen S) → Acts premise about keeps is_pending may_leave_now moment left_since failures act at answer old new → StayOwn old.chain new.chain
     acts_stay acts.Take at answer old new (given, tells, did) = take_first at given old new did
-    acts_stay acts.Number at answer old new (given, tells, did) = comes_or _ _ _ given old new _ did (λ replies is. number_stays at old.chain new.chain replies is)
-    acts_stay acts.Put at answer old new (given, tells, did) = comes_or _ _ _ given old new _ did (λ replies is. put_stays at old.chain new.chain replies is)
-    acts_stay acts.Ack at answer old new (given, tells, did) = comes_or _ _ _ given old new _ did (λ replies is. ack_stays at old.chain new.chain replies is)
+    acts_stay (acts.Number from) at answer old new (given, tells, did) =
+        comes_or _ _ _ given old new _ _ did (λ replies is. submit_stays from at old.chain new.chain replies is) (λ is. stay_same old.chain new.chain is.same)
+    acts_stay (acts.Pass from) at answer old new (given, tells, did) =
+        comes_or _ _ _ given old new _ _ did (λ replies is. message_stays from at old.chain new.chain replies is) (none_came from at old.chain new.chain)
     acts_stay acts.Look at answer old new (taken, tells, did) = moves_or taken old new _ _ did (λ is. stay_changed at old.chain new.chain _ is (λ m n so. ap own_of so.are)) (rests at old.chain new.chain)
     acts_stay acts.AnswerFront at answer old new (given, tells, did) =
         answers_or given old new _ _ did.answered (λ replies is. stay_changed at old.chain new.chain _ is (λ m n so. front_answered m n so.did.out _ so.did.did)) (lacks at old.chain new.chain _)
-    acts_stay acts.Raise at answer old new (taken, tells, did) = moves_or taken old new _ _ did (raises at old.chain new.chain) (no_tail at old.chain new.chain)
-    acts_stay acts.Raised at answer old new (given, tells, did) =
-        answers_or given old new _ _ did (λ replies is. stay_changed at old.chain new.chain _ is (λ m n so. step_or_stop m.node n.node so.out _ so.did)) (lacks at old.chain new.chain _)
+    acts_stay acts.Raise at answer old new (taken, tells, did) = moves_or taken old new _ _ did (raises at old.chain new.chain) (may_not at old.chain new.chain)
+    acts_stay acts.Raised at answer old new (given, tells, did) = answers_or given old new _ _ did (λ replies is. known at replies old.chain new.chain is) (lacks at old.chain new.chain _)
     acts_stay acts.FindFront at answer old new (taken, tells, did) = moves_or taken old new _ _ did (λ is. stay_changed at old.chain new.chain _ is (λ m n so. ap own_of so.are)) (rests at old.chain new.chain)
     acts_stay acts.Crew at answer old new (taken, tells, did) = moves_or taken old new _ _ did (λ is. stay_changed at old.chain new.chain _ is (λ m n so. ap own_of so.are)) (lacks at old.chain new.chain _)
     acts_stay acts.Gauge at answer old new (taken, tells, did) = moves_or taken old new _ _ did (λ is. stay_changed at old.chain new.chain _ is (λ m n so. ap own_of so.are)) (lacks at old.chain new.chain _)

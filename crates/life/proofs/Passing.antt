@@ -5,12 +5,14 @@ use Rattle.std.proofs.lemmas.Grind.{flat_map-append}
 use Rattle.std.proofs.lemmas.List.{map-append}
 use Rattle.flush_barrier.specs.declared.session_id.SessionId.{SessionId}
 use Rattle.local_store.specs.About.{About}
-use Rattle.world_model.specs.Chain.{StandsFor, View}
+use Rattle.chain_model.specs.Chain.{StandsFor}
+use Rattle.chain_model.specs.View.{View}
 use Rattle.world_model.specs.Event.{ClientEvent}
-use Rattle.world_model.specs.Life.{Era, Happening, HappeningsAreOfOneVolume, all_events}
+use Rattle.world_model.specs.Life.{all_events}
+use Rattle.chain_model.specs.Life.{Era, Happening, HappeningsAreOfOneVolume}
 use Rattle.world_model.specs.Machine.{Plays, State}
 use Rattle.nbd_session.specs.Demand.{Asked}
-use Rattle.world_model.specs.Runs.{plays_nothing, plays_then}
+use Rattle.world_model.proofs.Runs.{plays_nothing, plays_then}
 use Rattle.chain.specs.Chain.{bytes_of}
 use Rattle.clients.specs.Clients.{Sessions, held_under, no_one, place_of}
 use Rattle.world.specs.World.{AskWhatWasSent, Goes, HappensSo, IsJoined, IsOfOneVolume, Remain, Seen, Shows, sent_by, sent_in}

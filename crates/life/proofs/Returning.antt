@@ -1,10 +1,10 @@
 -- A member's disk after a cut, and why it may not return: lemmas.
-use Rattle.std.proofs.Common.{◌≡◌, ℕ, zero, suc, ◌<◌, ◌≤◌, List, [], ◌∷◌, ◌++◌, length, map, refl, ap, sym, subst, ◌∙◌, inl, inr, arith}
+use Rattle.std.proofs.Common.{◌≡◌, ℕ, zero, suc, ◌<◌, List, [], ◌∷◌, ◌++◌, length, map, refl, ap, sym, subst, ◌∙◌, inl, inr, arith}
 use Rattle.std.specs.Prelude.{◌⊎◌, All, Err, IfErr, IfSome, IsErrAnd, None, Ok, Option, Result, Some, slice_get}
 use Rattle.std.specs.List.{AllZip}
 use Rattle.std.proofs.lemmas.List.{get_or-map, length-map}
 use Rattle.std.proofs.lemmas.List.Elements.{All-head, All-tail}
-use Rattle.chain.specs.Chain.{Chained, bytes_of}
+use Rattle.chain.specs.Chain.{bytes_of}
 use Rattle.chain.specs.Member.{IsShown, Linked}
 use Rattle.chain.proofs.Cells.{place_of as cell_of, twin_of}
 use Rattle.disk_model.specs.Memory.{given_of}
@@ -12,19 +12,16 @@ use Rattle.disk_model.specs.declared.content.Cut.{Cut}
 use Rattle.disk_model.specs.declared.memory.MemDisk.{MemDisk}
 use Rattle.home_blocks.specs.Home.{IsNoVolume, IsOtherVersion}
 use Rattle.local_store.specs.About.{About, migrated}
-use Rattle.home_blocks.specs.Places.{disk_size_of}
-use Rattle.local_store.specs.Meaning.{HasDamagedArea, IsOpenable, IsUnfinished, Means}
+use Rattle.local_store.specs.Meaning.{HasDamagedArea, IsOpenable, IsUnfinished}
 use Rattle.local_store.specs.Refusal.{IsNotOfDevice, IsOfOpening}
 use Rattle.local_store.specs.declared.refusal.Refusal as store
 use Rattle.local_store.specs.declared.refusal.Refusal.TheVariants as stores
 use Rattle.volume.specs.declared.geometry.Geometry.{Geometry}
-use Rattle.nbd_session.specs.declared.answer.Export.{Export}
 use Rattle.world.specs.World.{Seen, Shows}
-use Rattle.world_model.specs.Machine.{State}
-use Rattle.world_model.specs.Chain.{View}
+use Rattle.chain_model.specs.View.{View}
 use Rattle.life.specs.Begun.{AreOnDisks, IsCutFrom, IsOfMember}
-use Rattle.life.specs.Headline.{ErasLead}
-use Rattle.life.specs.Refusal.{BreaksOff, EndsAtReturn, IsOfMemory, IsOfReopening, ReturnsNobody}
+use Rattle.life.specs.Headline.{BreaksOff, EndsAtReturn, IsOneLife}
+use Rattle.life.specs.Refusal.{IsOfMemory, IsOfReopening}
 use Rattle.life.specs.declared.era.Answers.{Answers}
 use Rattle.life.specs.declared.era.Era.{Era}
 use Rattle.life.specs.declared.refusal.Refusal.{Refusal}
@@ -69,9 +66,6 @@ disks_stay about old new stays on =
     subst (λ g. All (λ m. IsOwn g (own_of about m)) new.chain.members) (sym stays.geometry)
     (of_mapped (IsOwn old.chain.geometry) (own_of about) new.chain.members (subst (All (IsOwn old.chain.geometry)) (sym stays.owners) (all_mapped (IsOwn old.chain.geometry) (own_of about) old.chain.members on)))
 
-pub many_stay : {S : Type 0} (about : S → About) (old new : Chained S) → StayOwn about old new → length new.members ≡ length old.members
-many_stay about old new stays = sym (length-map new.members (own_of about)) ∙ ap length stays.owners ∙ length-map old.members (own_of about)
-
 -- ---- a disk that was cut
 
 -- it is its member's, with the sizes of the chain's volume
@@ -99,9 +93,6 @@ reopened bytes stores.Full told none other unfinished openable = absurd told
 reopened bytes stores.Broken told none other unfinished openable = absurd told
 reopened bytes stores.Backwards told none other unfinished openable = absurd told
 
-pub ends_as : (refusal : Refusal) (members others at : ℕ) → members ≡ others → EndsAtReturn members at refusal → EndsAtReturn others at refusal
-ends_as refusal members others at same ends = subst (λ n. EndsAtReturn n at refusal) same ends
-
 -- a disk that can't fail any more refuses nothing
 pub reopening_of_memory : (refusal : store.Refusal) → IsOfReopening refusal → IsNotOfDevice refusal → IsOfMemory (Store refusal)
 reopening_of_memory stores.Memory told calm = tt
@@ -114,20 +105,16 @@ reopening_of_memory stores.Unfinished told calm = absurd told
 reopening_of_memory stores.Backwards told calm = absurd told
 
 module _ {S : Type 0} (premise : Type 0) (about : S → About) (keeps : S → List ℕ → Type 0) (is_pending : S → ℕ → Type 0) (may_leave_now : S → List ℕ → Type 0) (moment : S → ℕ)
-    (left_since : S → ℕ → List ℕ → Type 0) (failures : S → ℕ) (disk : S → MemDisk) (export : Export) where
-  abbrev Lead : List Era → List Answers → Seen S → State → Seen S → State → Type 0
-  Lead = ErasLead premise about keeps is_pending may_leave_now moment left_since failures disk export
+    (left_since : S → ℕ → List ℕ → Type 0) (failures : S → ℕ) (disk : S → MemDisk) where
+  abbrev Lives : Geometry → ℕ → List Era → List Answers → Seen S → Type 0
+  Lives = IsOneLife premise about keeps is_pending may_leave_now moment left_since failures disk
 
-  returns_nobody : (eras : List Era) (answers : List Answers) (first : Seen S) (s : State) (w : Seen S) (t : State) (members : ℕ) (era : Era) (rest : List Era)
-      → Lead eras answers first s w t → length first.chain.members ≡ members → length w.chain.members ≤ era.returned → ReturnsNobody members (eras ++ era ∷ rest)
-  returns_nobody [] [] first s w t members era rest (same, stays) many beyond = inl (omega (arith, beyond, many, ap (λ (x : Seen S). length x.chain.members) same))
-  returns_nobody [] (a ∷ answers) first s w t members era rest leads many beyond = absurd leads
-  returns_nobody (e ∷ eras) [] first s w t members era rest leads many beyond = absurd leads
-  returns_nobody (e ∷ eras) (a ∷ answers) first s w t members era rest (next, between, one, later) many beyond =
-      inr (returns_nobody eras answers next between w t 1 era rest later one.goes_on.alone beyond)
+  abbrev Ends : Era → Seen S → Refusal → Type 0
+  Ends = EndsAtReturn premise about keeps is_pending may_leave_now moment left_since failures disk
 
   -- an era breaks off the life
-  pub breaks_off : (refusal : Refusal) (eras : List Era) (answers : List Answers) (first : Seen S) (s : State) (w : Seen S) (t : State) (members : ℕ) (era : Era) (rest : List Era)
-      → Lead eras answers first s w t → length first.chain.members ≡ members → EndsAtReturn (length w.chain.members) era.returned refusal → BreaksOff members (eras ++ era ∷ rest) refusal
-  breaks_off refusal eras answers first s w t members era rest leads many (inl memory) = inl memory
-  breaks_off refusal eras answers first s w t members era rest leads many (inr (none, beyond)) = inr (none, returns_nobody eras answers first s w t members era rest leads many beyond)
+  pub breaks_off : (refusal : Refusal) (geometry : Geometry) (members : ℕ) (eras lived : List Era) (era : Era) (rest : List Era) (answers : List Answers) (w : Seen S) → eras ≡ lived ++ era ∷ rest
+      → Lives geometry members lived answers w → Ends era w refusal → BreaksOff premise about keeps is_pending may_leave_now moment left_since failures disk geometry members eras refusal
+  breaks_off refusal geometry members eras lived era rest answers w are life (inl memory) = inl memory
+  breaks_off refusal geometry members eras lived era rest answers w are life (inr (none, nobody)) =
+      inr (none, record { lived = lived; era = era; rest = rest; are = are; answers = answers; world = w; life = life; nobody = nobody })

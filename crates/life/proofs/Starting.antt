@@ -23,8 +23,8 @@ use Rattle.local_store.specs.declared.store.Store.{Store}
 use Rattle.nbd_session.specs.declared.answer.Export.{Export}
 use Rattle.volume.specs.declared.geometry.Geometry.{Geometry}
 use Rattle.world.specs.World.{HasNoClients, Seen, Shows}
-use Rattle.world_model.specs.Chain.{View}
-use Rattle.world_model.specs.ChainLaws.{IsBeginning}
+use Rattle.chain_model.specs.View.{View}
+use Rattle.chain_model.specs.Laws.{IsBeginning}
 use Rattle.world_model.specs.Machine.{State}
 use Rattle.life.specs.Begun.{AreOnDisks, BeginsWith, export_of, first_about, stores_of}
 use Rattle.life.specs.Headline.{ErasLead}

@@ -12,8 +12,8 @@ use Rattle.home_blocks.specs.declared.version.Version.TheVariants.{Two}
 use Rattle.local_store.specs.About.{About}
 use Rattle.local_store.specs.Meaning.{Meaning, Means}
 use Rattle.volume.specs.declared.geometry.Geometry.{Geometry}
-use Rattle.world_model.specs.Chain.{View}
-use Rattle.world_model.specs.ChainLaws.{IsBeginning}
+use Rattle.chain_model.specs.View.{View}
+use Rattle.chain_model.specs.Laws.{IsBeginning}
 use Rattle.nbd_session.specs.declared.answer.Export.{Export}
 use Rattle.world.specs.World.{Seen, Shows}
 

@@ -1,12 +1,12 @@
 -- The calls of a world: what each does, with what it gives.
-use Rattle.std.specs.Prelude.{◌≡◌, ◌⊎◌, ◌↔◌, ℕ, ◌+◌, Bool, true, false, Option, None, Some, Result, IfErr, IfNone, IfOk, IfSome, IsErrOf, IsSome, OnErr, OnOk, List, [], slice_get}
+use Rattle.std.specs.Prelude.{◌≡◌, ◌⊎◌, ◌↔◌, ℕ, Bool, true, false, Option, None, Some, Result, IfErr, IfNone, IfOk, IfSome, IsErrOf, IsSome, OnErr, OnOk, List, [], slice_get}
 use Rattle.chain.specs.Arming.{HasArmed, HasNewScript, HasOldScript}
 use Rattle.chain.specs.Chain.{Chained, Changes, RestsAt}
 use Rattle.chain.specs.Commits.{EndsAt, HasBegunCommits, HasCheckpointed, HasEndedCommit, HasNoCommit, HasNoGroup, HasNoNumber, HasStoppedTold, HasTicked, IsOutOfTurn, IsUsedUpAt, LeavesAt, PostsAt, PostsNone}
-use Rattle.chain.specs.Fronts.{HasAnswered, HasKnown, HasLooked, HasNoLooked, HasNoRaised, IsNoTail, RaisesAt}
-use Rattle.chain.specs.Member.{HasCalled, Linked}
+use Rattle.chain.specs.Fronts.{HasAnswered, HasKnown, HasLooked, HasNoLooked, HasNoRaised, MayNotRaise, RaisesAt}
+use Rattle.chain.specs.Member.{HasCalled}
 use Rattle.chain.specs.Musters.{HasFound, HasGauged, HasMustered, HasNoFront, HasNoSlotLeft, HasNoWhole, HasSettled, LacksAt}
-use Rattle.chain.specs.Passing.{AckComes, HasNone, PutComes, Refuses, SubmitComes}
+use Rattle.chain.specs.Passing.{HasNone, IsItself, MessageComes, Refuses, SubmitComes}
 use Rattle.chain_core.specs.declared.refusal.Refusal.{Refusal}
 use Rattle.chain_core.specs.declared.refusal.Refusal.TheVariants as refusals
 use Rattle.chain_steps.specs.declared.message.Envelope.{Envelope}
@@ -57,22 +57,19 @@ HandsOut id given old new = Receives old new (λ old new. PutsOut id old given n
 -- ---- of links
 
 -- The first message of a link was taken; or the member refused it; or there was none.
-pub record Comes {S : Type 0} (link_of : Linked S → List Envelope) (from at : ℕ) (given : Result (Option Told) Refusal) (old new : Seen S) (Did : List GivenReply → Chained S → Chained S → Type 0) : Type 0 where
-  pub none : IfOk given (λ taken. IfNone taken (Moves old new (HasNone link_of from)))
+pub record Comes {S : Type 0} (links_of : Chained S → List (List Envelope)) (from at : ℕ) (given : Result (Option Told) Refusal) (old new : Seen S) (Idle : Chained S → Chained S → Type 0)
+    (Did : List GivenReply → Chained S → Chained S → Type 0) : Type 0 where
+  pub none : IfOk given (λ taken. IfNone taken (Moves old new Idle))
   pub taken : IfOk given (λ taken. IfSome taken (λ told. Answers told old new Did))
-  pub refused : IfErr given (λ r. Moves old new (λ old new. Refuses link_of from at old new r))
+  pub refused : IfErr given (λ r. Moves old new (λ old new. Refuses links_of from at old new r))
 
--- the head numbered the first write on its way from the member
-abbrev pub Numbers : {S : Type 0} → ℕ → Result (Option Told) Refusal → Seen S → Seen S → Type 0
-Numbers from given old new = Comes (λ member. member.submits) from 0 given old new (λ replies old new. SubmitComes from old new replies)
+-- the member took the first write that came from the slot by its submit link
+abbrev pub Numbers : {S : Type 0} → (from at : ℕ) → Result (Option Told) Refusal → Seen S → Seen S → Type 0
+Numbers from at given old new = Comes (λ c. c.submits) from at given old new (HasNone (λ c. c.submits) from at) (λ replies old new. SubmitComes from at old new replies)
 
--- the member took the first Put on its way to it
-abbrev pub TakesPut : {S : Type 0} → ℕ → Result (Option Told) Refusal → Seen S → Seen S → Type 0
-TakesPut at given old new = Comes (λ member. member.puts) at at given old new (λ replies old new. PutComes at old new replies)
-
--- the member took the first Ack on its way from the one behind it
-abbrev pub TakesAck : {S : Type 0} → ℕ → Result (Option Told) Refusal → Seen S → Seen S → Type 0
-TakesAck at given old new = Comes (λ member. member.acks) (at + 1) at given old new (λ replies old new. AckComes at old new replies)
+-- it took the first message that came from the slot by its chain link
+abbrev pub Passes : {S : Type 0} → (from at : ℕ) → Result (Option Told) Refusal → Seen S → Seen S → Type 0
+Passes from at given old new = Comes (λ c. c.links) from at given old new (λ old new. HasNone (λ c. c.links) from at old new ⊎ IsItself from at old new) (λ replies old new. MessageComes from at old new replies)
 
 -- ---- of the board
 
@@ -85,9 +82,9 @@ pub record MovesOr {S : Type 0} (taken : Bool) (old new : Seen S) (Did Idle : Ch
 abbrev pub LooksUp : {S : Type 0} → ℕ → Bool → Seen S → Seen S → Type 0
 LooksUp at taken old new = MovesOr taken old new (λ old new. Changes at old new (HasLooked old.words.front)) (RestsAt at)
 
--- the tail raised the committed front
+-- the member, a tail that may, raised the committed front
 abbrev pub Raises : {S : Type 0} → ℕ → Bool → Seen S → Seen S → Type 0
-Raises at taken old new = MovesOr taken old new (RaisesAt at) (λ old new. IsNoTail at old new ⊎ RestsAt at old new)
+Raises at taken old new = MovesOr taken old new (RaisesAt at) (λ old new. LacksAt at old new MayNotRaise ⊎ RestsAt at old new)
 
 -- the member looked the committed front up, for a crew
 abbrev pub FindsFront : {S : Type 0} → ℕ → Bool → Seen S → Seen S → Type 0
@@ -114,7 +111,7 @@ pub record AnswersOr {S : Type 0} (given : Option Told) (old new : Seen S) (Did 
 
 -- the member went on with the front that it raised
 abbrev pub TakesRaised : {S : Type 0} → ℕ → Option Told → Seen S → Seen S → Type 0
-TakesRaised at given old new = AnswersOr given old new (λ replies old new. Changes at old new (HasKnown replies)) (λ old new. RestsAt at old new ⊎ LacksAt at old new HasNoRaised)
+TakesRaised at given old new = AnswersOr given old new (λ replies old new. HasKnown at replies old new) (λ old new. RestsAt at old new ⊎ LacksAt at old new HasNoRaised)
 
 -- the member answered what waits for a floor
 abbrev pub Settles : {S : Type 0} → ℕ → Option Told → Seen S → Seen S → Type 0

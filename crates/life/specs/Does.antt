@@ -14,7 +14,7 @@ use Rattle.std.specs.declared.alloc.AllocError.{AllocError}
 use Rattle.world.specs.Telling.{is_whole, outputs_of}
 use Rattle.world.specs.World.{Seen}
 use Rattle.world.specs.declared.told.Told.{Told}
-use Rattle.life.specs.Calls.{AnswersFront, Arms, BeginsCommits, Checkpoints, Connects, EndsCommit, EndsInput, FindsFront, Gauges, HandsOut, LooksUp, MustersCrew, Numbers, Posts, Raises, Settles, Stops, TakesAck, TakesFirst, TakesIn, TakesPut, TakesRaised, Ticks}
+use Rattle.life.specs.Calls.{AnswersFront, Arms, BeginsCommits, Checkpoints, Connects, EndsCommit, EndsInput, FindsFront, Gauges, HandsOut, LooksUp, MustersCrew, Numbers, Passes, Posts, Raises, Settles, Stops, TakesFirst, TakesIn, TakesRaised, Ticks}
 use Rattle.life.specs.Played.{told_in, tried_in, went_in}
 use Rattle.life.specs.declared.answer.Answer.{Answer}
 use Rattle.life.specs.declared.answer.Answer.TheVariants.{Taken, HandedOut, Refused, Skipped}
@@ -130,9 +130,8 @@ module _ {S : Type 0} (premise : Type 0) (about : S → About) (keeps : S → Li
   -- what the member at the place did
   abbrev pub Acts : Act → ℕ → Answer → Seen S → Seen S → Type 0
   Acts acts.Take at answer old new = IsTold answer (λ given. TakesFirst premise about keeps is_pending may_leave_now moment left_since failures at given old new)
-  Acts acts.Number at answer old new = IsTried answer (λ given. Numbers at given old new)
-  Acts acts.Put at answer old new = IsTried answer (λ given. TakesPut at given old new)
-  Acts acts.Ack at answer old new = IsTried answer (λ given. TakesAck at given old new)
+  Acts (acts.Number from) at answer old new = IsTried answer (λ given. Numbers from at given old new)
+  Acts (acts.Pass from) at answer old new = IsTried answer (λ given. Passes from at given old new)
   Acts acts.Look at answer old new = IsDone answer (λ taken. LooksUp at taken old new)
   Acts acts.AnswerFront at answer old new = IsTold answer (λ given. AnswersFront premise about keeps is_pending may_leave_now moment left_since failures at given old new)
   Acts acts.Raise at answer old new = IsDone answer (λ taken. Raises at taken old new)

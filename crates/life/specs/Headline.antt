@@ -1,11 +1,12 @@
 -- THE HEADLINE. Whatever clients, members and the board do, and wherever disks fail or stop, with everything stopped again and again
 -- and each time one member's disk returned: clients see one volume, and what was answered with FUA, or before a FLUSH was sent that
--- was answered, is on each member's disk at each stop.
+-- was answered, is on each recorded member's disk at each stop.
 --
 -- A life (IsOneLife) is a list of eras (EraLeads). In an era deeds are played from world to world (DeedsLead); clients see events
--- (IsLawfulEra), which one run of the one volume's machine shows; then everything stops, each disk has what is owed whatever is left of
--- it (HasWhatIsOwed), and the chain goes on from one of them, as the machine does, at its front (GoesOnFrom).
-use Rattle.std.specs.Prelude.{◌≡◌, ◌≢◌, ◌⊎◌, ℕ, ◌*◌, ◌≤◌, All, List, [], ◌∷◌, ◌++◌, length, map, take, zip}
+-- (IsLawfulEra), which one run of the one volume's machine shows, and no request is refused without a plea (AreRefusedSo); then
+-- everything stops, the disk of each recorded member has what is owed whatever is left of it (HasWhatIsOwed), and the chain goes on from
+-- one of them, as the machine does, at its front (GoesOnFrom).
+use Rattle.std.specs.Prelude.{◌≡◌, ◌≢◌, ◌⊎◌, ℕ, ◌*◌, ◌≤◌, true, Some, All, List, [], ◌∷◌, ◌++◌, length, map, take, zip}
 use Rattle.std.specs.List.{flat_map, range_with_len}
 use Rattle.disk_model.specs.declared.memory.MemDisk.{MemDisk}
 use Rattle.flush_barrier.specs.declared.session_id.SessionId.{SessionId}
@@ -15,24 +16,28 @@ use Rattle.nbd_session.specs.Demand.{Asked}
 use Rattle.nbd_session.specs.Lawful.{IsLawful}
 use Rattle.nbd_session.specs.Replies.{WireReply}
 use Rattle.nbd_session.specs.declared.answer.Export.{Export}
-use Rattle.chain_steps.specs.declared.cause.Cause.{Cause}
 use Rattle.chain_steps.specs.declared.cause.Cause.TheVariants.{Disorder}
 use Rattle.clients.specs.Clients.{held_under, replies_in}
 use Rattle.volume.specs.Writes.{volume_of}
 use Rattle.volume.specs.declared.geometry.Geometry.{Geometry}
-use Rattle.world_model.specs.Chain.{StandsFor, View}
+use Rattle.chain_model.specs.Chain.{StandsFor}
+use Rattle.chain_model.specs.Life.{Happening, Happens}
+use Rattle.chain_model.specs.View.{View, may_be_recorded}
 use Rattle.world_model.specs.Event.{ClientEvent}
 use Rattle.world_model.specs.Life.{all_events}
 use Rattle.world_model.specs.Machine.{May, Move, Restart, RunsOn, State, after, machine_volume, shown, start}
-use Rattle.world_model.specs.Refusing.{HasPlea}
+use Rattle.chain_model.specs.Refusing.{HasPlea}
 use Rattle.world.specs.World.{Seen, Shows, sent_in}
 use Rattle.life.specs.Begun.{BeginsWith, export_of, first_about, stores_of}
 use Rattle.life.specs.Played.{fed_by, handed_by}
-use Rattle.life.specs.Plays.{DeedsLead, GoesOnFrom, causes_of}
+use Rattle.life.specs.Plays.{DeedsLead, GoesOnFrom, IsNobody}
+use Rattle.life.specs.Refusal.{IsOfMemory}
 use Rattle.life.specs.declared.answer.Answer.{Answer}
 use Rattle.life.specs.declared.era.Answers.{Answers}
 use Rattle.life.specs.declared.era.Deed.{Deed}
 use Rattle.life.specs.declared.era.Era.{Era}
+use Rattle.life.specs.declared.refusal.Refusal.{Refusal}
+use Rattle.life.specs.declared.refusal.Refusal.TheVariants.{NotInChain}
 
 -- ---- bytes
 
@@ -73,12 +78,27 @@ pub record IsLawfulEra (export : Export) (told : Trace) (events : List ClientEve
 
 -- ---- refusals
 
--- An era whose clients saw these events, and at whose end members had stopped for these causes: each request that was refused was so for
--- memory, or with EIO, which needs a member that had stopped by the end. And each that stopped was told to, or ran out of memory, or its
--- disk refused a call, or it had given out the greatest ticket.
-pub record AreRefusedSo (stops : List Cause) (events : List ClientEvent) : Type 0 where
-  pub pleas : All (HasPlea stops) events
-  pub causes : All (λ cause. cause ≢ Disorder) stops
+-- Things happened in a chain, one after another, and each request that was refused had a plea when it was: for memory; or with EIO, where
+-- it waited at a member that has stopped, or was a write that had no number when its member took a later epoch's Turn.
+abbrev pub HappenWithPleas : ℕ → View → List Happening → View → List (List ClientEvent) → Type 0
+HappenWithPleas size v [] w each = (w ≡ v) × (each ≡ [])
+HappenWithPleas size v (h ∷ hs) w each =
+    (mid : View) × (now : List ClientEvent) × (later : List (List ClientEvent)) × (each ≡ now ∷ later) × Happens size h v mid now × All (HasPlea v mid) now × HappenWithPleas size mid hs w later
+
+-- An era from one world and state of the machine to the next whose clients saw these events: they are those of such things. And each member
+-- that stopped was told to, or ran out of memory, or its disk refused a call, or it had given out the greatest ticket.
+pub record AreRefusedSo {S : Type 0} (about : S → About) (keeps : S → List ℕ → Type 0) (may_leave_now : S → List ℕ → Type 0) (size : ℕ) (old : Seen S) (s : State) (end : Seen S) (t : State) (events : List ClientEvent) : Type 0 where
+  pub before : View
+  pub after : View
+  pub shown : Shows about keeps may_leave_now old before
+  pub shown_then : Shows about keeps may_leave_now end after
+  pub stands : StandsFor size before s
+  pub stands_then : StandsFor size after t
+  pub happenings : List Happening
+  pub each : List (List ClientEvent)
+  pub happen : HappenWithPleas size before happenings after each
+  pub are : all_events each ≡ events
+  pub causes : All (λ m. m.node.state.stopped ≢ Some Disorder) end.chain.members
 
 -- ---- disks
 
@@ -101,13 +121,14 @@ module _ {S : Type 0} (premise : Type 0) (about : S → About) (keeps : S → Li
     -- one run of the machine, without a restart, shows what clients saw
     pub events : List ClientEvent
     pub lawful : IsLawfulEra export (zip era.deeds.items answers) events
-    pub refused : AreRefusedSo (causes_of end) events
     pub moves : List Move
     pub state : State
     pub runs : RunsOn s moves state
     pub shows : shown export.size s moves ≡ events
-    -- whatever a stop may leave of a member's disk then has what is owed
-    pub disks : All (λ m. (bytes : List ℕ) → may_leave_now m.node.store bytes → HasWhatIsOwed export.size state (about m.node.store) bytes) end.chain.members
+    pub refused : AreRefusedSo about keeps may_leave_now export.size old s end state events
+    -- whatever a stop may leave then of the disk of a member that may be recorded has what is owed
+    pub disks : All (λ m. may_be_recorded end.chain.recorded end.chain.writing m.node.state ≡ true → (bytes : List ℕ) → may_leave_now m.node.store bytes
+        → HasWhatIsOwed export.size state (about m.node.store) bytes) end.chain.members
     -- the chain goes on from a disk, and the machine from its front
     pub goes_on : GoesOnFrom about keeps may_leave_now disk era end new
     pub may : May state (Restart goes_on.meaning.front)
@@ -132,3 +153,29 @@ module _ {S : Type 0} (premise : Type 0) (about : S → About) (keeps : S → Li
     pub view : View
     pub shows : Shows about keeps may_leave_now new view
     pub stands : StandsFor (4096 * geometry.blocks) view end
+
+  -- ---- a life that breaks off
+
+  -- In the world in which the era's deeds ended no recorded member is at the place whose disk was to return.
+  pub record ReturnsNobody (era : Era) (old : Seen S) : Type 0 where
+    pub answers : List Answer
+    pub end : Seen S
+    pub played : DeedsLead premise about keeps is_pending may_leave_now moment left_since failures disk era.deeds.items answers old end
+    pub nobody : IsNobody end.chain era.returned
+
+  -- Memory ran out, or some era of the life returned nobody.
+  pub record BreaksAt (geometry : Geometry) (members : ℕ) (eras : List Era) : Type 0 where
+    pub lived : List Era
+    pub era : Era
+    pub rest : List Era
+    pub are : eras ≡ lived ++ era ∷ rest
+    pub answers : List Answers
+    pub world : Seen S
+    pub life : IsOneLife geometry members lived answers world
+    pub nobody : ReturnsNobody era world
+
+  abbrev pub EndsAtReturn : Era → Seen S → Refusal → Type 0
+  EndsAtReturn era old refusal = IsOfMemory refusal ⊎ ((refusal ≡ NotInChain) × ReturnsNobody era old)
+
+  abbrev pub BreaksOff : Geometry → ℕ → List Era → Refusal → Type 0
+  BreaksOff geometry members eras refusal = IsOfMemory refusal ⊎ ((refusal ≡ NotInChain) × BreaksAt geometry members eras)

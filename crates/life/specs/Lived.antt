@@ -5,7 +5,8 @@ use Rattle.local_store.specs.About.{About}
 use Rattle.nbd_session.specs.declared.answer.Export.{Export}
 use Rattle.clients.specs.Clients.{AreSessions}
 use Rattle.chain.specs.Chain.{bytes_of}
-use Rattle.world_model.specs.Chain.{StandsFor, View}
+use Rattle.chain_model.specs.Chain.{StandsFor}
+use Rattle.chain_model.specs.View.{View}
 use Rattle.world_model.specs.Event.{ClientEvent}
 use Rattle.world_model.specs.Life.{all_events}
 use Rattle.world_model.specs.Machine.{State}

@@ -1,12 +1,11 @@
 -- Why a world doesn't begin, or doesn't go on.
-use Rattle.std.specs.Prelude.{◌≡◌, ◌≢◌, ◌⊎◌, ℕ, ◌≤◌, true, List, [], ◌∷◌}
+use Rattle.std.specs.Prelude.{◌≡◌, ℕ, true}
 use Rattle.disk_model.specs.Memory.{has_stopped}
 use Rattle.disk_model.specs.declared.error.DiskError.TheVariants as faults
 use Rattle.disk_model.specs.declared.memory.MemDisk.{MemDisk}
 use Rattle.local_store.specs.Refusal.{IsCaused, IsOfOpening}
 use Rattle.local_store.specs.declared.refusal.Refusal as store
 use Rattle.local_store.specs.declared.refusal.Refusal.TheVariants as stores
-use Rattle.life.specs.declared.era.Era.{Era}
 use Rattle.life.specs.declared.refusal.Refusal.{Refusal}
 use Rattle.life.specs.declared.refusal.Refusal.TheVariants.{Memory, NotInChain, Store}
 
@@ -45,16 +44,3 @@ abbrev pub IsOfReturning : Refusal → Type 0
 IsOfReturning Memory = Unit {0}
 IsOfReturning NotInChain = ⊥
 IsOfReturning (Store refusal) = IsOfReopening refusal
-
--- why a chain of so many members doesn't go on from the disk at a place: memory ran out, or no member is there
-abbrev pub EndsAtReturn : (members returned : ℕ) → Refusal → Type 0
-EndsAtReturn members returned refusal = IsOfMemory refusal ⊎ ((refusal ≡ NotInChain) × (members ≤ returned))
-
--- some era returns a place that is no member's then: there are so many in the first era, and one in each later one
-abbrev pub ReturnsNobody : ℕ → List Era → Type 0
-ReturnsNobody members [] = ⊥
-ReturnsNobody members (era ∷ eras) = (members ≤ era.returned) ⊎ ReturnsNobody 1 eras
-
--- why the life of a chain of so many members through these eras breaks off: memory ran out, or an era returns nobody
-abbrev pub BreaksOff : ℕ → List Era → Refusal → Type 0
-BreaksOff members eras refusal = IsOfMemory refusal ⊎ ((refusal ≡ NotInChain) × ReturnsNobody members eras)

@@ -1,5 +1,5 @@
 //! Whole lives.
-ghost use Rattle.std.specs.Prelude.{◌≡◌, ◌<◌, ◌≤◌, ◌↔◌, ℕ, IfErr, IfOk, IfSome, IsTrue, List, Some, length, slice_get, zip};
+ghost use Rattle.std.specs.Prelude.{◌≡◌, ◌<◌, ◌≤◌, ◌↔◌, ℕ, false, true, IfErr, IfOk, IfSome, IsTrue, List, Some, length, slice_get, zip};
 ghost use Rattle.clients.specs.Clients.{no_one};
 ghost use Rattle.disk_model.specs.Disk.{Only};
 ghost use Rattle.disk_model.specs.Memory.{given_of, may_be_left};
@@ -9,11 +9,11 @@ ghost use Rattle.local_store.specs.Meaning.{Meaning, Means};
 ghost use Rattle.std.specs.List.{AllZip};
 ghost use Rattle.life.specs.Begun.{AllGo, AreOfMember, AreOnDisks, BeginsWith, IsOfMember, stores_of};
 ghost use Rattle.life.specs.Does.{DoesDeed, IsArmed};
-ghost use Rattle.life.specs.Headline.{EraLeads, IsOneLife};
+ghost use Rattle.life.specs.Headline.{BreaksOff, EndsAtReturn, EraLeads, IsOneLife};
 ghost use Rattle.life.specs.Lived.{AreOfOneVolume, IsFresh};
 ghost use Rattle.life.specs.Played.{fed_by, handed_by};
-ghost use Rattle.life.specs.Plays.{DeedsLead, HasMetStop};
-ghost use Rattle.life.specs.Refusal.{BreaksOff, EndsAtReturn, IsOfMemory};
+ghost use Rattle.life.specs.Plays.{DeedsLead, HasMetStop, IsNobody, IsRecorded};
+ghost use Rattle.life.specs.Refusal.{IsOfMemory};
 ghost use Rattle.nbd_session.specs.declared.answer.Export.{Export};
 ghost use Rattle.world_model.specs.Machine.{State};
 ghost use Rattle.world.specs.World.{IsOfOneVolume};
@@ -25,15 +25,15 @@ use crate::era::{Answers, Deed, Era};
 use crate::playing::play;
 use crate::recovering::{Refused, recover};
 use crate::refusal::Refusal;
+use chain_model::{
+    chains_begin_again, each_disk_has_what_is_owed, lives_are_of_one_volume, refusals_have_pleas,
+};
 use clients::sessions_are_lawful;
 use disk_model::{Cut, Event, MemDisk};
 use local_store::{Store, StoreLike, disks_mean_one};
 use std::alloc::{AllocError, Global};
 use volume::Geometry;
 use world::{Told, World};
-use world_model::{
-    chains_begin_again, each_disk_has_what_is_owed, lives_are_of_one_volume, refusals_have_pleas,
-};
 
 /// What became of a life.
 pub struct Lived {
@@ -50,14 +50,15 @@ pub struct Lived {
 /// What was armed and wasn't met before a cut counts the calls of the recovery behind it; and a recovery in which the device fails or
 /// stops is done again, after another cut, with nothing armed any more. No clause tells this: they say from which disk a life goes on.
 ///
-/// 192 `NotInChain` where an era returns a place that is none; and 100 `Memory`.
+/// 192 `NotInChain` where an era returns a place at which no recorded member is; and 100 `Memory`.
 pub fn live(alloc: Global, geometry: Geometry, members: u8, eras: &[Era]) -> Result<Lived, Refusal>
     requires some { 0 < members }
     requires few { members ≤ 8 }
     ensures all { IfOk result (λ lived. AllZip (λ era answers. length answers.items.items ≤ length era.deeds.items) eras.now lived.answers.items) }
     ensures one_life { IfOk result (λ lived. IsOneLife ⟦<Store<MemDisk> as StoreLike>⟧.keeps_model ⟦<Store<MemDisk> as StoreLike>⟧.about ⟦<Store<MemDisk> as StoreLike>⟧.keeps ⟦<Store<MemDisk> as StoreLike>⟧.is_pending ⟦<Store<MemDisk> as StoreLike>⟧.may_leave_now ⟦<Store<MemDisk> as StoreLike>⟧.moment ⟦<Store<MemDisk> as StoreLike>⟧.may_have_left_since ⟦<Store<MemDisk> as StoreLike>⟧.failures (λ s. s.disk)
         geometry members eras.now lived.answers.items lived.world) }
-    ensures refused { IfErr result (BreaksOff members eras.now) }
+    ensures refused { IfErr result (BreaksOff ⟦<Store<MemDisk> as StoreLike>⟧.keeps_model ⟦<Store<MemDisk> as StoreLike>⟧.about ⟦<Store<MemDisk> as StoreLike>⟧.keeps ⟦<Store<MemDisk> as StoreLike>⟧.is_pending ⟦<Store<MemDisk> as StoreLike>⟧.may_leave_now ⟦<Store<MemDisk> as StoreLike>⟧.moment ⟦<Store<MemDisk> as StoreLike>⟧.may_have_left_since ⟦<Store<MemDisk> as StoreLike>⟧.failures (λ s. s.disk)
+        geometry members eras.now) }
 {
     chains_begin_again();
     let mut answers = Vec::with_capacity(alloc, eras.len())?;
@@ -86,7 +87,8 @@ fn live_era(
         → (t : State) × EraLeads ⟦<Store<MemDisk> as StoreLike>⟧.keeps_model ⟦<Store<MemDisk> as StoreLike>⟧.about ⟦<Store<MemDisk> as StoreLike>⟧.keeps ⟦<Store<MemDisk> as StoreLike>⟧.is_pending ⟦<Store<MemDisk> as StoreLike>⟧.may_leave_now ⟦<Store<MemDisk> as StoreLike>⟧.moment ⟦<Store<MemDisk> as StoreLike>⟧.may_have_left_since ⟦<Store<MemDisk> as StoreLike>⟧.failures (λ s. s.disk)
         export era.now lived.0.items world s lived.1 t
         × IsFresh ⟦<Store<MemDisk> as StoreLike>⟧.about ⟦<Store<MemDisk> as StoreLike>⟧.keeps ⟦<Store<MemDisk> as StoreLike>⟧.may_leave_now export.size export lived.1 t) }
-    ensures refused { IfErr result (EndsAtReturn (length world.chain.members) era.now.returned) }
+    ensures refused { IfErr result (EndsAtReturn ⟦<Store<MemDisk> as StoreLike>⟧.keeps_model ⟦<Store<MemDisk> as StoreLike>⟧.about ⟦<Store<MemDisk> as StoreLike>⟧.keeps ⟦<Store<MemDisk> as StoreLike>⟧.is_pending ⟦<Store<MemDisk> as StoreLike>⟧.may_leave_now ⟦<Store<MemDisk> as StoreLike>⟧.moment ⟦<Store<MemDisk> as StoreLike>⟧.may_have_left_since ⟦<Store<MemDisk> as StoreLike>⟧.failures (λ s. s.disk)
+        era.now world) }
 {
     disks_mean_one();
     chains_begin_again();
@@ -104,9 +106,21 @@ fn live_era(
         }
     };
     world.sound();
+    if !is_recorded_at(&world, era.returned) {
+        drop(world.abandon());
+        return Err(Refusal::NotInChain);
+    }
     let disks = cut(alloc, world, era.cut)?;
     let next = go_on(alloc, disks, era.returned, era.cut)?;
     Ok((told, next))
+}
+
+/// Whether a member of the recorded chain is at a place.
+fn is_recorded_at(world: &World<Store<MemDisk>>, at: usize) -> bool
+    ensures there { result ≡ true → (at < length world.now.chain.members) × IfSome (slice_get world.now.chain.members at) (IsRecorded world.now.chain) }
+    ensures nobody { result ≡ false → IsNobody world.now.chain at }
+{
+    at < world.len() && world.is_recorded(at)
 }
 
 /// Plays the deeds of an era, one after another, up to one in which a device call meets its stop; what that one told is dropped.
@@ -180,14 +194,15 @@ fn arm(alloc: Global, world: &mut World<Store<MemDisk>>, at: usize, event: Event
     }
 }
 
-/// The chain goes on from the disk at a place, if there is one.
+/// The chain goes on from the disk at a place.
 fn go_on(
     alloc: Global,
     disks: Vec<MemDisk>,
     at: usize,
     cut: Cut,
 ) -> Result<World<Store<MemDisk>>, Refusal>
-    requires { IfSome (slice_get disks.items at) (λ disk. IsOfMember disk × Only (given_of disk) (may_be_left disk)) }
+    requires within { at < length disks.items }
+    requires member { IfSome (slice_get disks.items at) (λ disk. IsOfMember disk × Only (given_of disk) (may_be_left disk)) }
     ensures alone { IfOk result (λ world. length world.chain.members ≡ 1) }
     ensures disks { IfOk result (λ world. AreOnDisks ⟦<Store<MemDisk> as StoreLike>⟧.about world) }
     ensures go { IfOk result (AllGo (λ s. s.disk)) }
@@ -195,12 +210,9 @@ fn go_on(
         × AreOfMember ⟦<Store<MemDisk> as StoreLike>⟧.about meaning (stores_of world)
         × BeginsWith ⟦<Store<MemDisk> as StoreLike>⟧.about ⟦<Store<MemDisk> as StoreLike>⟧.keeps ⟦<Store<MemDisk> as StoreLike>⟧.may_leave_now
         meaning.geometry meaning.front meaning.volume world) }
-    ensures refused { IfErr result (EndsAtReturn (length disks.items) at) }
+    ensures refused { IfErr result IsOfMemory }
 {
     let mut disks = disks;
-    if at >= disks.len() {
-        return Err(Refusal::NotInChain);
-    }
     go_on_from(alloc, disks.swap_remove(at), cut)
 }
 

@@ -100,9 +100,8 @@ fn play_at<S: StoreLike + Drop>(alloc: Global, world: &mut World<S>, at: usize, 
 {
     match act {
         Act::Take => told(world.take(at)),
-        Act::Number => tried(world.number(at)),
-        Act::Put => tried(world.put(at)),
-        Act::Ack => tried(world.ack(at)),
+        Act::Number { from } => tried(world.number(from, at)),
+        Act::Pass { from } => tried(world.pass(from, at)),
         Act::Look => done(alloc, world.look(at)),
         Act::AnswerFront => told(world.answer_front(at)),
         Act::Raise => done(alloc, world.raise(at)),

@@ -9,7 +9,7 @@ pub enum Refusal {
     /// Memory ran out.
     #[error("100 Memory")]
     Memory,
-    /// No member is at the place whose disk was to return.
+    /// No member of the recorded chain is at the place whose disk was to return.
     #[error("192 NotInChain")]
     NotInChain,
     /// The store on the disk was refused.

@@ -1,4 +1,5 @@
 use flush_barrier::SessionId;
+use gate_journal::Slot;
 
 /// One thing that a client, a member or the board does in a world.
 #[derive(Debug, Drop)]
@@ -11,7 +12,7 @@ pub enum Step {
     End { session: SessionId },
     /// What waits for the client goes out.
     HandOut { session: SessionId },
-    /// The member at a place acts. Places are counted from the head's, 0.
+    /// The member at a place acts. Places are counted from 0, in the order of the chain with which the world began.
     Member { at: usize, act: Act },
 }
 
@@ -20,17 +21,15 @@ pub enum Step {
 pub enum Act {
     /// It takes the first demand of its sessions.
     Take,
-    /// The head takes the first write on its way from the member, and gives it the next number.
-    Number,
-    /// It takes the first Put on its way from the one before it.
-    Put,
-    /// It takes the first Ack on its way from the one behind it.
-    Ack,
+    /// As the head it takes the first write that comes from a slot by its submit link, and gives it the next number.
+    Number { from: Slot },
+    /// It takes the first message that comes from a slot by its chain link: a Put, an Ack or a Turn.
+    Pass { from: Slot },
     /// It looks the committed front up, and keeps it.
     Look,
     /// It goes on with the front that it looked up, if it keeps one.
     AnswerFront,
-    /// The tail raises the committed front, and keeps it.
+    /// A tail that may raise the committed front does, and keeps it.
     Raise,
     /// It goes on with the front that it raised, if it keeps one.
     Raised,

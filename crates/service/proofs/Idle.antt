@@ -3,8 +3,9 @@ use Rattle.std.proofs.Common.{◌≡◌, ◌⊎◌, ℕ, ◌≤◌, Option, None
 use Rattle.chain_core.specs.declared.refusal.Refusal.{Refusal}
 use Rattle.chain_steps.specs.Node.{last_of}
 use Rattle.chain.specs.Chain.{Chained, RestsAt}
-use Rattle.chain.specs.Fronts.{IsNoTail}
+use Rattle.chain.specs.Fronts.{MayNotRaise}
 use Rattle.chain.specs.Member.{Linked}
+use Rattle.chain.specs.Musters.{LacksAt}
 use Rattle.chain.specs.Passing.{HasNone, Refuses}
 use Rattle.world.specs.Telling.{Moves}
 use Rattle.world.specs.World.{Seen}
@@ -40,9 +41,9 @@ module _ {S : Type 0} where
   raises_none (Some m) applied known a k le = subst (λ n. n ≤ m.node.state.known) a (subst (λ n. applied ≤ n) k le)
 
   -- the world raised nothing
-  pub raises_rests : (w x : Seen S) → Moves w x (λ old new. IsNoTail 0 old new ⊎ RestsAt 0 old new) → RaisesNone w
+  pub raises_rests : (w x : Seen S) → Moves w x (λ old new. LacksAt 0 old new MayNotRaise ⊎ RestsAt 0 old new) → RaisesNone w
   raises_rests w x moves = elim moves.did [
-    | inl other ↦ inr (inl (record { behind = other.behind; same = refl }))
+    | inl other ↦ inr (inl (record { member = other.member; here = other.here; lacks = other.lacks; same = refl }))
     | inr rests ↦ inr (inr (record { member = rests.member; here = rests.here; stopped = rests.stopped; same = refl }))
   ]
 
@@ -52,18 +53,27 @@ module _ {S : Type 0} where
   takes_none None a d w x from is none to room = inr (record { why = subst HasNoDemand from none.0; world = to ∙ none.1 ∙ from; room = room })
   takes_none (Some v) a d w x from is none to room = cc is
 
+  -- of the member at the place: no write is on its link from itself, or it refuses the first
+  numbers_none_by : (w : Seen S) (from : ℕ) (m : Linked S) → slice_get w.chain.members 0 ≡ Some m → IfSome (slice_get w.chain.members 0) (λ m. from ≡ m.node.state.place.slot)
+      → HasNone (λ c. c.submits) from 0 w.chain w.chain ⊎ ((refusal : Refusal) × Refuses (λ c. c.submits) from 0 w.chain w.chain refusal) → NumbersNone w
+  numbers_none_by w from m here own why =
+      let Why : ℕ → Type 0 = λ slot. HasNone (λ c. c.submits) slot 0 w.chain w.chain ⊎ ((refusal : Refusal) × Refuses (λ c. c.submits) slot 0 w.chain w.chain refusal) in
+      let slot : from ≡ m.node.state.place.slot = subst (λ (o : Option (Linked S)). IfSome o (λ m. from ≡ m.node.state.place.slot)) here own in
+      subst (λ (o : Option (Linked S)). IfSome o (λ m. Why m.node.state.place.slot)) (sym here) (subst Why slot why)
+
   -- nothing was numbered
-  pub numbers_idle : {V : Type 0} (told : Result (Option V) Refusal) (a d : Serving S) (w x : Seen S) → w ≡ a.world
-      → IfOk told (λ taken. IfNone taken (Moves w x (HasNone (λ m. m.submits) 0)))
-      → IfErr told (λ r. Moves w x (λ old new. Refuses (λ m. m.submits) 0 0 old new r))
+  pub numbers_idle : {V : Type 0} (told : Result (Option V) Refusal) (from : ℕ) (a d : Serving S) (w x : Seen S) → w ≡ a.world
+      → IfSome (slice_get w.chain.members 0) (λ m. from ≡ m.node.state.place.slot)
+      → IfOk told (λ taken. IfNone taken (Moves w x (HasNone (λ c. c.submits) from 0)))
+      → IfErr told (λ r. Moves w x (λ old new. Refuses (λ c. c.submits) from 0 old new r))
       → IfOk told (λ taken. taken ≡ None) → d.world ≡ x → d.late ≡ [] → HasNoRoom a ⊎ IsIdle NumbersNone a d
-  numbers_idle (Ok None) a d w x from none refused is to room =
-      let n : NumbersNone w = inl (record { empty = none.did.empty; same = refl }) in
-      inr (record { why = subst NumbersNone from n; world = to ∙ moves_none w x (HasNone (λ m. m.submits) 0) none none.did.same ∙ from; room = room })
-  numbers_idle (Ok (Some v)) a d w x from none refused is to room = cc is
-  numbers_idle (Err r) a d w x from none refused is to room =
-      let n : NumbersNone w = inr (r, record { slot = refused.did.slot; sender = refused.did.sender; member = refused.did.member; behind = refused.did.behind; here = refused.did.here; refused = refused.did.refused; same = refl }) in
-      inr (record { why = subst NumbersNone from n; world = to ∙ moves_none w x (λ old new. Refuses (λ m. m.submits) 0 0 old new r) refused refused.did.same ∙ from; room = room })
+  numbers_idle (Ok None) from a d w x is_world own none refused is to room =
+      let n : NumbersNone w = numbers_none_by w from none.did.member none.did.here own (inl (record { member = none.did.member; here = none.did.here; empty = none.did.empty; same = refl })) in
+      inr (record { why = subst NumbersNone is_world n; world = to ∙ moves_none w x (HasNone (λ c. c.submits) from 0) none none.did.same ∙ is_world; room = room })
+  numbers_idle (Ok (Some v)) from a d w x is_world own none refused is to room = cc is
+  numbers_idle (Err r) from a d w x is_world own none refused is to room =
+      let n : NumbersNone w = numbers_none_by w from refused.did.member refused.did.here own (inr (r, record { member = refused.did.member; here = refused.did.here; refused = refused.did.refused; same = refl })) in
+      inr (record { why = subst NumbersNone is_world n; world = to ∙ moves_none w x (λ old new. Refuses (λ c. c.submits) from 0 old new r) refused refused.did.same ∙ is_world; room = room })
 
   -- only what the server doesn't see was noted
   pub idle_as : (Why : Seen S → Type 0) (a b d : Serving S) → HasNoRoom a ⊎ IsIdle Why a b → d.world ≡ b.world → d.late ≡ b.late → HasNoRoom a ⊎ IsIdle Why a d

@@ -5,7 +5,8 @@ use Rattle.chain_core.specs.declared.refusal.Refusal.{Refusal}
 use Rattle.chain_steps.specs.Node.{durable_of, last_of}
 use Rattle.chain.specs.Chain.{RestsAt}
 use Rattle.chain.specs.Commits.{IsUsedUpAt}
-use Rattle.chain.specs.Fronts.{IsNoTail}
+use Rattle.chain.specs.Fronts.{MayNotRaise}
+use Rattle.chain.specs.Musters.{LacksAt}
 use Rattle.chain.specs.Passing.{HasNone, Refuses}
 use Rattle.world.specs.World.{Seen}
 use Rattle.service.specs.Service.{Serving}
@@ -26,15 +27,16 @@ HasNoDemand w = slice_get w.queues 0 ≡ Some []
 
 -- no write waits for its number, or the head refuses the first
 abbrev pub NumbersNone : {S : Type 0} → Seen S → Type 0
-NumbersNone w = HasNone (λ m. m.submits) 0 w.chain w.chain ⊎ ((refusal : Refusal) × Refuses (λ m. m.submits) 0 0 w.chain w.chain refusal)
+NumbersNone w = IfSome (slice_get w.chain.members 0) (λ m. HasNone (λ c. c.submits) m.node.state.place.slot 0 w.chain w.chain
+    ⊎ ((refusal : Refusal) × Refuses (λ c. c.submits) m.node.state.place.slot 0 w.chain w.chain refusal))
 
 -- the member has stopped
 abbrev pub Rests : {S : Type 0} → Seen S → Type 0
 Rests w = RestsAt 0 w.chain w.chain
 
--- the member knows its last write as committed; or it isn't the tail, or has stopped
+-- the member knows its last write as committed; or it is no tail that may raise, or has stopped
 abbrev pub RaisesNone : {S : Type 0} → Seen S → Type 0
-RaisesNone w = IfSome (slice_get w.chain.members 0) (λ m. last_of m.node.state ≤ m.node.state.known) ⊎ (IsNoTail 0 w.chain w.chain ⊎ Rests w)
+RaisesNone w = IfSome (slice_get w.chain.members 0) (λ m. last_of m.node.state ≤ m.node.state.known) ⊎ (LacksAt 0 w.chain w.chain MayNotRaise ⊎ Rests w)
 
 -- nothing is to be taken, numbered or raised
 pub record PlaysNone {S : Type 0} (w : Seen S) : Type 0 where

@@ -212,7 +212,8 @@ impl<S: StoreLike + Drop> Service<S> {
         if !self.is_ready() {
             return false;
         }
-        let told = self.world.number(ONLY);
+        let from = self.world.slot(ONLY);
+        let told = self.world.number(from, ONLY);
         self.note_numbered(&told);
         self.keep_if(told)
     }

@@ -22,7 +22,7 @@ impl Sim {
         };
         let outcome = match act {
             MemberAct::Take => self.step_at(at, Act::Take, printed)?,
-            MemberAct::Number => self.step_at(at, Act::Number, printed)?,
+            MemberAct::Number => self.number(at, printed)?,
             MemberAct::Raise => self.raise(at, printed)?,
             MemberAct::Begin { most } => self.step_at(at, Act::BeginCommits { most }, printed)?,
             MemberAct::End => self.step_at(at, Act::EndCommit, printed)?,
@@ -34,12 +34,20 @@ impl Sim {
             MemberAct::Crew => self.step_at(at, Act::Crew, printed)?,
             MemberAct::Settle => self.settle(at, printed)?,
             MemberAct::Floor => self.floor(at, printed)?,
+            MemberAct::Stop => self.step_at(at, Act::Stop, printed)?,
         };
         outcome.show(printed)
     }
 
-    /// The member at a slot takes the first message on its way from the member at another. It is a Put from the one before it in
-    /// the chain, and an Ack from the one behind it; from others none comes.
+    /// The head takes the first write that comes from the member at a place.
+    pub(crate) fn number(&mut self, at: usize, printed: &mut Printed) -> Result<Outcome, Refusal> {
+        match (self.slot(at), self.head()) {
+            (Some(from), Some(head)) => self.step_at(head, Act::Number { from }, printed),
+            _ => Ok(Outcome::Skipped),
+        }
+    }
+
+    /// The member at a slot takes the first message that comes from the member at another. One that is none does nothing.
     pub(crate) fn pass(
         &mut self,
         from: u64,
@@ -49,17 +57,17 @@ impl Sim {
         let (Some(from), Some(to)) = (self.place(from), self.place(to)) else {
             return Ok(());
         };
-        let outcome = match (to.checked_sub(from), from.checked_sub(to)) {
-            (Some(1), _) => self.step_at(to, Act::Put, printed)?,
-            (_, Some(1)) => self.step_at(to, Act::Ack, printed)?,
-            _ => Outcome::Skipped,
+        let Some(from) = self.slot(from) else {
+            return Ok(());
         };
-        outcome.show(printed)
+        self.step_at(to, Act::Pass { from }, printed)?.show(printed)
     }
 
     /// The tail raises the front, and takes it.
     pub(crate) fn raise(&mut self, at: usize, printed: &mut Printed) -> Result<Outcome, Refusal> {
-        self.step_at(at, Act::Raise, printed)?;
+        if self.step_at(at, Act::Raise, printed)?.is_taken() {
+            self.note_raised(at)?;
+        }
         self.step_at(at, Act::Raised, printed)
     }
 

@@ -25,6 +25,8 @@ pub(crate) struct Kept {
     cut: Option<Cut>,
     /// Whether a recovery was refused. A life does it again by itself, with nothing armed any more.
     is_broken_off: bool,
+    /// Whether a change of the chain was begun.
+    is_changed: bool,
 }
 
 impl Kept {
@@ -39,6 +41,7 @@ impl Kept {
             answers: Vec::new(alloc),
             cut: None,
             is_broken_off: false,
+            is_changed: false,
         }
     }
 
@@ -84,12 +87,23 @@ impl Kept {
         self.is_broken_off = true;
     }
 
+    /// A change of the chain was begun.
+    pub(crate) fn changed(&mut self) {
+        self.is_changed = true;
+    }
+
     /// Lives it once more, and tells whether each deed is answered as it was.
     fn live<T: Write>(&mut self, told: &mut T) -> Result<(), Refusal> {
         if self.is_broken_off {
             return Ok(writeln!(
                 told,
                 "not lived again: a recovery was refused, which a life does again by itself"
+            )?);
+        }
+        if self.is_changed {
+            return Ok(writeln!(
+                told,
+                "not lived again: the chain was changed, which no life does yet"
             )?);
         }
         self.returned(0)?;

@@ -2,7 +2,9 @@
 ghost use Rattle.std.specs.Prelude.{◌≤◌, ◌<◌, vec_len};
 
 use crate::again::Kept;
+use crate::managing::management_of;
 use crate::refusal::Refusal;
+use crate::script::NamedDisk;
 use crate::sim::{Left, Sim};
 use disk_model::{Cut, Event, MemDisk};
 use life::{MEMORY, Refusal as LifeRefusal, Refused};
@@ -44,23 +46,29 @@ impl Sim {
                 if self.is_kept {
                     self.kept = Some(Kept::new(self.alloc, geometry, members));
                 }
-                self.goes_on_with(world);
-                Ok(())
+                self.goes_on_with(world)
             }
             Err(refusal) => self.not_begun(refusal, writer),
         }
     }
 
-    /// The script goes on with this world.
-    fn goes_on_with(&mut self, world: World<Store<MemDisk>>) {
+    /// The script goes on with this world, and a manager of it whose configuration stands on a new disk.
+    fn goes_on_with(&mut self, world: World<Store<MemDisk>>) -> Result<(), Refusal> {
+        let management = management_of(self.alloc, world.recorded());
         if let Some(old) = mem::replace(&mut self.world, Some(world)) {
             let _stores = old.abandon();
         }
+        self.raised.clear();
+        self.management = Some(management?);
+        Ok(())
     }
 
     /// A device call to come fails, or the world stops in it. A member that is none, or no call, changes nothing.
-    pub(crate) fn arm(&mut self, member: u64, event: Event) -> Result<(), Refusal> {
+    pub(crate) fn arm(&mut self, disk: NamedDisk, event: Event) -> Result<(), Refusal> {
         let (Event::FailAt { call } | Event::StopAt { call, .. }) = event;
+        let NamedDisk::Member(member) = disk else {
+            return self.arm_config(call, event);
+        };
         let Some(at) = self.place(member) else {
             return Ok(());
         };
@@ -76,15 +84,16 @@ impl Sim {
         }
     }
 
-    /// Prints the epoch, the committed front and the chain, if there is a world. There is one epoch.
+    /// Prints the epoch, the committed front and the chain that are recorded, if there is a world.
     pub(crate) fn state<W: Write>(&mut self, writer: &mut W) -> Result<(), Refusal> {
         let Some(world) = &mut self.world else {
             return Ok(());
         };
         let front = world.front();
-        write!(writer, "epoch 1 front {front} chain")?;
-        for at in 0..world.len() {
-            let slot = world.slot(at).number();
+        let epoch = world.recorded().epoch().number();
+        write!(writer, "epoch {epoch} front {front} chain")?;
+        for member in world.recorded().members() {
+            let slot = member.slot.number();
             write!(writer, " {slot}")?;
         }
         Ok(writeln!(writer)?)
@@ -118,13 +127,14 @@ impl Sim {
     }
 
     /// A member goes on alone from its disk, after a cut: prints `source M front F`. The other disks and the sessions are gone.
-    /// Without a member it is refused; a member without a disk changes nothing.
+    /// Without a member it is refused; a member without a disk changes nothing. Nor does anything once a change of the chain was begun:
+    /// its configuration isn't read yet.
     pub(crate) fn recover<W: Write>(
         &mut self,
         member: Option<u64>,
         writer: &mut W,
     ) -> Result<(), Refusal> {
-        if self.left.is_empty() {
+        if self.left.is_empty() || self.is_changed {
             return Ok(());
         }
         let Some(member) = member else {
@@ -151,7 +161,7 @@ impl Sim {
                 self.left.clear();
                 self.speakers.clear();
                 self.faulty.clear();
-                self.goes_on_with(world);
+                self.goes_on_with(world)?;
                 if let Some(kept) = &mut self.kept {
                     kept.returned(at)?;
                 }

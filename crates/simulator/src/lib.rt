@@ -8,6 +8,7 @@ mod acts;
 mod again;
 mod client;
 mod eras;
+mod managing;
 mod manual;
 mod printed;
 mod refusal;

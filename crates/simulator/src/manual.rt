@@ -11,7 +11,7 @@ pub struct Usage {
 }
 
 /// All commands, a line for each form.
-pub const COMMANDS: [Usage; 33] = [
+pub const COMMANDS: [Usage; 39] = [
     Usage {
         words: "new M N P",
         does: "a chain of M members (1 to 8), N blocks (1 to 65,536), payloads of up to P bytes: the first command",
@@ -70,7 +70,7 @@ pub const COMMANDS: [Usage; 33] = [
     },
     Usage {
         words: "pass A B",
-        does: "B takes the first message on its way from A, its neighbour",
+        does: "B takes the first message on its way from A",
     },
     Usage {
         words: "raise M",
@@ -119,6 +119,30 @@ pub const COMMANDS: [Usage; 33] = [
     Usage {
         words: "floor M",
         does: "front, crew and settle",
+    },
+    Usage {
+        words: "stop M",
+        does: "member M stops",
+    },
+    Usage {
+        words: "remove M",
+        does: "the manager begins the removal of stopped member M",
+    },
+    Usage {
+        words: "order",
+        does: "the manager's next order is carried out",
+    },
+    Usage {
+        words: "orders",
+        does: "all its orders are carried out",
+    },
+    Usage {
+        words: "fail config K",
+        does: "the K-th device call of the configuration's disk from now on fails, once",
+    },
+    Usage {
+        words: "stopat config K N",
+        does: "everything stops in the K-th device call of that disk from now on, after N bytes",
     },
     Usage {
         words: "fail M K",

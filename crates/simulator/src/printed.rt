@@ -3,6 +3,7 @@ use crate::refusal::Refusal;
 use byteorder::{BigEndian, ByteOrder};
 use flush_barrier::SessionId;
 use gate_journal::Slot;
+use manager::Order;
 use std::alloc::Global;
 use std::collections::BTreeMap;
 use std::io::Write;
@@ -53,6 +54,11 @@ impl Printed {
         line.bytes.extend_from_slice(bytes)?;
         line.closed = line.closed || closed;
         Ok(())
+    }
+
+    /// Adds the line of an order of the manager.
+    pub(crate) fn add_order(&mut self, order: Order) -> Result<(), Refusal> {
+        Ok(writeln!(self.text, "order {order}")?)
     }
 
     /// Adds the line of a reply, whose bytes end with the data of a READ that was done. Fewer bytes than a header's are none.

@@ -48,15 +48,23 @@ pub enum ScriptCommand {
     },
     /// `run`: rounds until one changes nothing.
     Run,
-    /// `stopat M K N`: the world stops in the K-th device call of a member from now on, after N bytes.
-    StopAt {
+    /// `remove M`: the manager begins the removal of a stopped member.
+    Remove {
         member: u64,
+    },
+    /// `order`, `orders`: the manager's next order is carried out; or all of them.
+    Order {
+        all: bool,
+    },
+    /// `stopat M K N`, `stopat config K N`: the world stops in the K-th device call of a disk from now on, after N bytes.
+    StopAt {
+        disk: NamedDisk,
         call: u64,
         bytes: u64,
     },
-    /// `fail M K`: the K-th device call of a member from now on fails, once.
+    /// `fail M K`, `fail config K`: the K-th device call of a disk from now on fails, once.
     Fail {
-        member: u64,
+        disk: NamedDisk,
         call: u64,
     },
     /// `cut all`, `cut none`: everything stops; what wasn't synced is as written, or all `ff`.
@@ -69,6 +77,15 @@ pub enum ScriptCommand {
     },
     /// `state`: prints the epoch, the committed front and the chain.
     State,
+}
+
+/// A disk, as a script names it.
+#[derive(Clone, Copy)]
+pub enum NamedDisk {
+    /// That of the configuration.
+    Config,
+    /// That of the member at the slot of a number.
+    Member(u64),
 }
 
 /// What a member is told to do.
@@ -100,6 +117,8 @@ pub enum MemberAct {
     Settle,
     /// The three of them.
     Floor,
+    /// It stops.
+    Stop,
 }
 
 /// Why a line is no command.
@@ -146,6 +165,11 @@ fn command_of(alloc: Global, words: &[&str]) -> Result<ScriptCommand, LineError>
         }),
         ["run"] => Ok(ScriptCommand::Run),
         ["state"] => Ok(ScriptCommand::State),
+        ["remove", member] => Ok(ScriptCommand::Remove {
+            member: number(member)?,
+        }),
+        ["order"] => Ok(ScriptCommand::Order { all: false }),
+        ["orders"] => Ok(ScriptCommand::Order { all: true }),
         ["fail" | "stopat" | "cut" | "return", ..] => crash_command(words),
         _ => chain_command(words),
     }
@@ -226,12 +250,12 @@ fn request_command(alloc: Global, words: &[&str]) -> Result<ScriptCommand, LineE
 /// A command of faults, crashes and recovery.
 fn crash_command(words: &[&str]) -> Result<ScriptCommand, LineError> {
     match words {
-        ["fail", member, call] => Ok(ScriptCommand::Fail {
-            member: number(member)?,
+        ["fail", disk, call] => Ok(ScriptCommand::Fail {
+            disk: named_disk(disk)?,
             call: number(call)?,
         }),
-        ["stopat", member, call, bytes] => Ok(ScriptCommand::StopAt {
-            member: number(member)?,
+        ["stopat", disk, call, bytes] => Ok(ScriptCommand::StopAt {
+            disk: named_disk(disk)?,
             call: number(call)?,
             bytes: number(bytes)?,
         }),
@@ -242,6 +266,14 @@ fn crash_command(words: &[&str]) -> Result<ScriptCommand, LineError> {
             member: Some(number(member)?),
         }),
         _ => Err(LineError::Malformed),
+    }
+}
+
+/// The disk of this name.
+fn named_disk(word: &str) -> Result<NamedDisk, LineError> {
+    match word {
+        "config" => Ok(NamedDisk::Config),
+        _ => Ok(NamedDisk::Member(number(word)?)),
     }
 }
 
@@ -322,6 +354,7 @@ fn member_act(word: &str) -> Result<MemberAct, LineError> {
         "crew" => Ok(MemberAct::Crew),
         "settle" => Ok(MemberAct::Settle),
         "floor" => Ok(MemberAct::Floor),
+        "stop" => Ok(MemberAct::Stop),
         _ => Err(LineError::Malformed),
     }
 }

@@ -12,7 +12,7 @@ use local_store::Store;
 use std::alloc::Global;
 use std::collections::BTreeMap;
 use std::io::{BufRead, Write};
-use world::World;
+use world::{Management, World};
 
 /// The most members of a chain.
 const MAX_MEMBERS: u8 = 8;
@@ -70,6 +70,13 @@ fn play_lines<R: BufRead, W: Write, T: Write>(
     sim.tell_again(told)
 }
 
+/// Up to which write a tail raised the front, in which epoch.
+#[derive(Clone, Copy, PartialEq, Eq)]
+pub(crate) struct Raise {
+    pub(crate) epoch: u64,
+    pub(crate) number: u64,
+}
+
 /// A member's disk, which a cut left.
 #[derive(Drop)]
 pub(crate) struct Left {
@@ -82,6 +89,12 @@ pub struct Sim {
     pub(crate) alloc: Global,
     pub(crate) begun: bool,
     pub(crate) world: Option<World<Store<MemDisk>>>,
+    /// The world's manager, with the disk of its configuration.
+    pub(crate) management: Option<Management<MemDisk>>,
+    /// Whether a change of the chain was begun.
+    pub(crate) is_changed: bool,
+    /// For each slot at which a tail raised the front: the epoch, and the number of the write up to which it did last.
+    pub(crate) raised: BTreeMap<Slot, Raise>,
     /// A device call met its stop: nothing goes on until a cut.
     pub(crate) stopped: bool,
     /// What a cut left, until a recovery.
@@ -103,6 +116,9 @@ impl Sim {
             alloc,
             begun: false,
             world: None,
+            management: None,
+            is_changed: false,
+            raised: BTreeMap::new(alloc),
             stopped: false,
             left: Vec::new(alloc),
             speakers: BTreeMap::new(alloc),
@@ -119,6 +135,9 @@ impl Sim {
             alloc: _,
             begun: _,
             world,
+            management: _,
+            is_changed: _,
+            raised: _,
             stopped: _,
             left: _,
             speakers: _,
@@ -196,12 +215,10 @@ impl Sim {
             _ if self.stopped => Ok(()),
             ScriptCommand::Return { member } => self.recover(member, writer),
             ScriptCommand::State => self.state(writer),
-            ScriptCommand::StopAt {
-                member,
-                call,
-                bytes,
-            } => self.arm(member, Event::StopAt { call, bytes }),
-            ScriptCommand::Fail { member, call } => self.arm(member, Event::FailAt { call }),
+            ScriptCommand::StopAt { disk, call, bytes } => {
+                self.arm(disk, Event::StopAt { call, bytes })
+            }
+            ScriptCommand::Fail { disk, call } => self.arm(disk, Event::FailAt { call }),
             command => self.show(command, writer),
         }
     }
@@ -221,6 +238,8 @@ impl Sim {
             ScriptCommand::Act { act, member } => self.act(act, member, shown)?,
             ScriptCommand::Pass { from, to } => self.pass(from, to, shown)?,
             ScriptCommand::Run => self.run(shown)?,
+            ScriptCommand::Remove { member } => self.remove(member, shown)?,
+            ScriptCommand::Order { all } => self.carry_out(all, shown)?,
             ScriptCommand::New { .. }
             | ScriptCommand::StopAt { .. }
             | ScriptCommand::Fail { .. }
@@ -245,7 +264,23 @@ impl Sim {
         Some(&self.left.get(nth)?.disk)
     }
 
-    /// The place in the chain of the member at the slot of a number, if there is one.
+    /// The slot of the member at a place, if there is one.
+    pub(crate) fn slot(&self, at: usize) -> Option<Slot> {
+        let world = self.world.as_ref()?;
+        if at < world.len() {
+            Some(world.slot(at))
+        } else {
+            None
+        }
+    }
+
+    /// The place of the recorded chain's head, if there is a chain.
+    pub(crate) fn head(&self) -> Option<usize> {
+        let head = self.world.as_ref()?.recorded().members().first()?.slot;
+        self.place(u64::from(head.number()))
+    }
+
+    /// The place of the member at the slot of a number, if there is one.
     pub(crate) fn place(&self, member: u64) -> Option<usize> {
         let world = self.world.as_ref()?;
         (0..world.len()).find(|&at| at < world.len()

@@ -55,7 +55,20 @@ impl Sim {
         }
         match answer {
             _ if self.stopped => Ok(Outcome::Skipped),
-            Answer::Taken(Told::Out(outputs)) => {
+            Answer::Taken(told) => self.add_told(told, printed),
+            Answer::HandedOut(output) => {
+                self.add_output(&output, printed)?;
+                Ok(Outcome::Heard)
+            }
+            Answer::Refused(number) => Ok(Outcome::Refused(number)),
+            Answer::Skipped => Ok(Outcome::Skipped),
+        }
+    }
+
+    /// Adds what clients were told.
+    pub(crate) fn add_told(&self, told: Told, printed: &mut Printed) -> Result<Outcome, Refusal> {
+        match told {
+            Told::Out(outputs) => {
                 let mut outcome = Outcome::Quiet;
                 for output in outputs {
                     outcome = Outcome::Heard;
@@ -63,17 +76,11 @@ impl Sim {
                 }
                 Ok(outcome)
             }
-            Answer::Taken(Told::Lost(outputs)) => {
+            Told::Lost(outputs) => {
                 drop(outputs);
                 Err(Refusal::Memory)
             }
-            Answer::Taken(Told::Withheld) => Err(Refusal::Memory),
-            Answer::HandedOut(output) => {
-                self.add_output(&output, printed)?;
-                Ok(Outcome::Heard)
-            }
-            Answer::Refused(number) => Ok(Outcome::Refused(number)),
-            Answer::Skipped => Ok(Outcome::Skipped),
+            Told::Withheld => Err(Refusal::Memory),
         }
     }
 

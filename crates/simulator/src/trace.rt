@@ -41,6 +41,20 @@ impl fmt::Display for Named<'_> {
                 let session = session.0;
                 write!(f, "what waits for session {session} goes out")
             }
+            Step::Member {
+                at,
+                act: Act::Number { from },
+            } => {
+                let from = from.number();
+                write!(f, "number what comes from slot {from} at place {at}")
+            }
+            Step::Member {
+                at,
+                act: Act::Pass { from },
+            } => {
+                let from = from.number();
+                write!(f, "take what comes from slot {from} at place {at}")
+            }
             Step::Member { at, act } => {
                 let name = name_of(*act);
                 write!(f, "{name} at place {at}")
@@ -53,9 +67,8 @@ impl fmt::Display for Named<'_> {
 fn name_of(act: Act) -> &'static str {
     match act {
         Act::Take => "take",
-        Act::Number => "number",
-        Act::Put => "take a Put",
-        Act::Ack => "take an Ack",
+        Act::Number { .. } => "number",
+        Act::Pass { .. } => "take a message",
         Act::Look => "look the front up",
         Act::AnswerFront => "go on with the front",
         Act::Raise => "raise the front",

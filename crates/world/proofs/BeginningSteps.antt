@@ -7,7 +7,7 @@ use Rattle.std.proofs.lemmas.Slice.Zip.{AllZip-long}
 use Rattle.local_store.specs.About.{About}
 use Rattle.nbd_session.specs.declared.answer.Export.{Export}
 use Rattle.nbd_session.specs.declared.demand.Demand.{Demand}
-use Rattle.world_model.specs.Chain.{Member, View}
+use Rattle.chain_model.specs.View.{Member, View}
 use Rattle.world_model.specs.Requests.{Held}
 use Rattle.chain.specs.Chain.{Chained, bytes_of}
 use Rattle.chain.specs.Chain as chain

@@ -49,6 +49,10 @@ module _ {S : Type 0} (before after : Chained S) (sessions : Sessions) (queues :
   pub moved_did : {Did : Chained S → Chained S → Type 0} → Did before after → Moves old moved Did
   moved_did did = record { did = did; are = refl }
 
+  -- the chain didn't change
+  pub rested : after ≡ before → moved ≡ old
+  rested same = ap (λ c. record old { chain = c }) same
+
   pub moved_so : {about : S → About} {keeps : S → List ℕ → Type 0} {may_leave_now : S → List ℕ → Type 0} → chain.IsOfOneVolume about keeps may_leave_now before after []
       → IsOfOneVolume about keeps may_leave_now no_one no_one old moved
   moved_so {about} {keeps} {may_leave_now} lead = moves_so about keeps may_leave_now old moved lead refl

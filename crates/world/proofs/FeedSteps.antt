@@ -6,7 +6,7 @@ use Rattle.std.proofs.lemmas.Option.{get_or_from_slice_get, same_Some, slice_get
 use Rattle.flush_barrier.specs.declared.session_id.SessionId.{SessionId}
 use Rattle.local_store.specs.About.{About}
 use Rattle.nbd_session.specs.declared.demand.Demand.{Demand}
-use Rattle.world_model.specs.Counting.{all_got}
+use Rattle.world_model.proofs.Counting.{all_got}
 use Rattle.clients.specs.Clients.{Client, HasClient, Sessions, no_one, of_session, place_of}
 use Rattle.world.specs.Reception.{Feeds, IsFed, fed_in}
 use Rattle.world.specs.World.{IsJoined, IsOfOneVolume, Seen}

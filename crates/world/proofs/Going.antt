@@ -1,9 +1,10 @@
 -- Things that happen, one after another.
 use Rattle.std.proofs.Common.{◌≡◌, ℕ, List, [], ◌∷◌, ◌++◌, refl, ap, sym, subst, ◌∙◌}
 use Rattle.std.proofs.lemmas.List.{append_assoc, append-nil}
-use Rattle.world_model.specs.Chain.{View}
+use Rattle.chain_model.specs.View.{View}
 use Rattle.world_model.specs.Event.{ClientEvent}
-use Rattle.world_model.specs.Life.{Era, Happening, Happens, all_events}
+use Rattle.world_model.specs.Life.{all_events}
+use Rattle.chain_model.specs.Life.{Era, Happening, Happens}
 use Rattle.chain.specs.Asking.{GoesTaking}
 use Rattle.chain.specs.Chain as chain
 use Rattle.world.specs.World.{Goes}

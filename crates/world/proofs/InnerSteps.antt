@@ -6,7 +6,8 @@ use Rattle.std.proofs.lemmas.List.{get_or-map, length-map}
 use Rattle.flush_barrier.specs.Reply.{GivenReply}
 use Rattle.flush_barrier.specs.declared.session_id.SessionId.{SessionId}
 use Rattle.local_store.specs.About.{About}
-use Rattle.world_model.specs.Chain.{ArePutOut, View}
+use Rattle.world_model.specs.Chain.{ArePutOut}
+use Rattle.chain_model.specs.View.{View}
 use Rattle.world_model.specs.Event.{ClientEvent}
 use Rattle.chain.specs.Chain.{Chained, bytes_of}
 use Rattle.chain.specs.Chain as chain

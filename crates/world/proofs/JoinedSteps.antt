@@ -6,7 +6,7 @@ use Rattle.std.proofs.lemmas.List.Elements.{All-append, All-cons, All-head, All-
 use Rattle.flush_barrier.specs.declared.session_id.SessionId.{SessionId}
 use Rattle.nbd_session.specs.Demand.{IsAskedInside, asked_by}
 use Rattle.nbd_session.specs.declared.demand.Demand.{Demand}
-use Rattle.world_model.specs.Counting.{all_got}
+use Rattle.world_model.proofs.Counting.{all_got}
 use Rattle.chain.specs.Chain.{bytes_of}
 use Rattle.clients.specs.Calls.{IsDemandOf}
 use Rattle.clients.specs.Clients.{Client, Sessions}

@@ -13,10 +13,10 @@ use Rattle.nbd_session.specs.Begun.{greeted}
 use Rattle.nbd_session.specs.Demand.{Asked, asked_by}
 use Rattle.nbd_session.specs.Demand as demands
 use Rattle.nbd_session.specs.declared.demand.Demand.{Demand}
-use Rattle.world_model.specs.Chain.{Member, View}
-use Rattle.world_model.specs.Life.{RequestsSent, RequestsTakenUp, SessionBegins}
+use Rattle.chain_model.specs.View.{Member, View}
+use Rattle.chain_model.specs.Life.{RequestsSent, RequestsTakenUp, SessionBegins}
 use Rattle.world_model.specs.Requests.{Held, sent_event}
-use Rattle.chain.specs.Chain.{bytes_of}
+use Rattle.chain.specs.Chain.{Chained, bytes_of}
 use Rattle.chain.specs.Chain as chain
 use Rattle.chain.proofs.Cells.{Place, set_there}
 use Rattle.chain.proofs.Cells as cells
@@ -144,11 +144,15 @@ come_behind old new id at begins = record {
 -- ---- of the one volume
 
 module _ {S : Type 0} (about : S → About) (keeps : S → List ℕ → Type 0) (may_leave_now : S → List ℕ → Type 0) where
+  -- the chain is shown so, whatever its sessions keep
+  chain_still : (c : Chained S) (v : View) (kept : List (List Held)) → chain.Shows about keeps may_leave_now c v → chain.Shows about keeps may_leave_now c (record v { kept = kept })
+  chain_still c v kept shows = record { told = shows.told; recorded = shows.recorded; before = shows.before; writing = shows.writing; members = shows.members; links = shows.links; submits = shows.submits }
+
   -- the places of the sessions changed, and nothing else
   shown_keeping : (old : Seen S) (sessions : Sessions) (v : View) (kept : List (List Held)) → Shows about keeps may_leave_now old v
       → AreTakenUp sessions.clients kept
       → Shows about keeps may_leave_now (record old { sessions = sessions }) (record v { kept = kept })
-  shown_keeping old sessions v kept shows are = record { chain = record { told = shows.chain.told; members = shows.chain.members }; demands = shows.demands; kept = are }
+  shown_keeping old sessions v kept shows are = record { chain = chain_still old.chain v kept shows.chain; demands = shows.demands; kept = are }
 
   pub nothing_happens : (w : Seen S) → IsOfOneVolume about keeps may_leave_now no_one no_one w w
   nothing_happens w v s shows stands = record {
@@ -200,7 +204,7 @@ module _ {S : Type 0} (about : S → About) (keeps : S → List ℕ → Type 0) 
     events = map sent_event (map held_of fed.demands);
     asked = of_session id (map asked_by fed.demands);
     shows = record {
-      chain = record { told = shown.told; members = shown.members };
+      chain = record { told = shown.told; recorded = shown.recorded; before = shown.before; writing = shown.writing; members = shown.members; links = shown.links; submits = shown.submits };
       demands = wait_then;
       kept = taken_up_set sessions.clients fed.did.place v.kept (taken_up_still old.sessions sessions v.kept fed.places shows.kept);
     };

@@ -1,6 +1,6 @@
 -- What a stop at any moment of a call leaves that takes a write or a FLUSH, or refuses it: its store isn't touched.
-use Rattle.std.proofs.Common.{◌≡◌, ℕ, List, ap, sym, subst, ◌∙◌, inl, inr}
-use Rattle.std.specs.Prelude.{slice_get}
+use Rattle.std.proofs.Common.{◌≡◌, ℕ, List, refl, ap, sym, subst, ◌∙◌, inl, inr}
+use Rattle.std.specs.Prelude.{Some, slice_get, slice_set}
 use Rattle.disk_model.specs.Disk.{LeavesOnly}
 use Rattle.disk_model.specs.Moments.{started}
 use Rattle.flush_barrier.specs.Owed.{OwedAt}
@@ -13,6 +13,7 @@ use Rattle.chain_core.specs.Node as core
 use Rattle.chain_core.specs.declared.refusal.Refusal.{Refusal}
 use Rattle.chain_core.specs.declared.refusal.Refusal.TheVariants as refusals
 use Rattle.chain_steps.specs.Node.{Stepped}
+use Rattle.chain_steps.specs.Steps.{submit}
 use Rattle.chain_steps.specs.declared.waiting.WriteToken.{WriteToken}
 use Rattle.chain.specs.Asking.{HasFlushed, HasSubmitted, IsTurnedAway}
 use Rattle.chain.specs.Chain.{Chained, Changes}
@@ -38,28 +39,27 @@ module _ {S : Type 0} where
   away_same Stops stepped replies refusal m n (inl (refused, are)) = refused_same Stops stepped m.node n.node replies refusal refused
   away_same Stops stepped replies refusal m n (inr cannot) = ap (λ (x : Linked S). x.node.store) cannot.same
 
-  pub submitted_same : (token : WriteToken) (write : Placed) (m n : Linked S) → HasSubmitted token write m n → SameStore m n
-  submitted_same token write m n did = ap (λ (x : Linked S). x.node.store) did.are
-
   pub flushed_same : (token : OwedAt) (m n : Linked S) → HasFlushed token m n → SameStore m n
   flushed_same token m n did = ap (λ (x : Linked S). x.node.store) did.are
 
-  pub store_stays : (about : S → About) (keeps : S → List ℕ → Type 0) (may_leave_now : S → List ℕ → Type 0) (moment : S → ℕ) (left_since : S → ℕ → List ℕ → Type 0)
-      → ((store : S) (volume c : List ℕ) → keeps store volume → may_leave_now store c → Means (meaning_with (about store) volume) c)
-      → ((store : S) (c : List ℕ) → left_since store (moment store) c → may_leave_now store c)
-      → (at : ℕ) (old new : Chained S) (Did : Linked S → Linked S → Type 0) → ((m n : Linked S) → Did m n → SameStore m n) → Changes at old new Did
-      → LeavesAt about keeps may_leave_now moment left_since at old new
-  store_stays about keeps may_leave_now moment left_since means_now only_now at old new Did same changes =
-      let before = changes.before in
-      let after = changes.after in
-      let is : after.node.store ≡ before.node.store = same before after changes.did in
-      record {
-        before = before;
-        after = after;
-        here = changes.here;
-        there = ap (λ (c : Chained S). slice_get c.members at) changes.are ∙ set_there old.members at before after changes.here;
-        means = λ volume keep. subst (λ (s : S). LeavesOnly moment left_since before.node.store s (Means (meaning_with (about before.node.store) volume))) (sym is)
-            (started moment left_since before.node.store (Means (meaning_with (about before.node.store) volume)) (λ c left. means_now before.node.store volume c keep (only_now before.node.store c left)));
-        leaves = λ shown so. subst (λ (s : S). LeavesOnly moment left_since before.node.store s (IsLeft (about before.node.store) shown.volume before.node.state)) (sym is)
-            (started moment left_since before.node.store (IsLeft (about before.node.store) shown.volume before.node.state) (λ c left. so.left c (only_now before.node.store c left)));
-      }
+  module _ (about : S → About) (keeps : S → List ℕ → Type 0) (may_leave_now : S → List ℕ → Type 0) (moment : S → ℕ) (left_since : S → ℕ → List ℕ → Type 0)
+      (means_now : (store : S) (volume c : List ℕ) → keeps store volume → may_leave_now store c → Means (meaning_with (about store) volume) c)
+      (only_now : (store : S) (c : List ℕ) → left_since store (moment store) c → may_leave_now store c) (at : ℕ) (old new : Chained S) where
+    store_at : (before after : Linked S) → slice_get old.members at ≡ Some before → new.members ≡ slice_set old.members at after → SameStore before after → LeavesAt about keeps may_leave_now moment left_since at old new
+    store_at before after here members is = record {
+      before = before;
+      after = after;
+      here = here;
+      there = ap (λ ms. slice_get ms at) members ∙ set_there old.members at before after here;
+      means = λ volume keep. subst (λ (s : S). LeavesOnly moment left_since before.node.store s (Means (meaning_with (about before.node.store) volume))) (sym is)
+          (started moment left_since before.node.store (Means (meaning_with (about before.node.store) volume)) (λ c left. means_now before.node.store volume c keep (only_now before.node.store c left)));
+      leaves = λ shown so. subst (λ (s : S). LeavesOnly moment left_since before.node.store s (IsLeft (about before.node.store) shown.volume before.node.state)) (sym is)
+          (started moment left_since before.node.store (IsLeft (about before.node.store) shown.volume before.node.state) (λ c left. so.left c (only_now before.node.store c left)));
+    }
+
+    pub store_stays : (Did : Linked S → Linked S → Type 0) → ((m n : Linked S) → Did m n → SameStore m n) → Changes at old new Did → LeavesAt about keeps may_leave_now moment left_since at old new
+    store_stays Did same changes = store_at changes.before changes.after changes.here (ap (λ (c : Chained S). c.members) changes.are) (same changes.before changes.after changes.did)
+
+    pub submitted_stays : (token : WriteToken) (write : Placed) → HasSubmitted at token write old new → LeavesAt about keeps may_leave_now moment left_since at old new
+    submitted_stays token write did =
+        store_at did.before (record did.before { node = record { store = did.before.node.store; state = (submit token write did.before.node.state).node } }) did.here (ap (λ (c : Chained S). c.members) did.are) refl

@@ -11,7 +11,7 @@ use Rattle.nbd_session.specs.Demand.{owed_by}
 use Rattle.nbd_session.specs.declared.demand.Demand.{Demand}
 use Rattle.nbd_session.specs.declared.demand.Demand.TheVariants as demands
 use Rattle.chain_core.specs.declared.refusal.Refusal.{Refusal}
-use Rattle.world_model.specs.Counting.{all_behind}
+use Rattle.world_model.proofs.Counting.{all_behind}
 use Rattle.world_model.specs.Event.{ClientEvent}
 use Rattle.chain.specs.Asking.{HasPleaAt, TakesOfOneVolume}
 use Rattle.chain.specs.Chain.{Chained, bytes_of}
@@ -22,7 +22,7 @@ use Rattle.clients.specs.declared.output.Output.{Output}
 use Rattle.world.specs.Taking.{HasRefused, HasTaken, refusing}
 use Rattle.world.specs.Telling.{AreTold, handed_by}
 use Rattle.world.specs.World.{IsJoined, IsOfOneVolume, IsOfVolume, Seen}
-use Rattle.world.proofs.AlikeSteps.{alike_changed}
+use Rattle.world.proofs.AlikeSteps.{alike_changed, alike_submitted}
 use Rattle.world.proofs.InnerSteps.{IsAlike, joined_so}
 use Rattle.world.proofs.TakingSteps.{refused_so, taken_so}
 use Rattle.world.proofs.TellingSteps.{told_places}
@@ -46,8 +46,8 @@ set_same xs at x y here same = ap (slice_set xs at) (same ∙ sym (get_or_from_s
 alike_took : {S : Type 0} (premise : Type 0) (about : S → About) (keeps : S → List ℕ → Type 0) (moment : S → ℕ) (left_since : S → ℕ → List ℕ → Type 0) (at : ℕ) (d : Demand) (replies : List GivenReply) (old new : Chained S)
     → HasTaken premise about keeps moment left_since at d replies old new → IsAlike old new
 alike_took premise about keeps moment left_since at (demands.Read token offset len) replies old new did = alike_changed at old new _ did
-alike_took premise about keeps moment left_since at (demands.Write token write) replies old new did = alike_changed at old new _ did.0
-alike_took premise about keeps moment left_since at (demands.Fua token write) replies old new did = alike_changed at old new _ did.0
+alike_took premise about keeps moment left_since at (demands.Write token write) replies old new did = alike_submitted at _ write old new did.0
+alike_took premise about keeps moment left_since at (demands.Fua token write) replies old new did = alike_submitted at _ write old new did.0
 alike_took premise about keeps moment left_since at (demands.Flush token) replies old new did = alike_changed at old new _ did.0
 
 alike_refused : {S : Type 0} (premise : Type 0) (about : S → About) (failures : S → ℕ) (keeps : S → List ℕ → Type 0) (moment : S → ℕ) (left_since : S → ℕ → List ℕ → Type 0) (at : ℕ) (d : Demand) (others : List GivenReply) (refusal : Refusal) (old new : Chained S)

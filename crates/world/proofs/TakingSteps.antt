@@ -1,6 +1,6 @@
 -- What it is that a member takes the first demand of its sessions, or refuses it.
-use Rattle.std.proofs.Common.{◌≡◌, ℕ, zero, suc, Bool, true, List, [], ◌∷◌, ◌++◌, refl, ap, sym, subst, ◌∙◌, inl, inr}
-use Rattle.std.specs.Prelude.{IfSome, None, Some, map, slice_get, slice_set}
+use Rattle.std.proofs.Common.{◌≡◌, ℕ, zero, suc, Bool, false, true, List, [], ◌∷◌, ◌++◌, refl, ap, sym, subst, ◌∙◌, inl, inr}
+use Rattle.std.specs.Prelude.{is_some, IfSome, None, Some, map, slice_get, slice_set}
 use Rattle.std.specs.List.{AllZip}
 use Rattle.std.proofs.lemmas.List.{map-set}
 use Rattle.flush_barrier.specs.Reply.{GivenReply}
@@ -11,10 +11,11 @@ use Rattle.nbd_session.specs.declared.demand.Demand.TheVariants as demands
 use Rattle.chain_core.specs.declared.refusal.Refusal.{Refusal}
 use Rattle.chain_core.specs.declared.refusal.Refusal.TheVariants as refusals
 use Rattle.chain_steps.specs.Node.{NodeState, is_stopped}
-use Rattle.world_model.specs.Chain.{ArePutOut, Member, View, reply_event}
-use Rattle.world_model.specs.ChainLaws.{with_members}
+use Rattle.world_model.specs.Chain.{ArePutOut, reply_event}
+use Rattle.chain_model.specs.View.{Member, View}
+use Rattle.chain_model.specs.Laws.{with_members}
 use Rattle.world_model.specs.Event.{ClientEvent}
-use Rattle.world_model.specs.Life.{Drop, IsTaken, MayRefuse, MemberTakes, OneBecomes, Refuse}
+use Rattle.chain_model.specs.Life.{Drop, IsTaken, MayRefuse, MemberTakes, OneBecomes, Refuse}
 use Rattle.world_model.specs.Requests.{Held}
 use Rattle.chain.specs.Asking.{HasPleaAt, TakesOfOneVolume}
 use Rattle.chain.specs.Chain.{Chained, bytes_of}
@@ -71,6 +72,11 @@ pub shows_demands : {S : Type 0} (about : S → About) (keeps : S → List ℕ �
     → slice_get v.members at ≡ Some m → chain.Shows about keeps may_leave_now c v → chain.Shows about keeps may_leave_now c (with_demands v at m held)
 shows_demands about keeps may_leave_now c v at m held here shows = record {
   told = shows.told;
+  recorded = shows.recorded;
+  before = shows.before;
+  writing = shows.writing;
+  links = shows.links;
+  submits = shows.submits;
   members = zip_with (IsShown about keeps may_leave_now (bytes_of c)) c.members v.members at m (record m { demands = held }) here (λ x so. record {
     is = ap (λ (shown : Member). record shown { demands = held }) so.is;
     whole = so.whole;
@@ -117,7 +123,8 @@ may_refuse about keeps may_leave_now c v at m refusals.Stopped shows here plea =
     let both : Some own ≡ Some m = sym there ∙ here in
     let same : own ≡ m = cc both in
     let node : m.node ≡ plea.member.node.state = ap (λ (x : Member). x.node) (sym same) ∙ ap (λ (x : Member). x.node) so.is in
-    subst (λ (n : NodeState). is_stopped n ≡ true) (sym node) plea.stopped
+    let off : is_stopped m.node ≡ true = subst (λ (n : NodeState). is_stopped n ≡ true) (sym node) plea.stopped in
+    λ runs. let both : is_some m.node.stopped ≡ false = ap is_some runs in let clash : true ≡ false = sym off ∙ both in absurd cc
 may_refuse about keeps may_leave_now c v at m refusals.Full shows here plea = absurd plea
 may_refuse about keeps may_leave_now c v at m refusals.NotMember shows here plea = absurd plea
 may_refuse about keeps may_leave_now c v at m refusals.Early shows here plea = absurd plea

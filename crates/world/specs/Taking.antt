@@ -50,7 +50,7 @@ refusing owed refusal = record { session = owed.session; cookie = owed.cookie; e
 
 -- the member at the place took the write
 abbrev pub HasTakenWrite : {S : Type 0} → ℕ → WriteToken → Placed → List GivenReply → Chained S → Chained S → Type 0
-HasTakenWrite at token write replies old new = Changes at old new (HasSubmitted token write) × (replies ≡ [])
+HasTakenWrite at token write replies old new = HasSubmitted at token write old new × (replies ≡ [])
 
 -- it refused the write, and gave these other replies
 abbrev pub HasRefusedWrite : {S : Type 0} → ℕ → List GivenReply → Refusal → Chained S → Chained S → Type 0

@@ -6,9 +6,11 @@ use Rattle.flush_barrier.specs.declared.session_id.SessionId.{SessionId}
 use Rattle.local_store.specs.About.{About}
 use Rattle.nbd_session.specs.Demand.{Asked, IsAskedInside, IsUnnumbered, asked_by, owed_by}
 use Rattle.nbd_session.specs.declared.demand.Demand.{Demand}
-use Rattle.world_model.specs.Chain.{StandsFor, View}
+use Rattle.chain_model.specs.Chain.{StandsFor}
+use Rattle.chain_model.specs.View.{View}
 use Rattle.world_model.specs.Event.{Answered, ClientEvent, Sent}
-use Rattle.world_model.specs.Life.{Era, Happening, all_events}
+use Rattle.world_model.specs.Life.{all_events}
+use Rattle.chain_model.specs.Life.{Era, Happening}
 use Rattle.world_model.specs.Machine.{State}
 use Rattle.world_model.specs.Requests.{Held}
 use Rattle.chain.specs.Chain.{Chained, bytes_of}

@@ -1,11 +1,11 @@
 //! The steps of members and of the board.
-ghost use Rattle.std.specs.Prelude.{◌≡◌, ◌⊎◌, ◌+◌, ◌<◌, ◌↔◌, ℕ, [], false, length, true, IfErr, IfNone, IfOk, IfSome, IsErrOf};
+ghost use Rattle.std.specs.Prelude.{◌≡◌, ◌⊎◌, ◌<◌, ◌↔◌, ℕ, [], false, length, true, IfErr, IfNone, IfOk, IfSome, IsErrOf};
 ghost use Rattle.chain.specs.Chain.{Changes, RestsAt};
 ghost use Rattle.chain.specs.Commits.{EndsAt, HasBegunCommits, HasCheckpointed, HasEndedCommit, HasNoCommit, HasNoGroup, HasNoNumber, HasStoppedTold, HasTicked, IsOutOfTurn, IsUsedUpAt, LeavesAt, PostsAt, PostsNone};
-ghost use Rattle.chain.specs.Fronts.{HasAnswered, HasKnown, HasLooked, HasNoLooked, HasNoRaised, IsNoTail, RaisesAt};
+ghost use Rattle.chain.specs.Fronts.{HasAnswered, HasKnown, HasLooked, HasNoLooked, HasNoRaised, MayNotRaise, RaisesAt};
 ghost use Rattle.chain.specs.Member.{HasCalled};
 ghost use Rattle.chain.specs.Musters.{HasFound, HasGauged, HasMustered, HasNoFront, HasNoSlotLeft, HasNoWhole, HasSettled, LacksAt};
-ghost use Rattle.chain.specs.Passing.{AckComes, HasNone, PutComes, Refuses, SubmitComes};
+ghost use Rattle.chain.specs.Passing.{HasNone, IsItself, MessageComes, Refuses, SubmitComes};
 ghost use Rattle.clients.specs.Clients.{no_one};
 ghost use Rattle.world.specs.Telling.{Answers, Moves, handed_if, handed_in, handed_some};
 ghost use Rattle.world.specs.World.{IsOfOneVolume};
@@ -14,50 +14,37 @@ use crate::telling::tell;
 use crate::told::Told;
 use crate::world::World;
 use chain_core::Refusal;
+use gate_journal::Slot;
 use local_store::StoreLike;
 
 impl<S: StoreLike + Drop> World<S> {
-    /// The head takes the first write on its way from the member at a place, gives it the next number, and sends it on. `None` where no
-    /// write is on its way. Where memory runs out, the head stops, and the write stays on its link; and so it does where the head
-    /// refuses it.
-    pub fn number(&mut self, from: usize) -> Result<Option<Told>, Refusal>
-        requires { from < length self.old.chain.members }
-        ensures none { IfOk result (λ taken. IfNone taken (Moves self.old self.new (HasNone (λ member. member.submits) from))) }
-        ensures taken { IfOk result (λ taken. IfSome taken (λ told. Answers told self.old self.new (λ replies old new. SubmitComes from old new replies))) }
-        ensures refused { IfErr result (λ r. Moves self.old self.new (λ old new. Refuses (λ member. member.submits) from 0 old new r)) }
+    /// The member at a place takes the first write that comes from a slot by its submit link: as the head it gives the write the next
+    /// number, and sends it on. `None` where no write is on the link. Where memory runs out, the member stops, and the write stays on
+    /// its link; and so it does where the member refuses it.
+    pub fn number(&mut self, from: Slot, at: usize) -> Result<Option<Told>, Refusal>
+        requires { at < length self.old.chain.members }
+        ensures none { IfOk result (λ taken. IfNone taken (Moves self.old self.new (HasNone (λ c. c.submits) from at))) }
+        ensures taken { IfOk result (λ taken. IfSome taken (λ told. Answers told self.old self.new (λ replies old new. SubmitComes from at old new replies))) }
+        ensures refused { IfErr result (λ r. Moves self.old self.new (λ old new. Refuses (λ c. c.submits) from at old new r)) }
         ensures one_volume { S.keeps_model → IsOfOneVolume S.about S.keeps S.may_leave_now no_one (handed_if (λ told. told) result) self.old self.new }
     {
-        let Some(replies) = self.chain.number(from)? else {
+        let Some(replies) = self.chain.number(from, at)? else {
             return Ok(None);
         };
         Ok(Some(tell(self.alloc, &mut self.clients, replies)))
     }
 
-    /// The member at a place takes the first Put on its way to it, and sends it on. `None` where no Put is on its way. Where memory runs
-    /// out, the member stops, and the Put stays on its link; and so it does where the member refuses it.
-    pub fn put(&mut self, at: usize) -> Result<Option<Told>, Refusal>
+    /// The member at a place takes the first message that comes from a slot by its chain link: a Put, an Ack or a Turn. `None` where no
+    /// message is on the link, or the slot is its own. Where memory runs out, the member stops, and the message stays on its link; and
+    /// so it does where the member refuses it.
+    pub fn pass(&mut self, from: Slot, at: usize) -> Result<Option<Told>, Refusal>
         requires { at < length self.old.chain.members }
-        ensures none { IfOk result (λ taken. IfNone taken (Moves self.old self.new (HasNone (λ member. member.puts) at))) }
-        ensures taken { IfOk result (λ taken. IfSome taken (λ told. Answers told self.old self.new (λ replies old new. PutComes at old new replies))) }
-        ensures refused { IfErr result (λ r. Moves self.old self.new (λ old new. Refuses (λ member. member.puts) at at old new r)) }
+        ensures none { IfOk result (λ taken. IfNone taken (Moves self.old self.new (λ old new. HasNone (λ c. c.links) from at old new ⊎ IsItself from at old new))) }
+        ensures taken { IfOk result (λ taken. IfSome taken (λ told. Answers told self.old self.new (λ replies old new. MessageComes from at old new replies))) }
+        ensures refused { IfErr result (λ r. Moves self.old self.new (λ old new. Refuses (λ c. c.links) from at old new r)) }
         ensures one_volume { S.keeps_model → IsOfOneVolume S.about S.keeps S.may_leave_now no_one (handed_if (λ told. told) result) self.old self.new }
     {
-        let Some(replies) = self.chain.put(at)? else {
-            return Ok(None);
-        };
-        Ok(Some(tell(self.alloc, &mut self.clients, replies)))
-    }
-
-    /// The member at a place takes the first Ack on its way from the one behind it, and tells the one before it. `None` where no Ack is on
-    /// its way. Where memory runs out, the member stops, and the Ack stays on its link; and so it does where the member refuses it.
-    pub fn ack(&mut self, at: usize) -> Result<Option<Told>, Refusal>
-        requires { at < length self.old.chain.members }
-        ensures none { IfOk result (λ taken. IfNone taken (Moves self.old self.new (HasNone (λ member. member.acks) (at + 1)))) }
-        ensures taken { IfOk result (λ taken. IfSome taken (λ told. Answers told self.old self.new (λ replies old new. AckComes at old new replies))) }
-        ensures refused { IfErr result (λ r. Moves self.old self.new (λ old new. Refuses (λ member. member.acks) (at + 1) at old new r)) }
-        ensures one_volume { S.keeps_model → IsOfOneVolume S.about S.keeps S.may_leave_now no_one (handed_if (λ told. told) result) self.old self.new }
-    {
-        let Some(replies) = self.chain.ack(at)? else {
+        let Some(replies) = self.chain.pass(from, at)? else {
             return Ok(None);
         };
         Ok(Some(tell(self.alloc, &mut self.clients, replies)))
@@ -73,12 +60,13 @@ impl<S: StoreLike + Drop> World<S> {
         self.chain.look(at)
     }
 
-    /// The tail raises the committed front to its last applied write if it is below, and keeps the front that is there then. Where another
-    /// member is at the place, nothing changes; nor once the tail stopped.
+    /// The member at a place, a tail that has its Turn and holds the front for no joiner, raises the committed front to its last applied
+    /// write if it is below, and keeps the front that is there then. Where another member is at the place, nothing changes; nor once it
+    /// stopped.
     pub fn raise(&mut self, at: usize) -> bool
         requires { at < length self.old.chain.members }
         ensures raised { result ≡ true → Moves self.old self.new (RaisesAt at) }
-        ensures idle { result ≡ false → Moves self.old self.new (λ old new. IsNoTail at old new ⊎ RestsAt at old new) }
+        ensures idle { result ≡ false → Moves self.old self.new (λ old new. LacksAt at old new MayNotRaise ⊎ RestsAt at old new) }
         ensures one_volume { S.keeps_model → IsOfOneVolume S.about S.keeps S.may_leave_now no_one no_one self.old self.new }
     {
         self.chain.raise(at)
@@ -145,7 +133,7 @@ impl<S: StoreLike + Drop> World<S> {
     /// it is told. `None` where it keeps none, or once it stopped: nothing changed. Where memory runs out, it stops.
     pub fn raised(&mut self, at: usize) -> Option<Told>
         requires { at < length self.old.chain.members }
-        ensures known { IfSome result (λ told. Answers told self.old self.new (λ replies old new. Changes at old new (HasKnown replies))) }
+        ensures known { IfSome result (λ told. Answers told self.old self.new (λ replies old new. HasKnown at replies old new)) }
         ensures idle { IfNone result (Moves self.old self.new (λ old new. RestsAt at old new ⊎ LacksAt at old new HasNoRaised)) }
         ensures one_volume { S.keeps_model → IsOfOneVolume S.about S.keeps S.may_leave_now no_one (handed_some result) self.old self.new }
     {

@@ -1,11 +1,13 @@
 ghost use Rattle.std.specs.Prelude.{◌≡◌, ◌≤◌, ◌<◌, ◌*◌, ℕ, [], List, None, length, map, replicate, slice_get, All, IfErr, IfOk, IfSome, IsTrue, ◌↔◌};
 ghost use Rattle.std.specs.Prelude.{◌∷◌};
 ghost use Rattle.chain_steps.specs.Node.{durable_of, last_of};
+ghost use Rattle.chain_model.specs.View.{is_in};
 
 use crate::queue::Queue;
 use chain::Chain;
 use chain_steps::Cause;
 use clients::Clients;
+use configurations::Record;
 use flush_barrier::SessionId;
 use gate_journal::Slot;
 use local_store::StoreLike;
@@ -13,7 +15,7 @@ use std::alloc::{AllocError, Global};
 use std::marker::Model;
 use volume::Geometry;
 
-/// A chain of one to eight members, and the clients of its volume. It has no `Drop`, since it holds tokens: `abandon` ends it.
+/// A chain of one to eight members whose record changes, and the clients of its volume. It has no `Drop`, since it holds tokens: `abandon` ends it.
 pub struct World<S: StoreLike> {
     pub(crate) alloc: Global,
     pub(crate) chain: Chain<S>,
@@ -36,7 +38,7 @@ impl<S: StoreLike + Drop> World<S> {
     ghost use Rattle.chain.specs.Chain as chains;
     ghost use Rattle.clients.specs.Clients.{AreSessions};
     ghost use Rattle.world.specs.World.{HasNoClients, IsJoined, Shows};
-    ghost use Rattle.world_model.specs.Chain.{View};
+    ghost use Rattle.chain_model.specs.View.{View};
 
     /// The world of a chain, without clients. Their sessions will be at the chain's volume, and are offered zeros as they fit into a
     /// member's journal area.
@@ -80,7 +82,7 @@ impl<S: StoreLike + Drop> World<S> {
         self.clients.sound();
     }
 
-    /// How many members it has.
+    /// How many members it has, those too that were removed.
     pub fn len(&self) -> usize
         ensures { result ≡ length self.now.chain.members }
     {
@@ -118,6 +120,21 @@ impl<S: StoreLike + Drop> World<S> {
         self.chain.cause(at)
     }
 
+    /// The recorded chain.
+    pub fn recorded(&self) -> &Record
+        ensures { result.now ≡ self.now.chain.recorded }
+    {
+        self.chain.recorded()
+    }
+
+    /// Whether the member at a place is in the recorded chain, by its slot and incarnation.
+    pub fn is_recorded(&self, at: usize) -> bool
+        requires { at < length self.now.chain.members }
+        ensures { IfSome (slice_get self.now.chain.members at) (λ m. result ≡ is_in self.now.chain.recorded m.node.state.place.slot m.node.state.incarnation) }
+    {
+        self.chain.is_recorded(at)
+    }
+
     /// The store of the member at a place.
     pub fn store(&self, at: usize) -> &S
         requires { at < length self.now.chain.members }
@@ -150,7 +167,7 @@ impl<S: StoreLike + Drop> World<S> {
         self.chain.applied(at)
     }
 
-    /// Gives the world up, and its members' stores back, from the head's to the tail's. What waits for clients is gone, and the tokens
+    /// Gives the world up, and its members' stores back, in the order of their places. What waits for clients is gone, and the tokens
     /// are abandoned.
     ///
     /// Where memory runs out, the stores are dropped.

@@ -1,5 +1,11 @@
-pub mod LifeSteps
+pub mod BackingSteps
+pub mod Counting
+pub mod DemandSteps
+pub mod MemberSteps
+pub mod OrderSteps
 pub mod PlaceLemmas
-pub mod RefusingSteps
-pub mod RestartSteps
+pub mod Runs
+pub mod Settling
+pub mod Standing
 pub mod StepLemmas
+pub mod TokenSteps

@@ -159,13 +159,6 @@ abbrev pub shown : ℕ → State → List Move → List ClientEvent
 shown size s [] = []
 shown size s (move ∷ moves) = shows size s move ++ shown size (after s move) moves
 
--- some run from the start shows these events
-pub record IsLawful (size : ℕ) (events : List ClientEvent) : Type 0 where
-  pub moves : List Move
-  pub end : State
-  pub run : Run start moves end
-  pub all : shown size start moves ≡ events
-
 -- the step is no restart
 abbrev pub GoesOn : Move → Type 0
 GoesOn (Send session cookie request) = Unit {0}

@@ -1,9 +1,11 @@
-use Rattle.std.proofs.Common.{◌≡◌, ◌≤◌, ◌+◌, ◌++◌, [], ◌∷◌, List, length, drop, take, refl, ap, subst, sym, ◌∙◌, inl, arith}
+use Rattle.std.proofs.Common.{ℕ, ◌≡◌, ◌≤◌, ◌+◌, ◌++◌, [], ◌∷◌, List, length, drop, take, refl, ap, subst, sym, ◌∙◌, inl, arith}
 use Rattle.std.specs.List.{AllZip}
 use Rattle.std.proofs.lemmas.List.{append_assoc, length-append, take-append-drop, take_all, take_more}
+use Rattle.volume.specs.declared.geometry.Geometry.{Geometry}
 use Rattle.world_model.specs.Machine.{start}
 use Rattle.life.specs.Begun.{export_of}
-use Rattle.life.specs.Refusal.{BreaksOff}
+use Rattle.life.specs.Headline.{BreaksOff}
+use Rattle.life.specs.declared.refusal.Refusal.{Refusal}
 use Rattle.life.specs.declared.era.Answers.{Answers}
 use Rattle.life.specs.declared.era.Era.{Era}
 use Rattle.life.proofs.Beside.{all_more}
@@ -21,7 +23,6 @@ loop-era-init c = record {
   disks = c.in_ok-world.ensures.disks;
   go = c.in_ok-world.ensures.go;
   first = c.in_ok-world.world;
-  first_many = c.in_ok-world.ensures.many;
   slots = c.in_ok-world.ensures.slots;
   begins = c.in_ok-world.ensures.begins;
   state = start;
@@ -52,7 +53,6 @@ loop-era-preserved c =
       disks = c.in_ok-told.ensures.disks;
       go = c.in_ok-told.ensures.go;
       first = inv.first;
-      first_many = inv.first_many;
       slots = inv.slots;
       begins = inv.begins;
       state = state;
@@ -80,6 +80,10 @@ returns-clause-one_life c =
 pub live_era-requires-clause-fresh : goal.live_era-requires-clause-fresh
 live_era-requires-clause-fresh c = (export_of c.args.geometry, c.loop-era.invariant.state, c.loop-era.invariant.fresh)
 
+-- why a life breaks off
+abbrev BreaksSo : Geometry → ℕ → List Era → Refusal → Type 0
+BreaksSo = BreaksOff (Unit {0}) about_of_store keeps_volume pends_in leaves_now moment_in left_in failures_in disk_in
+
 pub returns-in_err-told-clause-refused : goal.returns-in_err-told-clause-refused
 returns-in_err-told-clause-refused c =
     let inv = c.loop-era.invariant in
@@ -88,12 +92,12 @@ returns-in_err-told-clause-refused c =
     let era = c.era-item.result in
     let here : take (i + 1) eras ≡ take i eras ++ era ∷ [] = take_more eras i era c.loop-era-test.true ∙ ap (λ (e : Era). take i eras ++ e ∷ []) (sym c.era-item.is) in
     let whole : take i eras ++ era ∷ drop (i + 1) eras ≡ eras = sym (append_assoc (take i eras) (era ∷ []) (drop (i + 1) eras)) ∙ ap (λ (l : List Era). l ++ drop (i + 1) eras) (sym here) ∙ take-append-drop (i + 1) eras in
-    passed_on c.from_residual-in_err-told.result c.in_err-told.field-0.0 (BreaksOff c.args.members c.args.eras.now) c.from_residual-in_err-told.ensures.1
-    (subst (λ (l : List Era). BreaksOff c.args.members l c.in_err-told.field-0.0) whole
-    (breaks_off (Unit {0}) about_of_store keeps_volume pends_in leaves_now moment_in left_in failures_in disk_in (export_of c.args.geometry) c.in_err-told.field-0.0 (take i eras) c.loop-era.answers.items inv.first start c.loop-era.world inv.state c.args.members
-    era (drop (i + 1) eras) inv.leads inv.first_many c.in_err-told.ensures.refused))
+    passed_on c.from_residual-in_err-told.result c.in_err-told.field-0.0 (BreaksSo c.args.geometry c.args.members eras) c.from_residual-in_err-told.ensures.1
+    (breaks_off (Unit {0}) about_of_store keeps_volume pends_in leaves_now moment_in left_in failures_in disk_in c.in_err-told.field-0.0 c.args.geometry c.args.members eras (take i eras) era (drop (i + 1) eras) c.loop-era.answers.items c.loop-era.world (sym whole)
+    (one_life (Unit {0}) about_of_store keeps_volume pends_in leaves_now moment_in left_in failures_in disk_in c.args.geometry c.args.members (take i eras) c.loop-era.answers.items inv.first c.loop-era.world inv.state inv.slots inv.begins inv.leads inv.fresh)
+    c.in_err-told.ensures.refused)
 
 pub returns-in_err-world-clause-refused : goal.returns-in_err-world-clause-refused
 returns-in_err-world-clause-refused c =
-    passed_on c.from_residual-in_err-world.result c.in_err-world.field-0.0 (BreaksOff c.args.members c.args.eras.now) c.from_residual-in_err-world.ensures.1
+    passed_on c.from_residual-in_err-world.result c.in_err-world.field-0.0 (BreaksSo c.args.geometry c.args.members c.args.eras.now) c.from_residual-in_err-world.ensures.1
     (inl c.in_err-world.ensures.refused)

@@ -1,4 +1,4 @@
-use Rattle.std.proofs.Common.{List, ◌≡◌, ◌≤◌, ◌*◌, [], length, map, take, vec_len, vec_capacity}
+use Rattle.std.proofs.Common.{◌≡◌, ◌≤◌, ◌*◌, [], length, map, take, vec_len, vec_capacity}
 use Rattle.std.specs.List.{AllZip, range_with_len}
 use Rattle.volume.specs.Writes.{volume_of}
 use Rattle.world_model.specs.Machine.{State, start}
@@ -15,7 +15,6 @@ invariant-loop-era l = record {
   disks : AreOnDisks about_of_store l.world;
   go : AllGo disk_in l.world;
   first : Seen IsStore;
-  first_many : length first.chain.members ≡ l.fn.members;
   slots : map about_of_store (stores_of first) ≡ map (first_about l.fn.geometry) (range_with_len 0 l.fn.members);
   begins : BeginsWith about_of_store keeps_volume leaves_now l.fn.geometry 0 (volume_of (4096 * l.fn.geometry.blocks) []) first;
   state : State;

@@ -1,4 +1,3 @@
-use Rattle.std.proofs.Common.{refl}
 use Rattle.clients.specs.Clients.{no_one}
 use Rattle.life.proofs.Answering.{done_none, done_so, told_so, tried_so, went_so}
 use Rattle.life.proofs.playing.play_at.Goals as goal
@@ -15,16 +14,10 @@ returns-in-Number g c = record {
   one_volume = λ premise. tried_so g.S.StoreLike.about g.S.StoreLike.keeps g.S.StoreLike.may_leave_now _ _ no_one _ c.number.result c.tried.ensures (c.number.ensures.one_volume premise);
 }
 
-pub returns-in-Put : goal.returns-in-Put
-returns-in-Put g c = record {
-  does = rw c.in-Put.is (c.put.result, c.tried-in-Put.ensures, record { none = c.put.ensures.none; taken = c.put.ensures.taken; refused = c.put.ensures.refused });
-  one_volume = λ premise. tried_so g.S.StoreLike.about g.S.StoreLike.keeps g.S.StoreLike.may_leave_now _ _ no_one _ c.put.result c.tried-in-Put.ensures (c.put.ensures.one_volume premise);
-}
-
-pub returns-in-Ack : goal.returns-in-Ack
-returns-in-Ack g c = record {
-  does = rw c.in-Ack.is (c.ack.result, c.tried-in-Ack.ensures, record { none = c.ack.ensures.none; taken = c.ack.ensures.taken; refused = c.ack.ensures.refused });
-  one_volume = λ premise. tried_so g.S.StoreLike.about g.S.StoreLike.keeps g.S.StoreLike.may_leave_now _ _ no_one _ c.ack.result c.tried-in-Ack.ensures (c.ack.ensures.one_volume premise);
+pub returns-in-Pass : goal.returns-in-Pass
+returns-in-Pass g c = record {
+  does = rw c.in-Pass.is (c.pass.result, c.tried-in-Pass.ensures, record { none = c.pass.ensures.none; taken = c.pass.ensures.taken; refused = c.pass.ensures.refused });
+  one_volume = λ premise. tried_so g.S.StoreLike.about g.S.StoreLike.keeps g.S.StoreLike.may_leave_now _ _ no_one _ c.pass.result c.tried-in-Pass.ensures (c.pass.ensures.one_volume premise);
 }
 
 pub returns-in-Look : goal.returns-in-Look

@@ -2,9 +2,9 @@ use Rattle.std.proofs.Common.{◌≡◌, ◌≤◌, ℕ, List, false, true, ap, 
 use Rattle.disk_model.specs.Calm.{calm_runs}
 use Rattle.disk_model.specs.Waiting.{waiting_first, waiting_now}
 use Rattle.disk_model.specs.EraLaws.{counts_later}
-use Rattle.disk_model.specs.Memory.{failures_of, has_stopped, left_since, may_be_left, moment_of, most_failures_of}
+use Rattle.disk_model.specs.Memory.{failures_of, has_stopped, left_since, may_be_left, moment_of}
 use Rattle.disk_model.specs.declared.memory.MemDisk.{MemDisk}
-use Rattle.local_store.specs.About.{About, meaning_with, migrated}
+use Rattle.local_store.specs.About.{About, meaning_with}
 use Rattle.local_store.specs.Kept.{stored_means}
 use Rattle.local_store.specs.Meaning.{Means}
 use Rattle.life.proofs.Starting.{IsStore, about_of_store, keeps_volume}

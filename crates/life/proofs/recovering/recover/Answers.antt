@@ -1,6 +1,6 @@
-use Rattle.std.proofs.Common.{◌≡◌, ◌⊎◌, ℕ, List, true, false, All, [], ◌∷◌, ap, inl, inr, refl, subst, sym, ◌∙◌, arith}
+use Rattle.std.proofs.Common.{◌≡◌, false, All, [], ◌∷◌, ap, refl, subst, sym, ◌∙◌, arith}
 use Rattle.std.proofs.lemmas.List.Elements.{All-cons, All-nil}
-use Rattle.disk_model.specs.Disk.{NothingNew, Only}
+use Rattle.disk_model.specs.Disk.{NothingNew}
 use Rattle.disk_model.specs.Memory.{given_of, has_stopped, may_be_left}
 use Rattle.disk_model.specs.declared.memory.MemDisk.{MemDisk}
 use Rattle.home_blocks.specs.Home.{HoldsSuperblock, settled_holds}

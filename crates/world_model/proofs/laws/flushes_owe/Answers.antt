@@ -1,4 +1,4 @@
-use Rattle.world_model.specs.Runs.{last_is_last_lem, last_is_answered_lem, flushes_owe}
+use Rattle.world_model.proofs.Runs.{last_is_last_lem, last_is_answered_lem, flushes_owe}
 use Rattle.world_model.proofs.laws.flushes_owe.Goals as goal
 
 pub returns-clause-last : goal.returns-clause-last

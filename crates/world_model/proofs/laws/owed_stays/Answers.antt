@@ -1,4 +1,4 @@
-use Rattle.world_model.specs.Runs.{owed_stays}
+use Rattle.world_model.proofs.Runs.{owed_stays}
 use Rattle.world_model.proofs.laws.owed_stays.Goals as goal
 
 pub returns : goal.returns

@@ -1,4 +1,4 @@
-use Rattle.world_model.specs.Runs.{marked_writes_are_read, reads_are_fresh}
+use Rattle.world_model.proofs.Runs.{marked_writes_are_read, reads_are_fresh}
 use Rattle.world_model.proofs.laws.reads_are_fresh.Goals as goal
 
 pub returns-clause-marked : goal.returns-clause-marked

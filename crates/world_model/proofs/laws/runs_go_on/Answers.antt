@@ -1,4 +1,4 @@
-use Rattle.world_model.specs.Runs.{run_then, shown_then}
+use Rattle.world_model.proofs.Runs.{run_then, shown_then}
 use Rattle.world_model.proofs.laws.runs_go_on.Goals as goal
 
 pub returns-clause-runs : goal.returns-clause-runs

@@ -1,4 +1,4 @@
-use Rattle.world_model.specs.Runs.{sound_start, sound_step, sound_run, names_find}
+use Rattle.world_model.proofs.Runs.{sound_start, sound_step, sound_run, names_find}
 use Rattle.world_model.proofs.laws.runs_keep_sound.Goals as goal
 
 pub returns-clause-start : goal.returns-clause-start

@@ -54,4 +54,4 @@ pub returns-clause-pleads : goal.returns-clause-pleads
 returns-clause-pleads g c = if_err c.flush.result c.flush.ensures.refused (λ e away.
     let here = read_at _ _ c.args.at _ c.self.view_is c.requires.at c.index_mut.ensures.value in
     let step = flush c.args.token c.index_mut.result.now.node.state in
-    away_pleads _ _ c.args.at _ _ here c.self.invariant ⊥ step _ (no_stop step c.index_mut.result.now.node.state) _ away)
+    away_pleads _ c.args.at _ _ here (in_at _ _ c.args.at _ here c.self.invariant).member ⊥ step _ (no_stop step c.index_mut.result.now.node.state) _ away)

@@ -17,10 +17,8 @@ invariant_of-result g c =
     let within : 0 < length c.args.stores.items = omega (arith, are_members.some, sym (ap length c.requires.recorded) ∙ length-map c.args.stores.items (recorded_in about)) in
     let here = slice_get_read c.args.stores.items _ 0 c.index-first.result.now refl within c.index-first.ensures in
     let even = then_has _ c.args.stores.items 0 _ here c.requires.even in
-    let are : c.in-Ok-begin_all.members.items ≡ map (beginning_of about c.in-Ok-new.board.id told) c.args.stores.items =
-    c.in-Ok-begin_all.ensures.members ∙ ap (λ id. map (beginning_of about id told) c.args.stores.items) c.board-2.ensures in
-    rw are (begun_formed about c.in-Ok-new.board.id told c.in-Ok-new.board.seat c.in-Ok-new.board.words c.geometry-geometry.result c.args.stores.items c.requires.recorded
-    (λ k d less. (even k d less).1 ∙ sym c.geometry-geometry.ensures))
+    begun_formed about c.in-Ok-new.board.id told _ c.args.stores.items refl (c.in-Ok-begin_all.ensures.members ∙ ap (λ id. map (beginning_of about id told) c.args.stores.items) c.board-2.ensures)
+    c.in-Ok-new-2.ensures c.in-Ok-new-3.ensures c.requires.recorded (λ k d less. (even k d less).1 ∙ sym c.geometry-geometry.ensures)
 
 pub returns-clause-sizes : goal.returns-clause-sizes
 returns-clause-sizes g c =
@@ -57,7 +55,7 @@ returns-clause-begins g c = λ premise volume keep.
     c.in-Ok-new.ensures (sym (ap (λ w. w.front) c.in-Ok-new.ensures)) c.mask_of-mask.ensures c.members.ensures.members c.gauges_of-gauges.ensures c.members-2.ensures.members in
     let incarnations = all_unmapped (λ (m : Member). 0 < m.incarnation) (recorded_in about) c.args.stores.items (rw c.requires.recorded c.requires.incarnations) in
     begins about c.in-Ok-new.board.id told g.S.StoreLike.keeps g.S.StoreLike.may_leave_now (4096 * c.geometry-geometry.result.blocks) c.in-Ok-new.board.words.front volume _ c.args.stores.items
-    refl refl are c.requires.recorded are_members words refl
+    refl refl c.in-Ok-copy_of.ensures refl c.in-Ok-new-2.ensures c.in-Ok-new-3.ensures are c.requires.recorded are_members words refl
     (λ k d less. record {
       front_is = (even k d less).0 ∙ sym front;
       incarnation = incarnations k d less;

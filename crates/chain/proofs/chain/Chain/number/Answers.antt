@@ -1,129 +1,93 @@
-use Rattle.std.proofs.Common.{◌≡◌, ◌∙◌, ◌<◌, List, length, ap, subst, arith}
-use Rattle.std.specs.Prelude.{All, slice_index_or, slice_set}
-use Rattle.configurations.specs.Record.{AreMembers}
-use Rattle.configurations.specs.declared.member.Member as recorded
-use Rattle.chain_core.specs.Node.{size_of}
-use Rattle.chain_steps.specs.Node.{epoch_of}
-use Rattle.chain_steps.specs.declared.message.Envelope.{Envelope}
-use Rattle.chain.specs.Chain.{Chained}
-use Rattle.chain.specs.Links.{IsSubmitOf}
-use Rattle.chain.proofs.SubmitSteps.{alike, head_took, number_came_formed, number_came_goes, number_none, number_refused, number_some, sender_here, slot_of_sender, still_within, submit_came, submits_back}
+use Rattle.std.proofs.Common.{◌≡◌, ◌∙◌, ℕ, refl, sym, ap}
+use Rattle.std.specs.Prelude.{Option, Some, slice_get, slice_set}
+use Rattle.std.specs.Option.{unwrap_or}
+use Rattle.std.proofs.lemmas.Option.{same_Some}
+use Rattle.chain.specs.Chain.{Chained, bytes_of}
+use Rattle.chain.specs.Member.{Linked}
+use Rattle.chain.specs.Passing.{SubmitComes, target_of}
+use Rattle.chain.proofs.ComingSteps.{Left, came_goes, inside_at, number_left, sizes_are}
+use Rattle.chain.proofs.FloorSteps.{stands_now}
+use Rattle.chain.proofs.MessageSteps.{submit_goes}
+use Rattle.chain.proofs.Stepping.{read_at}
+use Rattle.chain.proofs.chain.Chain.number.Given.{Over}
 use Rattle.chain.proofs.chain.Chain.number.Goals as goal
 
-pub head_takes-taken-requires-clause-alike : goal.head_takes-taken-requires-clause-alike
-head_takes-taken-requires-clause-alike g c =
-    let i = c.self.inside in
-    let old : Chained g.row.S.Denot = record { id = i.board.id; seat = i.board.seat; words = i.board.words; chain = i.«record»; geometry = i.geometry; members = i.members.items } in
-    let within : c.args.from < length i.members.items = rw (ap (λ (o : Chained g.row.S.Denot). length o.members) c.self.view_is) c.requires in
-    let f = c.index_mut.result.now in
-    alike g.S.StoreLike.about old c.args.from f c.exchange_submits.new.self c.new-link.result.items within c.index_mut.ensures.value c.exchange_submits.ensures.member c.exchange_submits.new.submits.items c.self.invariant c.exchange_submits.ensures.linked
+pub returns-in_default-clause-none : goal.returns-in_default-clause-none
+returns-in_default-clause-none g c =
+    let here = read_at _ _ c.args.at _ c.self.view_is c.requires c.index.ensures in
+    rw (← c.self.view_is) (record { member = c.index.result.now; here = here; empty = rw (← c.slot-slot.ensures) c.in_default.ensures.none; same = refl })
 
-pub index_mut-requires-2 : goal.index_mut-requires-2
-index_mut-requires-2 g c =
+pub pass-taken-requires : goal.pass-taken-requires
+pass-taken-requires g c =
     let i = c.self.inside in
-    let old : Chained g.row.S.Denot = record { id = i.board.id; seat = i.board.seat; words = i.board.words; chain = i.«record»; geometry = i.geometry; members = i.members.items } in
-    let within : c.args.from < length i.members.items = rw (ap (λ (o : Chained g.row.S.Denot). length o.members) c.self.view_is) c.requires in
-    let f = c.index_mut.result.now in
-    let slot = (slice_index_or c.members.result.now c.args.from c.index-members-from.result).slot in
-    let mid = c.head_takes-taken.new.members.items in
-    let link = c.exchange_submits.new.submits.items in
-    let left = c.head_takes-taken.new.link.items in
-    let took = head_took (λ replies. replies.items) slot (slice_set i.members.items c.args.from c.exchange_submits.new.self) mid link left c.head_takes-taken.result c.head_takes-taken.ensures.none c.head_takes-taken.ensures.some c.head_takes-taken.ensures.refused in
-    omega (arith, still_within g.S.StoreLike.about old c.args.from f c.exchange_submits.new.self c.new-link.result.items within c.index_mut.ensures.value c.exchange_submits.ensures.member (λ replies. replies.items) slot link left mid c.head_takes-taken.result took, c.head_takes-taken.new.members.ok)
+    let old : Chained g.row.S.Denot = record { id = i.board.id; seat = i.board.seat; words = i.board.words; recorded = i.recorded; before = i.before; writing = i.writing; geometry = i.geometry; members = i.members.items; links = i.links; submits = i.submits } in
+    let m = c.behind-self-2.inside in
+    let before : Linked g.row.S.Denot = record { node = m.node; front = m.front; muster = m.muster; receipt = m.receipt } in
+    let here : slice_get old.members c.args.at ≡ Some before = read_at old c.args.self.now c.args.at _ c.self.view_is c.requires c.index_mut.ensures.value ∙ ap Some (sym c.behind-self-2.view_is) in
+    let long = c.self.invariant.all_submits in
+    rw (c.exchange.ensures.was, sizes_are g.S.StoreLike.about old c.args.at before here c.self.invariant)
+    (inside_at (bytes_of old) old.submits c.args.from c.slot-slot.result long c.exchange.ensures.from c.exchange.ensures.to c.self.invariant.submits_inside)
 
-pub exchange_submits-requires-2 : goal.exchange_submits-requires-2
-exchange_submits-requires-2 g c =
-    let i = c.self.inside in
-    let old : Chained g.row.S.Denot = record { id = i.board.id; seat = i.board.seat; words = i.board.words; chain = i.«record»; geometry = i.geometry; members = i.members.items } in
-    let within : c.args.from < length i.members.items = rw (ap (λ (o : Chained g.row.S.Denot). length o.members) c.self.view_is) c.requires in
-    let f = c.index_mut.result.now in
-    let slot = (slice_index_or c.members.result.now c.args.from c.index-members-from.result).slot in
-    let mid = c.head_takes-taken.new.members.items in
-    let link = c.exchange_submits.new.submits.items in
-    let left = c.head_takes-taken.new.link.items in
-    let took = head_took (λ replies. replies.items) slot (slice_set i.members.items c.args.from c.exchange_submits.new.self) mid link left c.head_takes-taken.result c.head_takes-taken.ensures.none c.head_takes-taken.ensures.some c.head_takes-taken.ensures.refused in
-    submits_back g.S.StoreLike.about old c.args.from f c.exchange_submits.new.self c.new-link.result.items within c.index_mut.ensures.value c.exchange_submits.ensures.member (λ replies. replies.items) slot link left mid c.head_takes-taken.result took c.index_mut-2.result.now c.index_mut-2.ensures.value c.self.invariant c.head_takes-taken.ensures.left
+-- the chain before, and its member at the place
+abbrev old_of : (g : Over) → goal.After-drop-link g → Chained g.row.S.Denot
+old_of g c = let i = c.self.inside in record { id = i.board.id; seat = i.board.seat; words = i.board.words; recorded = i.recorded; before = i.before; writing = i.writing; geometry = i.geometry; members = i.members.items; links = i.links; submits = i.submits }
+
+abbrev before_of : (g : Over) → goal.After-drop-link g → Linked g.row.S.Denot
+before_of g c = let m = c.behind-self-2.inside in record { node = m.node; front = m.front; muster = m.muster; receipt = m.receipt }
+
+here_of : (g : Over) (c : goal.After-drop-link g) → slice_get (old_of g c).members c.args.at ≡ Some (before_of g c)
+here_of g c = read_at (old_of g c) c.args.self.now c.args.at _ c.self.view_is c.requires c.index_mut.ensures.value ∙ ap Some (sym c.behind-self-2.view_is)
+
+slot_of : (g : Over) (c : goal.After-drop-link g) → c.slot-slot.result ≡ (before_of g c).node.state.place.slot
+slot_of g c =
+    let old = old_of g c in
+    c.slot-slot.ensures ∙ ap (λ (x : Linked g.row.S.Denot). x.node.state.place.slot) (same_Some c.index.result.now (before_of g c) (sym (read_at old c.args.self.now c.args.at _ c.self.view_is c.requires c.index.ensures) ∙ here_of g c))
+
+-- what the call leaves of the chain
+left_of : (g : Over) (c : goal.After-drop-link g) → Left (λ given. given.items) g.S.StoreLike.about (λ o. o.submits) SubmitComes c.args.from c.args.at (old_of g c)
+    (record (old_of g c) { members = slice_set (old_of g c).members c.args.at (record (before_of g c) { node = c.pass-taken.new.node }); links = c.exchange-3.new.self; submits = c.exchange-4.new.self }) c.pass-taken.result
+left_of g c =
+    let old = old_of g c in
+    let before = before_of g c in
+    let here = here_of g c in
+    let slot_is = slot_of g c in
+    let same = c.behind-self.view_is ∙ same_Some c.index-2.result.now before (sym (read_at old c.args.self.now c.args.at _ c.self.view_is c.requires c.index-2.ensures) ∙ here) in
+    number_left (λ given. given.items) g.S.StoreLike.about old c.args.from c.args.at c.unwrap_or-to.result before here c.pass-taken.new.node c.in-Some.first.now
+    c.new-link.result.items c.new-sent.result.items c.exchange.new.queue.items c.exchange-2.new.queue.items c.pass-taken.new.link.items c.pass-taken.new.to.items c.pass-taken.result c.self.invariant
+    (record { none = c.pass-taken.ensures.none; some = c.pass-taken.ensures.some; refused = c.pass-taken.ensures.refused; inside = c.pass-taken.ensures.inside })
+    c.exchange.new.self c.exchange-4.new.self c.exchange-2.new.self c.exchange-3.new.self c.slot-slot.result slot_is
+    (record {
+      first_is = c.in-Some.ensures.some;
+      to_is = c.unwrap_or-to.ensures ∙ ap (λ (o : Option ℕ). unwrap_or o c.slot-slot.result) (c.target.ensures ∙ ap (λ (x : Linked g.row.S.Denot). target_of x.node.state c.in-Some.first.now.message) same);
+      from_lt = c.exchange.ensures.from;
+      slot_lt = c.exchange.ensures.to;
+      to_lt = c.exchange-2.ensures.to;
+      lent = c.exchange.ensures.link;
+      queue_is = c.exchange.ensures.was;
+      lent_too = c.exchange-2.ensures.link;
+      sent_is = c.exchange-2.ensures.was;
+      back = c.exchange-3.ensures.link;
+      back_too = c.exchange-4.ensures.link;
+    })
 
 pub invariant_of-self : goal.invariant_of-self
 invariant_of-self g c =
-    let i = c.self.inside in
-    let old : Chained g.row.S.Denot = record { id = i.board.id; seat = i.board.seat; words = i.board.words; chain = i.«record»; geometry = i.geometry; members = i.members.items } in
-    let within : c.args.from < length i.members.items = rw (ap (λ (o : Chained g.row.S.Denot). length o.members) c.self.view_is) c.requires in
-    let f = c.index_mut.result.now in
-    let slot = (slice_index_or c.members.result.now c.args.from c.index-members-from.result).slot in
-    let mid = c.head_takes-taken.new.members.items in
-    let link = c.exchange_submits.new.submits.items in
-    let left = c.head_takes-taken.new.link.items in
-    let took = head_took (λ replies. replies.items) slot (slice_set i.members.items c.args.from c.exchange_submits.new.self) mid link left c.head_takes-taken.result c.head_takes-taken.ensures.none c.head_takes-taken.ensures.some c.head_takes-taken.ensures.refused in
-    let here = sender_here g.S.StoreLike.about old c.args.from f c.exchange_submits.new.self c.new-link.result.items within c.index_mut.ensures.value c.exchange_submits.ensures.member in
-    let slot_is : slot ≡ f.node.state.place.slot = ap (λ (rs : List recorded.Member). (slice_index_or rs c.args.from c.index-members-from.result).slot) c.members.ensures.members ∙ slot_of_sender g.S.StoreLike.about old c.args.from f c.index-members-from.result c.self.invariant here in
-    let came = submit_came g.S.StoreLike.about old c.args.from f c.exchange_submits.new.self c.new-link.result.items within c.index_mut.ensures.value c.exchange_submits.ensures.member (λ replies. replies.items) slot link left mid c.head_takes-taken.result took c.index_mut-2.result.now c.index_mut-2.ensures.value c.exchange_submits-2.new.self c.exchange_submits-2.ensures.member c.exchange_submits.ensures.link slot_is in
-    number_came_formed (λ replies. replies.items) c.args.from g.S.StoreLike.about old _ c.head_takes-taken.result came c.self.invariant
+    (left_of g c).formed
 
 pub returns-clause-none : goal.returns-clause-none
-returns-clause-none g c =
-    let i = c.self.inside in
-    let old : Chained g.row.S.Denot = record { id = i.board.id; seat = i.board.seat; words = i.board.words; chain = i.«record»; geometry = i.geometry; members = i.members.items } in
-    let within : c.args.from < length i.members.items = rw (ap (λ (o : Chained g.row.S.Denot). length o.members) c.self.view_is) c.requires in
-    let f = c.index_mut.result.now in
-    let slot = (slice_index_or c.members.result.now c.args.from c.index-members-from.result).slot in
-    let mid = c.head_takes-taken.new.members.items in
-    let link = c.exchange_submits.new.submits.items in
-    let left = c.head_takes-taken.new.link.items in
-    let took = head_took (λ replies. replies.items) slot (slice_set i.members.items c.args.from c.exchange_submits.new.self) mid link left c.head_takes-taken.result c.head_takes-taken.ensures.none c.head_takes-taken.ensures.some c.head_takes-taken.ensures.refused in
-    let here = sender_here g.S.StoreLike.about old c.args.from f c.exchange_submits.new.self c.new-link.result.items within c.index_mut.ensures.value c.exchange_submits.ensures.member in
-    let slot_is : slot ≡ f.node.state.place.slot = ap (λ (rs : List recorded.Member). (slice_index_or rs c.args.from c.index-members-from.result).slot) c.members.ensures.members ∙ slot_of_sender g.S.StoreLike.about old c.args.from f c.index-members-from.result c.self.invariant here in
-    let came = submit_came g.S.StoreLike.about old c.args.from f c.exchange_submits.new.self c.new-link.result.items within c.index_mut.ensures.value c.exchange_submits.ensures.member (λ replies. replies.items) slot link left mid c.head_takes-taken.result took c.index_mut-2.result.now c.index_mut-2.ensures.value c.exchange_submits-2.new.self c.exchange_submits-2.ensures.member c.exchange_submits.ensures.link slot_is in
-    rw (← c.self.view_is) (number_none (λ replies. replies.items) c.args.from old _ c.head_takes-taken.result came)
+returns-clause-none g c = rw (← c.self.view_is) (
+    (left_of g c).came.none)
 
-pub returns-clause-numbered : goal.returns-clause-numbered
-returns-clause-numbered g c =
-    let i = c.self.inside in
-    let old : Chained g.row.S.Denot = record { id = i.board.id; seat = i.board.seat; words = i.board.words; chain = i.«record»; geometry = i.geometry; members = i.members.items } in
-    let within : c.args.from < length i.members.items = rw (ap (λ (o : Chained g.row.S.Denot). length o.members) c.self.view_is) c.requires in
-    let f = c.index_mut.result.now in
-    let slot = (slice_index_or c.members.result.now c.args.from c.index-members-from.result).slot in
-    let mid = c.head_takes-taken.new.members.items in
-    let link = c.exchange_submits.new.submits.items in
-    let left = c.head_takes-taken.new.link.items in
-    let took = head_took (λ replies. replies.items) slot (slice_set i.members.items c.args.from c.exchange_submits.new.self) mid link left c.head_takes-taken.result c.head_takes-taken.ensures.none c.head_takes-taken.ensures.some c.head_takes-taken.ensures.refused in
-    let here = sender_here g.S.StoreLike.about old c.args.from f c.exchange_submits.new.self c.new-link.result.items within c.index_mut.ensures.value c.exchange_submits.ensures.member in
-    let slot_is : slot ≡ f.node.state.place.slot = ap (λ (rs : List recorded.Member). (slice_index_or rs c.args.from c.index-members-from.result).slot) c.members.ensures.members ∙ slot_of_sender g.S.StoreLike.about old c.args.from f c.index-members-from.result c.self.invariant here in
-    let came = submit_came g.S.StoreLike.about old c.args.from f c.exchange_submits.new.self c.new-link.result.items within c.index_mut.ensures.value c.exchange_submits.ensures.member (λ replies. replies.items) slot link left mid c.head_takes-taken.result took c.index_mut-2.result.now c.index_mut-2.ensures.value c.exchange_submits-2.new.self c.exchange_submits-2.ensures.member c.exchange_submits.ensures.link slot_is in
-    rw (← c.self.view_is) (number_some (λ replies. replies.items) c.args.from old _ c.head_takes-taken.result came)
+pub returns-clause-comes : goal.returns-clause-comes
+returns-clause-comes g c = rw (← c.self.view_is) (
+    (left_of g c).came.comes)
 
 pub returns-clause-refused : goal.returns-clause-refused
-returns-clause-refused g c =
-    let i = c.self.inside in
-    let old : Chained g.row.S.Denot = record { id = i.board.id; seat = i.board.seat; words = i.board.words; chain = i.«record»; geometry = i.geometry; members = i.members.items } in
-    let within : c.args.from < length i.members.items = rw (ap (λ (o : Chained g.row.S.Denot). length o.members) c.self.view_is) c.requires in
-    let f = c.index_mut.result.now in
-    let slot = (slice_index_or c.members.result.now c.args.from c.index-members-from.result).slot in
-    let mid = c.head_takes-taken.new.members.items in
-    let link = c.exchange_submits.new.submits.items in
-    let left = c.head_takes-taken.new.link.items in
-    let took = head_took (λ replies. replies.items) slot (slice_set i.members.items c.args.from c.exchange_submits.new.self) mid link left c.head_takes-taken.result c.head_takes-taken.ensures.none c.head_takes-taken.ensures.some c.head_takes-taken.ensures.refused in
-    let here = sender_here g.S.StoreLike.about old c.args.from f c.exchange_submits.new.self c.new-link.result.items within c.index_mut.ensures.value c.exchange_submits.ensures.member in
-    let slot_is : slot ≡ f.node.state.place.slot = ap (λ (rs : List recorded.Member). (slice_index_or rs c.args.from c.index-members-from.result).slot) c.members.ensures.members ∙ slot_of_sender g.S.StoreLike.about old c.args.from f c.index-members-from.result c.self.invariant here in
-    let came = submit_came g.S.StoreLike.about old c.args.from f c.exchange_submits.new.self c.new-link.result.items within c.index_mut.ensures.value c.exchange_submits.ensures.member (λ replies. replies.items) slot link left mid c.head_takes-taken.result took c.index_mut-2.result.now c.index_mut-2.ensures.value c.exchange_submits-2.new.self c.exchange_submits-2.ensures.member c.exchange_submits.ensures.link slot_is in
-    rw (← c.self.view_is) (number_refused (λ replies. replies.items) c.args.from old _ c.head_takes-taken.result came)
+returns-clause-refused g c = rw (← c.self.view_is) (
+    (left_of g c).came.refused)
 
 pub returns-clause-one_volume : goal.returns-clause-one_volume
-returns-clause-one_volume g c =
-    let i = c.self.inside in
-    let old : Chained g.row.S.Denot = record { id = i.board.id; seat = i.board.seat; words = i.board.words; chain = i.«record»; geometry = i.geometry; members = i.members.items } in
-    let within : c.args.from < length i.members.items = rw (ap (λ (o : Chained g.row.S.Denot). length o.members) c.self.view_is) c.requires in
-    let f = c.index_mut.result.now in
-    let slot = (slice_index_or c.members.result.now c.args.from c.index-members-from.result).slot in
-    let mid = c.head_takes-taken.new.members.items in
-    let link = c.exchange_submits.new.submits.items in
-    let left = c.head_takes-taken.new.link.items in
-    let took = head_took (λ replies. replies.items) slot (slice_set i.members.items c.args.from c.exchange_submits.new.self) mid link left c.head_takes-taken.result c.head_takes-taken.ensures.none c.head_takes-taken.ensures.some c.head_takes-taken.ensures.refused in
-    let here = sender_here g.S.StoreLike.about old c.args.from f c.exchange_submits.new.self c.new-link.result.items within c.index_mut.ensures.value c.exchange_submits.ensures.member in
-    let slot_is : slot ≡ f.node.state.place.slot = ap (λ (rs : List recorded.Member). (slice_index_or rs c.args.from c.index-members-from.result).slot) c.members.ensures.members ∙ slot_of_sender g.S.StoreLike.about old c.args.from f c.index-members-from.result c.self.invariant here in
-    let came = submit_came g.S.StoreLike.about old c.args.from f c.exchange_submits.new.self c.new-link.result.items within c.index_mut.ensures.value c.exchange_submits.ensures.member (λ replies. replies.items) slot link left mid c.head_takes-taken.result took c.index_mut-2.result.now c.index_mut-2.ensures.value c.exchange_submits-2.new.self c.exchange_submits-2.ensures.member c.exchange_submits.ensures.link slot_is in
-    let are = subst AreMembers c.members.ensures.members c.members.ensures.are in
-    let size = size_of (g.S.StoreLike.about f.node.store) in
-    let linked = subst (λ (l : List Envelope). All (IsSubmitOf (epoch_of f.node.state) size) l) c.exchange_submits.ensures.link c.exchange_submits.ensures.linked in
-    rw (← c.self.view_is) (λ premise v s events shows stands put_out.
-    number_came_goes (λ replies. replies.items) c.args.from g.S.StoreLike.about g.S.StoreLike.keeps g.S.StoreLike.may_leave_now old _ c.head_takes-taken.result came c.self.invariant are f here size linked v s events shows stands put_out)
+returns-clause-one_volume g c = λ premise v s events shows stands put_out. rw (← c.self.view_is) (
+    came_goes (λ given. given.items) (λ o. o.submits) (SubmitComes c.args.from c.args.at (old_of g c) _) c.args.from c.args.at (old_of g c) _ g.S.StoreLike.about g.S.StoreLike.keeps g.S.StoreLike.may_leave_now v events (rw c.self.view_is shows)
+    (λ given comes out. submit_goes g.S.StoreLike.about g.S.StoreLike.keeps g.S.StoreLike.may_leave_now (old_of g c) c.args.at v s (rw c.self.view_is shows) (stands_now _ _ v s c.self.view_is stands) c.args.from _ given events comes out)
+    c.pass-taken.result (left_of g c).came put_out)

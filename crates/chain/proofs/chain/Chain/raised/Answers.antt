@@ -1,31 +1,44 @@
-use Rattle.std.proofs.Common.{inl, inr, refl}
-use Rattle.std.specs.Prelude.{IfSome, Option, Some, None}
+use Rattle.std.proofs.Common.{◌∙◌, ap, inl, inr}
+use Rattle.std.specs.Prelude.{IfSome, None, Option, Some}
+use Rattle.std.specs.Option.{unwrap_or}
+use Rattle.chain_steps.specs.Place.{predecessor_of}
 use Rattle.chain.specs.Chain.{Chained}
-use Rattle.chain.proofs.RaisedSteps.{formed_known, known_goes, within_here}
+use Rattle.chain.proofs.RaisedSteps.{IsLent, formed_known, formed_same, has_known, known_goes, lent_by, rests_then}
 use Rattle.chain.proofs.FloorSteps.{either, none_then, some_then, stands_now}
-use Rattle.chain.proofs.Stepping.{read_at, same_then, formed_still}
+use Rattle.chain.proofs.Stepping.{read_at}
 use Rattle.chain.proofs.chain.Chain.raised.Goals as goal
+use Rattle.chain.proofs.chain.Chain.raised.Given.{Over}
+
+-- the chain before, as it is read
+abbrev old_of : (g : Over) (c : goal.After-drop-link g) → Chained g.row.S.Denot
+old_of g c =
+    let i = c.self.inside in
+    record { id = i.board.id; seat = i.board.seat; words = i.board.words; recorded = i.recorded; before = i.before; writing = i.writing; geometry = i.geometry; members = i.members.items; links = i.links; submits = i.submits }
+
+-- the link that is lent
+lent : (g : Over) (c : goal.After-drop-link g) → IsLent (old_of g c) c.index_mut.result.now c.exchange.new.queue.items c.raised-replies.new.to.items c.exchange-2.new.self
+lent g c = lent_by (old_of g c) c.args.at c.index.result.now c.index-2.result.now c.index_mut.result.now
+    (read_at _ _ c.args.at _ c.self.view_is c.requires c.index.ensures) (read_at _ _ c.args.at _ c.self.view_is c.requires c.index-2.ensures) (read_at _ _ c.args.at _ c.self.view_is c.requires c.index_mut.ensures.value)
+    c.slot-slot.result c.unwrap_or-to.result c.slot-slot.ensures
+    (c.unwrap_or-to.ensures ∙ ap (λ o. unwrap_or o c.slot-slot.result) (c.predecessor.ensures ∙ ap predecessor_of (c.place.ensures ∙ ap (λ m. m.node.state.place) c.behind-self.view_is)))
+    c.exchange.ensures.from c.exchange.ensures.to _ c.new-link.result.items _ c.exchange.new.self _ c.exchange.ensures.was c.exchange.ensures.link c.exchange-2.ensures.link
 
 pub invariant_of-self : goal.invariant_of-self
 invariant_of-self g c =
     let here = read_at _ _ c.args.at _ c.self.view_is c.requires c.index_mut.ensures.value in
-    either c.raised.result _ _ _ c.raised.ensures.known c.raised.ensures.idle
-    (λ replies did. formed_known _ _ c.args.at _ _ here replies.items did c.self.invariant)
-    (λ idle. formed_still _ c.args.at _ _ here _ idle.1 c.self.invariant)
+    either c.raised-replies.result _ _ _ c.raised-replies.ensures.known c.raised-replies.ensures.idle
+    (λ replies did. formed_known (old_of g c) c.args.at _ _ here _ _ _ (lent g c) _ replies.items did c.self.invariant)
+    (λ idle. formed_same (old_of g c) c.args.at _ _ here _ _ _ (lent g c) _ idle.1 idle.2 c.self.invariant)
 
 pub returns-clause-known : goal.returns-clause-known
-returns-clause-known g c = some_then c.raised.result _ _ c.raised.ensures.known (λ replies did. rw (← c.self.view_is) (record {
-  before = c.index_mut.result.now;
-  after = c.raised.new.self;
-  here = read_at _ _ c.args.at _ c.self.view_is c.requires c.index_mut.ensures.value;
-  did = did;
-  are = refl;
-}))
+returns-clause-known g c = some_then c.raised-replies.result _ _ c.raised-replies.ensures.known (λ replies did. rw (← c.self.view_is)
+    (let here = read_at _ _ c.args.at _ c.self.view_is c.requires c.index_mut.ensures.value in
+    has_known (old_of g c) c.args.at _ _ here _ _ _ (lent g c) replies.items did c.self.invariant.all_links))
 
 pub returns-clause-idle : goal.returns-clause-idle
-returns-clause-idle g c = none_then c.raised.result _ _ c.raised.ensures.idle (λ idle. rw (← c.self.view_is)
+returns-clause-idle g c = none_then c.raised-replies.result _ _ c.raised-replies.ensures.idle (λ idle. rw (← c.self.view_is)
     (let here = read_at _ _ c.args.at _ c.self.view_is c.requires c.index_mut.ensures.value in
-    let same = same_then _ c.args.at _ _ here idle.1 in
+    let same = rests_then (old_of g c) c.args.at _ _ here _ _ _ (lent g c) idle.1 idle.2 in
     elim idle.0 [
       | inl stopped ↦ inl (record { member = c.index_mut.result.now; here = here; stopped = stopped; same = same })
       | inr lacks ↦ inr (record { member = c.index_mut.result.now; here = here; lacks = lacks; same = same })
@@ -36,9 +49,8 @@ pair_some None P Q p q = p
 pair_some (Some x) P Q p q = (p, q)
 
 pub returns-clause-one_volume : goal.returns-clause-one_volume
-returns-clause-one_volume g c = λ premise. some_then c.raised.result _ _ (pair_some c.raised.result _ _ c.raised.ensures.known c.raised.ensures.above) (λ replies (did, above) v s events shows stands put_out. rw (← c.self.view_is)
-    (let i = c.self.inside in
-    let old : Chained g.row.S.Denot = record { id = i.board.id; seat = i.board.seat; words = i.board.words; chain = i.«record»; geometry = i.geometry; members = i.members.items } in
-    let here = read_at _ _ c.args.at _ c.self.view_is c.requires c.index_mut.ensures.value in
-    known_goes _ _ c.args.at _ _ here replies.items did above (within_here g.S.StoreLike.about g.S.StoreLike.keeps g.S.StoreLike.may_leave_now old c.args.at _ here v s (rw c.self.view_is shows) (stands_now _ _ v s c.self.view_is stands))
-    g.S.StoreLike.keeps g.S.StoreLike.may_leave_now v events (rw c.self.view_is shows) put_out))
+returns-clause-one_volume g c = λ premise. some_then c.raised-replies.result _ _ (pair_some c.raised-replies.result _ _ c.raised-replies.ensures.known c.raised-replies.ensures.above)
+    (λ replies (did, above) v s events shows stands put_out. rw (← c.self.view_is)
+    (let here = read_at _ _ c.args.at _ c.self.view_is c.requires c.index_mut.ensures.value in
+    known_goes (old_of g c) c.args.at _ _ here _ _ _ (lent g c) g.S.StoreLike.about g.S.StoreLike.keeps g.S.StoreLike.may_leave_now replies.items did c.self.invariant.all_links above v s events
+    (rw c.self.view_is shows) (stands_now _ _ v s c.self.view_is stands) put_out))

@@ -66,4 +66,4 @@ returns-clause-one_volume g c = λ premise. rw (← c.self.view_is) (err_then c.
 pub returns-clause-pleads : goal.returns-clause-pleads
 returns-clause-pleads g c = err_then c.read.result _ _ c.read.ensures.refused (λ e no.
     let here = read_at _ _ c.args.at _ c.self.view_is c.requires.at c.index_mut.ensures.value in
-    unread_pleads _ _ c.args.at _ _ here c.self.invariant g.S.StoreLike.keeps_model g.S.StoreLike.failures g.S.StoreLike.keeps g.S.StoreLike.moment g.S.StoreLike.may_have_left_since c.args.offset c.args.len _ _ no)
+    unread_pleads _ c.args.at _ _ here (in_at _ _ c.args.at _ here c.self.invariant).member g.S.StoreLike.keeps_model g.S.StoreLike.about g.S.StoreLike.failures g.S.StoreLike.keeps g.S.StoreLike.moment g.S.StoreLike.may_have_left_since c.args.offset c.args.len _ _ no)

@@ -1,65 +1,85 @@
-use Rattle.std.proofs.Common.{◌<◌, ◌*◌, refl, sym, ap, subst, ◌∙◌}
-use Rattle.gate_journal.specs.declared.batch.TheConstants.{MAX_NUMBER}
+use Rattle.std.proofs.Common.{◌∙◌, ap, sym, subst}
+use Rattle.std.specs.Prelude.{Some}
+use Rattle.std.proofs.lemmas.Option.{same_Some}
 use Rattle.volume.specs.Writes.{Fits}
-use Rattle.volume.specs.declared.geometry.Geometry.{Geometry}
-use Rattle.chain_steps.specs.declared.cause.Cause.TheVariants.{LastTicket}
-use Rattle.chain.specs.Chain.{bytes_of}
-use Rattle.chain_steps.specs.Steps.{stop}
-use Rattle.chain.proofs.AskingSteps.{away_formed, away_goes, away_pleads, ends_so, submitted_formed, submitted_goes, last_ticket}
-use Rattle.chain.proofs.Results.{either, if_err, on_ok}
+use Rattle.chain_steps.specs.Place.{Standing, head_of}
+use Rattle.chain.specs.Chain.{Chained, bytes_of}
+use Rattle.chain.specs.Member.{Linked}
+use Rattle.chain.proofs.AskingSteps.{Lends, has_submitted, lent_away, lent_formed, lent_goes, lent_pleads, submitted_goes}
+use Rattle.chain.proofs.Results.{if_err, on_ok}
 use Rattle.chain.proofs.Stepping.{in_at, read_at}
 use Rattle.chain.proofs.chain.Chain.submit.Goals as goal
 
-pub submit-requires-clause-of_board : goal.submit-requires-clause-of_board
-submit-requires-clause-of_board g c =
-    let here = read_at _ _ c.args.at _ c.self.view_is c.requires.at c.index_mut.ensures.value in
-    c.requires.of_board ∙ ap (λ o. o.id) (sym c.self.view_is) ∙ sym (in_at _ _ c.args.at _ here c.self.invariant).board
+-- the chain, and the member at the place
+abbrev old : (g : _) → goal.After-drop-link g → Chained g.row.S.Denot
+old g c = record {
+  id = c.self.inside.board.id;
+  seat = c.self.inside.board.seat;
+  words = c.self.inside.board.words;
+  recorded = c.self.inside.recorded;
+  before = c.self.inside.before;
+  writing = c.self.inside.writing;
+  geometry = c.self.inside.geometry;
+  members = c.self.inside.members.items;
+  links = c.self.inside.links;
+  submits = c.self.inside.submits;
+}
 
-pub submit-requires-clause-inside : goal.submit-requires-clause-inside
-submit-requires-clause-inside g c =
-    let here = read_at _ _ c.args.at _ c.self.view_is c.requires.at c.index_mut.ensures.value in
-    subst (λ size. Fits size c.args.write) (ap bytes_of (sym c.self.view_is) ∙ ap (λ (geometry : Geometry). 4096 * geometry.blocks) (sym (in_at _ _ c.args.at _ here c.self.invariant).sizes)) c.requires.inside
+abbrev own : (g : _) → goal.After-drop-link g → Linked g.row.S.Denot
+own g c = record { node = c.behind-self-2.inside.node; front = c.behind-self-2.inside.front; muster = c.behind-self-2.inside.muster; receipt = c.behind-self-2.inside.receipt }
+
+lends : (g : _) (c : goal.After-drop-link g) → Lends (old g c) c.args.at (own g c) c.submit_to-taken.new.node c.exchange-2.new.self c.submit_to-taken.result c.args.token c.args.write (λ e. e.replies.items) (λ e. e.refusal)
+lends g c =
+    let here = read_at (old g c) _ c.args.at _ c.self.view_is c.requires.at c.index_mut.ensures.value ∙ ap Some (sym c.behind-self-2.view_is) in
+    let first = read_at (old g c) _ c.args.at _ c.self.view_is c.requires.at c.index.ensures in
+    let second = read_at (old g c) _ c.args.at _ c.self.view_is c.requires.at c.index-2.ensures in
+    record {
+      slot = c.slot-slot.result;
+      head = c.head-head.result;
+      lent = c.new-link.result.items;
+      link = c.exchange.new.queue.items;
+      queue = c.submit_to-taken.new.link.items;
+      mid = c.exchange.new.self;
+      here = here;
+      slot_is = c.slot-slot.ensures ∙ ap (λ (m : Linked g.row.S.Denot). m.node.state.place.slot) (same_Some _ _ (sym first ∙ here));
+      head_is = sym (ap (λ (m : Linked g.row.S.Denot). head_of m.node.state.place.chain) (same_Some _ _ (sym second ∙ here))) ∙ sym (ap (λ (m : Linked g.row.S.Denot). head_of m.node.state.place.chain) c.behind-self.view_is)
+          ∙ sym (ap (λ (p : Standing). head_of p.chain) c.place.ensures) ∙ c.head-head.ensures;
+      slot_lt = c.exchange.ensures.from;
+      head_lt = c.exchange.ensures.to;
+      taken = c.exchange.ensures.link;
+      was = c.exchange.ensures.was;
+      back = c.exchange-2.ensures.link;
+      done = c.submit_to-taken.ensures.node;
+      sent = c.submit_to-taken.ensures.link;
+      still = c.submit_to-taken.ensures.still;
+      refused = c.submit_to-taken.ensures.refused;
+    }
 
 pub invariant_of-self : goal.invariant_of-self
 invariant_of-self g c =
-    let here = read_at _ _ c.args.at _ c.self.view_is c.requires.at c.index_mut.ensures.value in
-    either c.submit.result c.submit.ensures.submitted c.submit.ensures.refused
-    (λ did. submitted_formed _ _ c.args.at _ _ here _ _ did c.self.invariant)
-    (λ e away.
-    let state = c.index_mut.result.now.node.state in
-    away_formed (MAX_NUMBER < state.ticket) (stop LastTicket state) _ _ _ (last_ticket state) _ _ c.args.at here (ends_so (MAX_NUMBER < state.ticket) (stop LastTicket state) _ _ _ (last_ticket state) _ away) c.self.invariant)
+    lent_formed (old g c) c.args.at (own g c) c.submit_to-taken.new.node c.exchange-2.new.self c.submit_to-taken.result c.args.token c.args.write (λ e. e.replies.items) (λ e. e.refusal) (lends g c) g.S.StoreLike.about c.self.invariant
+    (subst (λ (o : Chained g.row.S.Denot). Fits (bytes_of o) c.args.write) (sym c.self.view_is) c.requires.inside) c.requires.some
 
 pub returns-clause-submitted : goal.returns-clause-submitted
-returns-clause-submitted g c = rw (← c.self.view_is) (on_ok c.submit.result c.submit.ensures.submitted (λ did. record {
-  before = c.index_mut.result.now;
-  after = c.submit.new.self;
-  here = read_at _ _ c.args.at _ c.self.view_is c.requires.at c.index_mut.ensures.value;
-  did = did;
-  are = refl;
-}))
+returns-clause-submitted g c = rw (← c.self.view_is)
+    (has_submitted (old g c) c.args.at (own g c) c.submit_to-taken.new.node c.exchange-2.new.self c.submit_to-taken.result c.args.token c.args.write (λ e. e.replies.items) (λ e. e.refusal) (lends g c) g.S.StoreLike.about c.self.invariant c.submit_to-taken.ensures.runs c.submit_to-taken.ensures.ticket)
 
 pub returns-clause-refused : goal.returns-clause-refused
-returns-clause-refused g c = rw (← c.self.view_is) (if_err c.submit.result c.submit.ensures.refused (λ e away. record {
-  before = c.index_mut.result.now;
-  after = c.submit.new.self;
-  here = read_at _ _ c.args.at _ c.self.view_is c.requires.at c.index_mut.ensures.value;
-  did = away;
-  are = refl;
-}))
+returns-clause-refused g c = rw (← c.self.view_is)
+    (lent_away (old g c) c.args.at (own g c) c.submit_to-taken.new.node c.exchange-2.new.self c.submit_to-taken.result c.args.token c.args.write (λ e. e.replies.items) (λ e. e.refusal) (lends g c))
 
 pub returns-clause-takes : goal.returns-clause-takes
-returns-clause-takes g c = λ premise. rw (← c.self.view_is) (on_ok c.submit.result c.submit.ensures.submitted (λ did v s events rest shows stands first put_out.
-    let here = read_at _ _ c.args.at _ c.self.view_is c.requires.at c.index_mut.ensures.value in
-    submitted_goes _ _ c.args.at _ _ here _ _ did g.S.StoreLike.keeps g.S.StoreLike.may_leave_now v events rest c.self.invariant c.requires.unnumbered shows first put_out))
+returns-clause-takes g c = λ premise. rw (← c.self.view_is) (on_ok c.submit_to-taken.result
+    (has_submitted (old g c) c.args.at (own g c) c.submit_to-taken.new.node c.exchange-2.new.self c.submit_to-taken.result c.args.token c.args.write (λ e. e.replies.items) (λ e. e.refusal) (lends g c) g.S.StoreLike.about c.self.invariant c.submit_to-taken.ensures.runs c.submit_to-taken.ensures.ticket)
+    (λ did v s events rest shows stands first put_out.
+    submitted_goes g.S.StoreLike.about g.S.StoreLike.keeps g.S.StoreLike.may_leave_now (old g c) _ c.args.at c.args.token c.args.write did v events rest c.requires.unnumbered shows first put_out))
 
 pub returns-clause-one_volume : goal.returns-clause-one_volume
-returns-clause-one_volume g c = λ premise. rw (← c.self.view_is) (if_err c.submit.result c.submit.ensures.refused (λ e away v s events shows stands put_out.
-    let here = read_at _ _ c.args.at _ c.self.view_is c.requires.at c.index_mut.ensures.value in
-    let state = c.index_mut.result.now.node.state in
-    away_goes (MAX_NUMBER < state.ticket) (stop LastTicket state) _ _ _ (last_ticket state) g.S.StoreLike.about _ c.args.at here g.S.StoreLike.keeps g.S.StoreLike.may_leave_now (ends_so (MAX_NUMBER < state.ticket) (stop LastTicket state) _ _ _ (last_ticket state) _ away) v events shows put_out))
+returns-clause-one_volume g c = λ premise. rw (← c.self.view_is) (if_err c.submit_to-taken.result
+    (lent_goes (old g c) c.args.at (own g c) c.submit_to-taken.new.node c.exchange-2.new.self c.submit_to-taken.result c.args.token c.args.write (λ e. e.replies.items) (λ e. e.refusal) (lends g c) g.S.StoreLike.about g.S.StoreLike.keeps g.S.StoreLike.may_leave_now)
+    (λ e goes v s events shows stands put_out. goes v events shows put_out))
 
 pub returns-clause-pleads : goal.returns-clause-pleads
-returns-clause-pleads g c = if_err c.submit.result c.submit.ensures.refused (λ e away.
-    let here = read_at _ _ c.args.at _ c.self.view_is c.requires.at c.index_mut.ensures.value in
-    let state = c.index_mut.result.now.node.state in
-    away_pleads _ _ c.args.at _ _ here c.self.invariant (MAX_NUMBER < state.ticket) (stop LastTicket state) _ (last_ticket state) _ away)
+returns-clause-pleads g c =
+    lent_pleads (old g c) c.args.at (own g c) c.submit_to-taken.new.node c.exchange-2.new.self c.submit_to-taken.result c.args.token c.args.write (λ e. e.replies.items) (λ e. e.refusal) (lends g c)
+    (in_at g.S.StoreLike.about (old g c) c.args.at (own g c) (lends g c).here c.self.invariant).member

@@ -1,10 +1,7 @@
 use Rattle.std.proofs.Common.{[], refl, sym, ap, rules, arith}
 use Rattle.chain_steps.specs.Node.{Out}
-use Rattle.chain.proofs.AnswerSteps.{linked_answered, without_messages}
+use Rattle.chain.proofs.AnswerSteps.{without_messages}
 use Rattle.chain.proofs.member.Member.answer_front.Goals as goal
-
-pub invariant_of-self : goal.invariant_of-self
-invariant_of-self g c = linked_answered g.S.StoreLike.keeps_model g.S.StoreLike.about g.S.StoreLike.failures g.S.StoreLike.keeps g.S.StoreLike.moment g.S.StoreLike.may_have_left_since g.S.StoreLike.may_leave_now _ c.answer_front.new.self c.answer_front.result c.answer_front.ensures.step c.self.invariant
 
 pub returns-clause-answered : goal.returns-clause-answered
 returns-clause-answered g c = rw (← c.self.view_is) (record {

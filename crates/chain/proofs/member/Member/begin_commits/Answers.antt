@@ -28,7 +28,7 @@ returns-in-Err-clause-refused g c =
           can = (e.full (ap Err full)).0;
           none = (e.full (ap Err full)).1;
           only_read = e.unchanged.1;
-          are = ap (λ (st : NodeState). record { node = record { store = c.begin_commits.new.self.store; state = st }; puts = c.self.inside.puts.items; acks = c.self.inside.acks.items; submits = c.self.inside.submits.items; front = c.self.inside.front; muster = c.self.inside.muster; receipt = c.self.inside.receipt }) e.unchanged.0;
+          are = ap (λ (st : NodeState). record { node = record { store = c.begin_commits.new.self.store; state = st }; front = c.self.inside.front; muster = c.self.inside.muster; receipt = c.self.inside.receipt }) e.unchanged.0;
         },
       )
       | inr stopped ↦

@@ -1,8 +1,0 @@
-use Rattle.world_model.proofs.RestartSteps.{first_chain, restarts_chain}
-use Rattle.world_model.proofs.chain_laws.chains_begin_again.Goals as goal
-
-pub returns-clause-first : goal.returns-clause-first
-returns-clause-first c = first_chain
-
-pub returns-clause-restarts : goal.returns-clause-restarts
-returns-clause-restarts c = restarts_chain
