@@ -17,7 +17,7 @@ use std::alloc::{AllocError, Global};
 impl<S: StoreLike + Drop> World<S> {
     /// The next record is being written. It has the epoch behind the recorded one's, and its members without one that has stopped, or
     /// just its members; and no other one is being written. `false` where that isn't so: nothing changed.
-    pub fn begin_record(&mut self, next: Record) -> bool
+    pub(crate) fn begin_record(&mut self, next: Record) -> bool
         ensures begun { result ≡ true → Moves self.old self.new (λ old new. MayBegin old next × HasBegunRecord next old new) }
         ensures idle { result ≡ false → ¬ MayBegin self.old.chain next × (self.new ≡ self.old) }
         ensures one_volume { S.keeps_model → IsOfOneVolume S.about S.keeps S.may_leave_now no_one no_one self.old self.new }
@@ -27,7 +27,7 @@ impl<S: StoreLike + Drop> World<S> {
 
     /// The record that was being written is durable: it is the recorded one. All members that run were told the one before it. `false`
     /// where that isn't so, or none was being written that may come next: nothing changed.
-    pub fn end_record(&mut self) -> bool
+    pub(crate) fn end_record(&mut self) -> bool
         ensures ended { result ≡ true → Moves self.old self.new (λ old new. MayEnd old × HasEndedRecord old new) }
         ensures idle { result ≡ false → ¬ MayEnd self.old.chain × (self.new ≡ self.old) }
         ensures one_volume { S.keeps_model → IsOfOneVolume S.about S.keeps S.may_leave_now no_one no_one self.old self.new }
@@ -36,7 +36,7 @@ impl<S: StoreLike + Drop> World<S> {
     }
 
     /// A copy of the record that is being written, if one is.
-    pub fn writing(&self, alloc: Global) -> Result<Option<Record>, AllocError>
+    pub(crate) fn writing(&self, alloc: Global) -> Result<Option<Record>, AllocError>
         ensures value { IfOk result (λ found. found ≡ self.now.chain.writing) }
         ensures none { self.now.chain.writing ≡ None → IsOk result }
     {
@@ -44,7 +44,7 @@ impl<S: StoreLike + Drop> World<S> {
     }
 
     /// Whether the record that is being written, if one is, may be recorded.
-    pub fn may_end(&self) -> bool
+    pub(crate) fn may_end(&self) -> bool
         ensures { IsTrue result ↔ MayEnd self.now.chain }
     {
         self.chain.may_end()
@@ -52,7 +52,7 @@ impl<S: StoreLike + Drop> World<S> {
 
     /// The board counts the slot no longer. No member of the recorded chain is at it, and no record is being written. `false` where that
     /// isn't so: nothing changed.
-    pub fn count_out(&mut self, slot: Slot) -> bool
+    pub(crate) fn count_out(&mut self, slot: Slot) -> bool
         ensures out { result ≡ true → Moves self.old self.new (λ old new. IsLeftOut old slot × HasCountedOut slot old new) }
         ensures idle { result ≡ false → ¬ IsLeftOut self.old.chain slot × (self.new ≡ self.old) }
         ensures one_volume { S.keeps_model → IsOfOneVolume S.about S.keeps S.may_leave_now no_one no_one self.old self.new }
@@ -64,7 +64,7 @@ impl<S: StoreLike + Drop> World<S> {
     /// number that were submitted before, and sends again what it doesn't know to be committed. Where memory runs out, it stops.
     ///
     /// 154 `Stopped` once it stopped; 151 `NotMember` where it isn't in the recorded chain by its slot and incarnation: nothing changed.
-    pub fn tell(&mut self, at: usize) -> Result<Told, Refusal>
+    pub(crate) fn tell(&mut self, at: usize) -> Result<Told, Refusal>
         requires { at < length self.old.chain.members }
         ensures told { IfOk result (λ told. Answers told self.old self.new (λ replies old new. IsToldAt at old new replies ⊎ HaltsAt at old new replies)) }
         ensures refused { IfErr result (λ r. Moves self.old self.new (λ old new. IsUntoldAt at old new r)) }
