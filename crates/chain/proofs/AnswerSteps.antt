@@ -6,7 +6,6 @@ use Rattle.std.specs.Prelude.{Option, Some, None, fold, slice_get, slice_set}
 use Rattle.std.specs.List.{AllZip}
 use Rattle.std.proofs.lemmas.Bool.{cases_Bool}
 use Rattle.std.proofs.lemmas.Bool.Decides.{nat_tests}
-use Rattle.std.proofs.lemmas.List.{append-nil}
 use Rattle.volume.specs.declared.geometry.Geometry.{Geometry}
 use Rattle.disk_model.specs.Disk.{LeavesOnly}
 use Rattle.flush_barrier.specs.Reply.{GivenReply}
@@ -36,7 +35,7 @@ use Rattle.chain.specs.Member.{HasCalled, IsLeft, IsShown, Linked, fronts_of, mu
 use Rattle.chain.proofs.Cells.{Place, Twin, place_of, twin_of}
 use Rattle.chain.proofs.FloorSteps.{gathered}
 use Rattle.chain.proofs.Causes.{device_is_one, memory_is_one}
-use Rattle.chain.proofs.Stepping.{formed_then}
+use Rattle.chain.proofs.Stepping.{formed_then, just_goes}
 
 -- what such a step leaves of the member's state
 record Leaves (old new : NodeState) : Type 0 where
@@ -222,13 +221,7 @@ module _ {S : Type 0} (premise : Type 0) (about : S → About) (failures : S →
     does_so doing keeping does = (
       w,
       shows_then keeping,
-      record {
-        happenings = MemberDoes doing ∷ [];
-        each = events ∷ [];
-        inner = refl;
-        era = (w, events, [], refl, record { above = twin.over; old = twin.own; new = new; below = twin.under; were = twin.are; are = refl; change = does }, (refl, refl));
-        all = append-nil events;
-      },
+      just_goes (bytes_of old) v w (MemberDoes doing) events refl (record { above = twin.over; old = twin.own; new = new; below = twin.under; were = twin.are; are = refl; change = does }),
     )
 
     -- the member stops

@@ -33,7 +33,7 @@ use Rattle.chain.proofs.Causes.{memory_is_one}
 use Rattle.chain.proofs.Cells.{Place, Twin, place_of, twin_of}
 use Rattle.chain.proofs.Linkages.{both_back, has_sent, has_taken, one_back, second_was, set_long}
 use Rattle.chain.proofs.PassingSteps.{deliver_elim, delivered_to}
-use Rattle.chain.proofs.Stepping.{one_does, shown_still, told_stays}
+use Rattle.chain.proofs.Stepping.{just_goes, one_does, shown_still, told_stays}
 
 -- ---- what is taken, and sent
 
@@ -260,34 +260,21 @@ module _ {S : Type 0} (about : S → About) (keeps : S → List ℕ → Type 0) 
             links = refl;
             submits = shows.submits;
           },
-          record {
-            happenings = MessageTaken ∷ [];
-            each = events ∷ [];
-            inner = refl;
-            era = (
-              w,
-              events,
-              [],
-              refl,
-              record {
-                above = t.over;
-                member = t.own;
-                below = t.under;
-                from = from;
-                envelope = is.envelope;
-                stepped = is.stepped;
-                links = link_at new.links;
-                were = t.are;
-                taken = subst (λ (n : NodeState). deliver from is.envelope n ≡ Taken is.stepped) (sym node) is.taken;
-                passed = subst (λ (n : NodeState). HasPassed from n.place.slot is.envelope is.stepped.out.messages v.links (link_at new.links)) (sym node)
-                    (subst (λ l. HasPassed from is.before.node.state.place.slot is.envelope is.stepped.out.messages l (link_at new.links)) (sym shows.links) is.passed);
-                out = subst (λ rs. ArePutOut rs events) is.told put_out;
-                are = refl;
-              },
-              (refl, refl),
-            );
-            all = append-nil events;
-          },
+          just_goes (bytes_of old) v w MessageTaken events refl (record {
+            above = t.over;
+            member = t.own;
+            below = t.under;
+            from = from;
+            envelope = is.envelope;
+            stepped = is.stepped;
+            links = link_at new.links;
+            were = t.are;
+            taken = subst (λ (n : NodeState). deliver from is.envelope n ≡ Taken is.stepped) (sym node) is.taken;
+            passed = subst (λ (n : NodeState). HasPassed from n.place.slot is.envelope is.stepped.out.messages v.links (link_at new.links)) (sym node)
+                (subst (λ l. HasPassed from is.before.node.state.place.slot is.envelope is.stepped.out.messages l (link_at new.links)) (sym shows.links) is.passed);
+            out = subst (λ rs. ArePutOut rs events) is.told put_out;
+            are = refl;
+          }),
         )
 
     submit_taken : (from : ℕ) (new : Chained S) (replies : List GivenReply) (events : List ClientEvent) → SubmitIsTaken from at old new replies → ArePutOut replies events → GoesOn new events
@@ -306,37 +293,24 @@ module _ {S : Type 0} (about : S → About) (keeps : S → List ℕ → Type 0) 
             links = refl;
             submits = refl;
           },
-          record {
-            happenings = SubmitTaken ∷ [];
-            each = events ∷ [];
-            inner = refl;
-            era = (
-              w,
-              events,
-              [],
-              refl,
-              record {
-                above = t.over;
-                member = t.own;
-                below = t.under;
-                from = from;
-                envelope = is.envelope;
-                stepped = is.stepped;
-                links = link_at new.links;
-                submits = link_at new.submits;
-                were = t.are;
-                taken = subst (λ (n : NodeState). deliver from is.envelope n ≡ Taken is.stepped) (sym node) is.taken;
-                gone = subst (λ (n : NodeState). laws.HasTaken from n.place.slot is.envelope v.submits (link_at new.submits)) (sym node)
-                    (subst (λ l. laws.HasTaken from is.before.node.state.place.slot is.envelope l (link_at new.submits)) (sym shows.submits) is.gone);
-                sent = subst (λ (n : NodeState). laws.HasSent n.place.slot is.stepped.out.messages v.links (link_at new.links)) (sym node)
-                    (subst (λ l. laws.HasSent is.before.node.state.place.slot is.stepped.out.messages l (link_at new.links)) (sym shows.links) is.sent);
-                out = subst (λ rs. ArePutOut rs events) is.told put_out;
-                are = refl;
-              },
-              (refl, refl),
-            );
-            all = append-nil events;
-          },
+          just_goes (bytes_of old) v w SubmitTaken events refl (record {
+            above = t.over;
+            member = t.own;
+            below = t.under;
+            from = from;
+            envelope = is.envelope;
+            stepped = is.stepped;
+            links = link_at new.links;
+            submits = link_at new.submits;
+            were = t.are;
+            taken = subst (λ (n : NodeState). deliver from is.envelope n ≡ Taken is.stepped) (sym node) is.taken;
+            gone = subst (λ (n : NodeState). laws.HasTaken from n.place.slot is.envelope v.submits (link_at new.submits)) (sym node)
+                (subst (λ l. laws.HasTaken from is.before.node.state.place.slot is.envelope l (link_at new.submits)) (sym shows.submits) is.gone);
+            sent = subst (λ (n : NodeState). laws.HasSent n.place.slot is.stepped.out.messages v.links (link_at new.links)) (sym node)
+                (subst (λ l. laws.HasSent is.before.node.state.place.slot is.stepped.out.messages l (link_at new.links)) (sym shows.links) is.sent);
+            out = subst (λ rs. ArePutOut rs events) is.told put_out;
+            are = refl;
+          }),
         )
 
     -- where it halts, a chain has why

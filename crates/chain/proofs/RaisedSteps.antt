@@ -38,7 +38,7 @@ use Rattle.chain.specs.Member.{IsShown, Linked}
 use Rattle.chain.proofs.Cells.{Place, Twin, place_of, twin_of}
 use Rattle.chain.proofs.Causes.{memory_is_one}
 use Rattle.chain.proofs.Linkages.{at_place, has_sent, one_back, only_to, set_again, set_long}
-use Rattle.chain.proofs.Stepping.{formed_then, one_does, same_then, shown_still, told_stays}
+use Rattle.chain.proofs.Stepping.{formed_then, just_goes, one_does, same_then, shown_still, told_stays}
 
 -- ---- what is sent
 
@@ -267,35 +267,22 @@ module _ {S : Type 0} (old : Chained S) (at : ℕ) (before after : Linked S) (he
             links = refl;
             submits = shows.submits;
           },
-          record {
-            happenings = RaisedKnown ∷ [];
-            each = events ∷ [];
-            inner = refl;
-            era = (
-              w,
-              events,
-              [],
-              refl,
-              record {
-                above = twin.over;
-                member = twin.own;
-                below = twin.under;
-                front = front;
-                links = link_at links;
-                were = twin.are;
-                runs = ap (λ (n : NodeState). n.stopped) node_is ∙ did.runs;
-                found = ap (λ (n : NodeState). n.found) node_is ∙ was_found;
-                more = rw node_is le;
-                sent = subst (λ (n : NodeState). HasSent n.place.slot (know front.number front.number n).out.messages v.links (link_at links)) (sym node_is)
-                    (subst (λ l. HasSent before.node.state.place.slot stepped.out.messages l (link_at links)) (sym shows.links)
-                    (subst (λ (o : Out). HasSent before.node.state.place.slot o.messages (link_at old.links) (link_at links)) is.sent (sent_on replies did long)));
-                out = subst (λ (n : NodeState). ArePutOut (know front.number front.number n).out.replies events) (sym node_is) (put stepped is);
-                are = ap (λ (n : NodeState). record w { members = twin.over ++ record twin.own { node = (know front.number front.number n).node } ∷ twin.under }) (sym node_is);
-              },
-              (refl, refl),
-            );
-            all = append-nil events;
-          },
+          just_goes (bytes_of old) v w RaisedKnown events refl (record {
+            above = twin.over;
+            member = twin.own;
+            below = twin.under;
+            front = front;
+            links = link_at links;
+            were = twin.are;
+            runs = ap (λ (n : NodeState). n.stopped) node_is ∙ did.runs;
+            found = ap (λ (n : NodeState). n.found) node_is ∙ was_found;
+            more = rw node_is le;
+            sent = subst (λ (n : NodeState). HasSent n.place.slot (know front.number front.number n).out.messages v.links (link_at links)) (sym node_is)
+                (subst (λ l. HasSent before.node.state.place.slot stepped.out.messages l (link_at links)) (sym shows.links)
+                (subst (λ (o : Out). HasSent before.node.state.place.slot o.messages (link_at old.links) (link_at links)) is.sent (sent_on replies did long)));
+            out = subst (λ (n : NodeState). ArePutOut (know front.number front.number n).out.replies events) (sym node_is) (put stepped is);
+            are = ap (λ (n : NodeState). record w { members = twin.over ++ record twin.own { node = (know front.number front.number n).node } ∷ twin.under }) (sym node_is);
+          }),
         )
 
     -- whatever front it keeps: it has all of one that it raised

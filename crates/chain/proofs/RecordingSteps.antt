@@ -40,7 +40,7 @@ use Rattle.chain.proofs.Causes.{memory_is_one}
 use Rattle.chain.proofs.ComingSteps.{inside_at, sizes_are}
 use Rattle.chain.proofs.Linkages.{has_sent, one_back, only_to, set_again, set_long}
 use Rattle.chain.proofs.MessageSteps.{at_place, halts, node_is, twin}
-use Rattle.chain.proofs.Stepping.{formed_then, rests, same_then, shown_still, told_stays}
+use Rattle.chain.proofs.Stepping.{formed_then, just_goes, rests, same_then, shown_still, told_stays}
 use Rattle.chain.proofs.PassingSteps.{by_test, delivered_so, not_refused, sent_all, taken_same, turn_sends_inside, turn_sends_most}
 
 -- ---- a member is told a record
@@ -287,13 +287,7 @@ module _ {S : Type 0} (about : S → About) (keeps : S → List ℕ → Type 0) 
       let w : View = record v { writing = Some next } in (
         w,
         record { told = shows.told; recorded = shows.recorded; before = shows.before; writing = refl; members = shows.members; links = shows.links; submits = shows.submits },
-        record {
-          happenings = RecordBegun ∷ [];
-          each = events ∷ [];
-          inner = refl;
-          era = (w, events, [], refl, (record { next = next; follows = is_next next follows; none = shows.writing ∙ none; are = refl }, nothing), (refl, refl));
-          all = append-nil events;
-        },
+        just_goes (bytes_of old) v w RecordBegun events refl (record { next = next; follows = is_next next follows; none = shows.writing ∙ none; are = refl }, nothing),
       )
 
   pub counts_out_goes : (slot : ℕ) → incarnation_in old.recorded slot ≡ None → old.writing ≡ None
@@ -304,35 +298,22 @@ module _ {S : Type 0} (about : S → About) (keeps : S → List ℕ → Type 0) 
       let written : v.writing ≡ None = shows.writing ∙ none in (
         w,
         record { told = refl; recorded = shows.recorded; before = shows.before; writing = shows.writing; members = shows.members; links = shows.links; submits = shows.submits },
-        record {
-          happenings = BoardTells ∷ [];
-          each = events ∷ [];
-          inner = refl;
-          era = (
-            w,
-            events,
-            [],
-            refl,
-            (
-              record {
-                told = told_of new;
-                front = sym (ap (λ (t : BoardInUse). t.front) shows.told);
-                backed = λ is.
-                    let now = told_of old in
-                    let was = subst (λ (t : BoardInUse). IsBacked t.front t.mask t.gauges t.receipts t.musters (disks_of v.recorded v.writing v.members)) shows.told is in
-                    let alone = subst (λ (o : Option Record). IsBacked now.front now.mask now.gauges now.receipts now.musters (disks_of v.recorded o v.members)) written was in
-                    let absent : incarnation_in v.recorded slot ≡ None = ap (λ r. incarnation_in r slot) shows.recorded ∙ gone in
-                    subst (λ (o : Option Record). IsBacked now.front (counted_out old.words slot).mask now.gauges now.receipts now.musters (disks_of v.recorded o v.members)) (sym written)
-                    (uncounted_backed now.front now.mask (counted_out old.words slot).mask now.gauges now.receipts now.musters v.recorded slot v.members absent others alone);
-                fronts = λ all. subst (λ (t : BoardInUse). All (λ f. f ≤ t.front) t.fronts) shows.told all;
-                are = refl;
-              },
-              nothing,
-            ),
-            (refl, refl),
-          );
-          all = append-nil events;
-        },
+        just_goes (bytes_of old) v w BoardTells events refl (
+          record {
+            told = told_of new;
+            front = sym (ap (λ (t : BoardInUse). t.front) shows.told);
+            backed = λ is.
+                let now = told_of old in
+                let was = subst (λ (t : BoardInUse). IsBacked t.front t.mask t.gauges t.receipts t.musters (disks_of v.recorded v.writing v.members)) shows.told is in
+                let alone = subst (λ (o : Option Record). IsBacked now.front now.mask now.gauges now.receipts now.musters (disks_of v.recorded o v.members)) written was in
+                let absent : incarnation_in v.recorded slot ≡ None = ap (λ r. incarnation_in r slot) shows.recorded ∙ gone in
+                subst (λ (o : Option Record). IsBacked now.front (counted_out old.words slot).mask now.gauges now.receipts now.musters (disks_of v.recorded o v.members)) (sym written)
+                (uncounted_backed now.front now.mask (counted_out old.words slot).mask now.gauges now.receipts now.musters v.recorded slot v.members absent others alone);
+            fronts = λ all. subst (λ (t : BoardInUse). All (λ f. f ≤ t.front) t.fronts) shows.told all;
+            are = refl;
+          },
+          nothing,
+        ),
       )
 
   pub ends_goes : (next : Record) → old.writing ≡ Some next → IsNextOf old next → AllTold old → events ≡ [] → GoesOn (record old { recorded = next; before = old.recorded; writing = None })
@@ -340,30 +321,17 @@ module _ {S : Type 0} (about : S → About) (keeps : S → List ℕ → Type 0) 
       let w : View = record v { recorded = next; before = v.recorded; writing = None } in (
         w,
         record { told = shows.told; recorded = refl; before = shows.recorded; writing = refl; members = shows.members; links = shows.links; submits = shows.submits },
-        record {
-          happenings = RecordEnded ∷ [];
-          each = events ∷ [];
-          inner = refl;
-          era = (
-            w,
-            events,
-            [],
-            refl,
-            (
-              record {
-                next = next;
-                follows = is_next next follows;
-                begun = shows.writing ∙ begun;
-                told = all_shown about keeps may_leave_now (bytes_of old) (λ n. n.stopped ≡ None → epoch_of n ≡ v.recorded.epoch) old.members v.members shows.members
-                    (subst (λ (r : Record). All (λ (m : Linked S). m.node.state.stopped ≡ None → epoch_of m.node.state ≡ r.epoch) old.members) (sym shows.recorded) all);
-                are = refl;
-              },
-              nothing,
-            ),
-            (refl, refl),
-          );
-          all = append-nil events;
-        },
+        just_goes (bytes_of old) v w RecordEnded events refl (
+          record {
+            next = next;
+            follows = is_next next follows;
+            begun = shows.writing ∙ begun;
+            told = all_shown about keeps may_leave_now (bytes_of old) (λ n. n.stopped ≡ None → epoch_of n ≡ v.recorded.epoch) old.members v.members shows.members
+                (subst (λ (r : Record). All (λ (m : Linked S). m.node.state.stopped ≡ None → epoch_of m.node.state ≡ r.epoch) old.members) (sym shows.recorded) all);
+            are = refl;
+          },
+          nothing,
+        ),
       )
 
   pub tells_goes : (at : ℕ) (s : State) → StandsFor (bytes_of old) v s → (new : Chained S) (replies : List GivenReply) → IsToldAt at old new replies ⊎ HaltsAt at old new replies → ArePutOut replies events → GoesOn new
@@ -387,32 +355,19 @@ module _ {S : Type 0} (about : S → About) (keeps : S → List ℕ → Type 0) 
           links = refl;
           submits = shows.submits;
         },
-        record {
-          happenings = MemberTold ∷ [];
-          each = events ∷ [];
-          inner = refl;
-          era = (
-            w,
-            events,
-            [],
-            refl,
-            record {
-              above = t.over;
-              member = t.own;
-              below = t.under;
-              stepped = is.stepped;
-              links = link_at new.links;
-              were = t.are;
-              taken = subst (λ (r : Record). told r t.own.node ≡ Taken is.stepped) (sym shows.recorded) (subst (λ (n : NodeState). told old.recorded n ≡ Taken is.stepped) (sym node) is.taken);
-              sent = subst (λ (n : NodeState). HasSent n.place.slot is.stepped.out.messages v.links (link_at new.links)) (sym node)
-                  (subst (λ l. HasSent is.before.node.state.place.slot is.stepped.out.messages l (link_at new.links)) (sym shows.links) is.sent);
-              out = subst (λ rs. ArePutOut rs events) is.told_so put_out;
-              are = refl;
-            },
-            (refl, refl),
-          );
-          all = append-nil events;
-        },
+        just_goes (bytes_of old) v w MemberTold events refl (record {
+          above = t.over;
+          member = t.own;
+          below = t.under;
+          stepped = is.stepped;
+          links = link_at new.links;
+          were = t.are;
+          taken = subst (λ (r : Record). told r t.own.node ≡ Taken is.stepped) (sym shows.recorded) (subst (λ (n : NodeState). told old.recorded n ≡ Taken is.stepped) (sym node) is.taken);
+          sent = subst (λ (n : NodeState). HasSent n.place.slot is.stepped.out.messages v.links (link_at new.links)) (sym node)
+              (subst (λ l. HasSent is.before.node.state.place.slot is.stepped.out.messages l (link_at new.links)) (sym shows.links) is.sent);
+          out = subst (λ rs. ArePutOut rs events) is.told_so put_out;
+          are = refl;
+        }),
       )
   tells_goes at s stands new replies (inr is) put_out =
       subst GoesOn (sym is.are) (halts about keeps may_leave_now old at is.before is.here v s shows stands causes.Memory events is.ran memory_is_one (subst (λ rs. ArePutOut rs events) is.told_so put_out))

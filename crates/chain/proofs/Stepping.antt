@@ -24,6 +24,10 @@ all_at P xs at x here all = let place = place_of xs at x here in All-head P x pl
 pub read_at : {S : Type 0} (old now : Chained S) (at : ℕ) (x : Linked S) → old ≡ now → at < length now.members → x ≡ slice_index_or old.members at x → slice_get old.members at ≡ Some x
 read_at old now at x same within is = slice_get_read old.members (length now.members) at x (ap (λ o. length o.members) (sym same)) within is
 
+-- just this happens
+pub just_goes : (size : ℕ) (v w : View) (h : Happening) (events : List ClientEvent) → are_inner (h ∷ []) ≡ true → Happens size h v w events → Goes size v w events
+just_goes size v w h events inner happens = record { happenings = h ∷ []; each = events ∷ []; inner = inner; era = (w, events, [], refl, happens, (refl, refl)); all = append-nil events }
+
 -- the member uses the board as before
 pub record UsesAsBefore {S : Type 0} (before after : Linked S) : Type 0 where
   pub front : fronts_of after.front ≡ fronts_of before.front
@@ -105,7 +109,7 @@ module _ {S : Type 0} (about : S → About) (keeps : S → List ℕ → Type 0) 
             links = shows.links;
             submits = shows.submits;
           },
-          record { happenings = h ∷ []; each = events ∷ []; inner = inner; era = (with_members v (twin.over ++ did.0 ∷ twin.under), events, [], refl, did.2, (refl, refl)); all = append-nil events },
+          just_goes (bytes_of old) v (with_members v (twin.over ++ did.0 ∷ twin.under)) h events inner did.2,
         )
 
     -- the member does so
