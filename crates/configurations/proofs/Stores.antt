@@ -6,7 +6,7 @@ use Rattle.disk_model.specs.Moments.{weaker}
 use Rattle.disk_model.specs.Part.{inside}
 use Rattle.gate_journal.specs.Pair.{Entry, HoldsClosing, HoldsStored, IsSettledPair, Slots, last_number, newest, next_slot, with_entry}
 use Rattle.configurations.specs.Record.{IsEncoding, Record}
-use Rattle.configurations.specs.Store.{HoldsOldOrNew, HoldsRecord, IsSettledConfig, Records, State, settled_leaves}
+use Rattle.configurations.specs.Store.{HoldsNumbered, HoldsOldOrNew, HoldsOldOrNext, HoldsRecord, IsSettledConfig, Records, State, settled_leaves, settled_leaves_numbered}
 use Rattle.configurations.proofs.Encodings.{records_apart}
 
 -- an entry records one record at most
@@ -53,7 +53,38 @@ module _ (store : State) (gives : List ℕ) (may_leave : List ℕ → Type 0) (s
         either)
         held
 
+  -- the record stays with its number, or the new one has the next
+  old_or_next : Empties → Fills → (payload : List ℕ) (new : Record) → IsEncoding payload new → (bytes : List ℕ) → HoldsStored slots into (record { number = store.pair.number + 1; payload = payload }) bytes → HoldsOldOrNext store new bytes
+  old_or_next empties fills payload new encodes bytes held =
+      let made : Entry = record { number = store.pair.number + 1; payload = payload } in
+      let newer : newest (with_entry (next_slot slots) (Some made) slots) ≡ Some made = fills slots made (ap (λ (n : ℕ). n + 1) settled.pair.number) in
+      let same : newest (with_entry into (Some made) slots) ≡ Some made = ap (λ (k : ℕ). newest (with_entry k (Some made) slots)) settled.pair.into ∙ newer in
+      let empty : newest (with_entry into None slots) ≡ newest slots = ap (λ (k : ℕ). newest (with_entry k None slots)) settled.pair.into ∙ empties slots in
+      ⊎_elim
+      (λ holds. inl (record { slots = slots; holds = holds; newer = settled.newer; numbered = sym settled.pair.number }))
+      (λ either. ⊎_elim
+      (λ holds. inl (record {
+        slots = with_entry into None slots;
+        holds = holds;
+        newer = subst (λ (e : Option Entry). Records e store.current) (sym empty) settled.newer;
+        numbered = ap last_number empty ∙ sym settled.pair.number;
+      }))
+      (λ holds. inr (record {
+        slots = with_entry into (Some made) slots;
+        holds = holds;
+        newer = subst (λ (e : Option Entry). Records e new) (sym same) encodes;
+        numbered = ap last_number same;
+      }))
+      either)
+      held
+
   module _ {D : Type 0} (moment : D → ℕ) (left_since : D → ℕ → List ℕ → Type 0) where
+    -- before the first device call it is held with its number
+    pub next_before : (new : Record) (disk : D) → ((c : List ℕ) → left_since disk (moment disk) c → may_leave c) → LeavesOnly moment left_since disk disk (λ c. HoldsOldOrNext store new (inside store.pair.part c))
+    next_before new disk only_now =
+        weaker moment left_since disk disk (λ c. HoldsNumbered store.current store.pair.number (inside store.pair.part c)) (λ c. HoldsOldOrNext store new (inside store.pair.part c)) (λ c holds. inl holds)
+        (started_inside store.pair.part (HoldsNumbered store.current store.pair.number) disk may_leave only_now (settled_leaves_numbered settled))
+
     -- before the first device call the record is held
     pub held_before : (disk : D) → ((c : List ℕ) → left_since disk (moment disk) c → may_leave c) → LeavesOnly moment left_since disk disk (λ c. HoldsRecord store.current (inside store.pair.part c))
     held_before disk only_now = started_inside store.pair.part (HoldsRecord store.current) disk may_leave only_now (settled_leaves settled)
@@ -78,3 +109,11 @@ module _ (view now : State) (is : view ≡ now) {gives : List ℕ} {may_leave : 
   either_storing fills payload new encodes run = subst (λ (s : State). IsSettledConfig s gives may_leave → LeavesOnly moment left_since from to (λ c. HoldsOldOrNew s.current new (inside s.pair.part c))) is
       (λ settled. weaker moment left_since from to (λ c. HoldsStored settled.slots view.pair.into (record { number = view.pair.number + 1; payload = payload }) (inside view.pair.part c)) (λ c. HoldsOldOrNew view.current new (inside view.pair.part c))
       (λ c. old_or_new view gives may_leave settled payload new encodes empties fills (inside view.pair.part c)) (run settled.slots settled.pair))
+
+  -- with their numbers
+  pub next_storing : Fills → (payload : List ℕ) (new : Record) → IsEncoding payload new
+      → ((slots : Slots) → IsSettledPair view.pair slots gives may_leave → LeavesOnly moment left_since from to (λ c. HoldsStored slots view.pair.into (record { number = view.pair.number + 1; payload = payload }) (inside view.pair.part c)))
+      → IsSettledConfig now gives may_leave → LeavesOnly moment left_since from to (λ c. HoldsOldOrNext now new (inside now.pair.part c))
+  next_storing fills payload new encodes run = subst (λ (s : State). IsSettledConfig s gives may_leave → LeavesOnly moment left_since from to (λ c. HoldsOldOrNext s new (inside s.pair.part c))) is
+      (λ settled. weaker moment left_since from to (λ c. HoldsStored settled.slots view.pair.into (record { number = view.pair.number + 1; payload = payload }) (inside view.pair.part c)) (λ c. HoldsOldOrNext view new (inside view.pair.part c))
+      (λ c. old_or_next view gives may_leave settled empties fills payload new encodes (inside view.pair.part c)) (run settled.slots settled.pair))

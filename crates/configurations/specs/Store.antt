@@ -3,7 +3,7 @@ use Rattle.std.specs.Prelude.{◌≡◌, ◌⊎◌, ℕ, ◌+◌, ◌<◌, true,
 use Rattle.std.proofs.Common.{subst, sym}
 use Rattle.disk_model.specs.Part.{inside, LeftInside}
 use Rattle.disk_model.specs.declared.part.Part.{Part}
-use Rattle.gate_journal.specs.Pair.{Entry, HoldsPair, IsCleared, IsSettledPair, Pair, Slots, newest, stored}
+use Rattle.gate_journal.specs.Pair.{Entry, HoldsPair, IsCleared, IsSettledPair, Pair, Slots, last_number, newest, stored}
 use Rattle.gate_journal.specs.declared.batch.TheConstants.{MAX_NUMBER}
 use Rattle.configurations.specs.Record.{IsEncoding, Record}
 
@@ -17,6 +17,17 @@ pub record HoldsRecord (r : Record) (bytes : List ℕ) : Type 0 where
   pub slots : Slots
   pub holds : HoldsPair slots bytes
   pub newer : Records (newest slots) r
+
+-- the bytes hold this record, and this is the number of the store that put it there
+pub record HoldsNumbered (r : Record) (number : ℕ) (bytes : List ℕ) : Type 0 where
+  pub slots : Slots
+  pub holds : HoldsPair slots bytes
+  pub newer : Records (newest slots) r
+  pub numbered : last_number (newest slots) ≡ number
+
+-- so they hold the record
+pub numbered_holds : {r : Record} {number : ℕ} {bytes : List ℕ} → HoldsNumbered r number bytes → HoldsRecord r bytes
+numbered_holds is = record { slots = is.slots; holds = is.holds; newer = is.newer }
 
 -- the bytes hold no record: no slot is open, or the newer open one encodes none
 abbrev pub HoldsNone : List ℕ → Type 0
@@ -48,6 +59,18 @@ settled_holds settled = record { slots = settled.slots; holds = settled.pair.hol
 -- and so does whatever a stop may leave
 pub settled_leaves : {store : State} {gives : List ℕ} {may_leave : List ℕ → Type 0} → IsSettledConfig store gives may_leave → (x : List ℕ) → LeftInside store.pair.part may_leave x → HoldsRecord store.current x
 settled_leaves {store} settled x left = subst (HoldsRecord store.current) (sym (settled.pair.durable x left)) (settled_holds settled)
+
+-- and with the number of the store's last one
+pub settled_numbered : {store : State} {gives : List ℕ} {may_leave : List ℕ → Type 0} → IsSettledConfig store gives may_leave → HoldsNumbered store.current store.pair.number (inside store.pair.part gives)
+settled_numbered settled = record { slots = settled.slots; holds = settled.pair.holds; newer = settled.newer; numbered = sym settled.pair.number }
+
+pub settled_leaves_numbered : {store : State} {gives : List ℕ} {may_leave : List ℕ → Type 0} → IsSettledConfig store gives may_leave → (x : List ℕ) → LeftInside store.pair.part may_leave x
+    → HoldsNumbered store.current store.pair.number x
+settled_leaves_numbered {store} settled x left = subst (HoldsNumbered store.current store.pair.number) (sym (settled.pair.durable x left)) (settled_numbered settled)
+
+-- while a record is replaced, the bytes hold the old one with its number, or the new one with the next
+abbrev pub HoldsOldOrNext : State → Record → List ℕ → Type 0
+HoldsOldOrNext store new bytes = HoldsNumbered store.current store.pair.number bytes ⊎ HoldsNumbered new (store.pair.number + 1) bytes
 
 -- a record of this epoch is the next one: the epoch is the last one's plus 1, and the pair has a number left
 pub record IsNext (store : State) (epoch : ℕ) : Type 0 where

@@ -2,7 +2,7 @@
 
 ghost use Rattle.std.specs.Prelude.{◌≡◌, ℕ, List};
 ghost use Rattle.configurations.specs.Record.{IsRecord, Record, record_encoding};
-ghost use Rattle.configurations.specs.Store.{HoldsRecord};
+ghost use Rattle.configurations.specs.Store.{HoldsNumbered, HoldsRecord};
 
 use gate_journal::pair_readings_are_one;
 
@@ -14,6 +14,13 @@ pub fn encodings_differ()
 /// The bytes of a pair hold one record at most.
 pub fn records_are_one()
     ensures { (some other : Record) (bytes : List ℕ) → HoldsRecord some bytes → HoldsRecord other bytes → some ≡ other }
+{
+    pair_readings_are_one();
+}
+
+/// And the store that put it there has one number.
+pub fn numbers_are_one()
+    ensures { (some other : Record) (number another : ℕ) (bytes : List ℕ) → HoldsNumbered some number bytes → HoldsNumbered other another bytes → number ≡ another }
 {
     pair_readings_are_one();
 }

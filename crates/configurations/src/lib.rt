@@ -16,7 +16,7 @@ mod refusal;
 mod store;
 
 pub use epoch::Epoch;
-pub use laws::{encodings_differ, records_are_one};
+pub use laws::{encodings_differ, numbers_are_one, records_are_one};
 pub use member::{Incarnation, Member};
 pub use record::{MAX_MEMBERS, Record};
 pub use refusal::Refusal;

@@ -4,7 +4,7 @@ ghost use Rattle.disk_model.specs.Disk.{LeavesOnly, Only};
 ghost use Rattle.disk_model.specs.Part.{inside, TouchesOnly};
 ghost use Rattle.gate_journal.specs.Runs.{OnlyReads};
 ghost use Rattle.configurations.specs.Refusal.{HasCause, IsOfBeginning, IsOfCreating, IsOfDevice, IsOfOpening, IsOfRecording};
-ghost use Rattle.configurations.specs.Store.{HoldsNone, HoldsOldOrNew, HoldsRecord, IsBeingMade, IsNext, IsSettledConfig, begun, created, failed, recorded};
+ghost use Rattle.configurations.specs.Store.{HoldsNone, HoldsOldOrNew, HoldsOldOrNext, HoldsRecord, IsBeingMade, IsNext, IsSettledConfig, begun, created, failed, recorded};
 
 use crate::{Epoch, Record, Refusal};
 use disk_model::{Disk, Part};
@@ -61,6 +61,7 @@ impl ConfigStore {
         ensures told { IfErr result IsOfCreating }
         ensures unchanged { IfErr result (λ r. ¬ IsOfDevice r → disk.new ≡ disk.old) }
         ensures cause { HasCause (D.failures disk.old) (D.failures disk.new) result }
+        ensures most { D.most_failures disk.new ≤ D.most_failures disk.old }
         ensures calls { D.calls_made disk.new ≤ D.calls_made disk.old + 12 }
     {
         let payload = first.encoded(alloc)?;
@@ -91,6 +92,7 @@ impl ConfigStore {
         ensures size { D.size disk.new ≡ D.size disk.old }
         ensures told { IfErr result IsOfOpening }
         ensures cause { HasCause (D.failures disk.old) (D.failures disk.new) result }
+        ensures most { D.most_failures disk.new ≤ D.most_failures disk.old }
     {
         pair_readings_are_one();
         let (pair, payload) = GatedPair::load(alloc, disk, part)?;
@@ -177,6 +179,7 @@ impl ConfigStore {
         ensures unchanged { IfErr result (λ r. ¬ IsOfDevice r → (self.new ≡ self.old) × (disk.new ≡ disk.old)) }
         ensures device { IfErr result (λ r. IsOfDevice r → self.new ≡ failed self.old) }
         ensures cause { HasCause (D.failures disk.old) (D.failures disk.new) result }
+        ensures most { D.most_failures disk.new ≤ D.most_failures disk.old }
         ensures calls { D.calls_made disk.new ≤ D.calls_made disk.old + 2 }
     {
         stores_leave_old_or_new();
@@ -218,6 +221,7 @@ impl ConfigStore {
         ensures unchanged { IfErr result (λ r. ¬ IsOfDevice r → (self.new ≡ self.old) × (disk.new ≡ disk.old)) }
         ensures device { IfErr result (λ r. IsOfDevice r → self.new ≡ failed self.old) }
         ensures cause { HasCause (D.failures disk.old) (D.failures disk.new) result }
+        ensures most { D.most_failures disk.new ≤ D.most_failures disk.old }
         ensures calls { D.calls_made disk.new ≤ D.calls_made disk.old + 4 }
     {
         stores_leave_old_or_new();
@@ -248,9 +252,11 @@ impl ConfigStore {
             → OnOk result (IsSettledConfig self.new (D.gives disk.new) (D.may_leave_now disk.new)) }
         ensures whole { D.keeps_model → OnOk result (Only (D.gives disk.new) (D.may_leave_now disk.new)) }
 
-        // A stop at any moment of the call leaves the old record or the new.
+        // A stop at any moment of the call leaves the old record or the new, with the number of the last store or the next.
         ensures any_moment { D.keeps_model → IsSettledConfig self.old (D.gives disk.old) (D.may_leave_now disk.old)
             → LeavesOnly D.moment D.may_have_left_since disk.old disk.new (λ c. HoldsOldOrNew self.old.current next (inside self.old.pair.part c)) }
+        ensures numbered { D.keeps_model → IsSettledConfig self.old (D.gives disk.old) (D.may_leave_now disk.old)
+            → LeavesOnly D.moment D.may_have_left_since disk.old disk.new (λ c. HoldsOldOrNext self.old next (inside self.old.pair.part c)) }
         ensures frame { D.keeps_model → TouchesOnly D.gives D.may_leave_now D.moment D.may_have_left_since self.old.pair.part disk.old disk.new }
         ensures size { D.size disk.new ≡ D.size disk.old }
 
@@ -260,6 +266,7 @@ impl ConfigStore {
         ensures unchanged { IfErr result (λ r. ¬ IsOfDevice r → (self.new ≡ self.old) × (disk.new ≡ disk.old)) }
         ensures device { IfErr result (λ r. IsOfDevice r → self.new ≡ record self.old { pair = record self.old.pair { is_closed = self.new.pair.is_closed; broken = true } }) }
         ensures cause { HasCause (D.failures disk.old) (D.failures disk.new) result }
+        ensures most { D.most_failures disk.new ≤ D.most_failures disk.old }
         ensures calls { D.calls_made disk.new ≤ D.calls_made disk.old + 6 }
     {
         stores_leave_old_or_new();
