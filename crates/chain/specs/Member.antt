@@ -20,6 +20,11 @@ pub record Linked (S : Type 0) : Type 0 where
   pub muster : Option Muster
   pub receipt : Option Receipt
 
+-- its store's disk is its own: that of its slot and its incarnation
+pub record HasOwnDisk {S : Type 0} (about : S → About) (m : Linked S) : Type 0 where
+  pub slot : (about m.node.store).slot ≡ m.node.state.place.slot
+  pub incarnation : (about m.node.store).incarnation ≡ m.node.state.incarnation
+
 -- this is of the board, and was found by the seat
 abbrev pub IsFrontOf : BoardId → ℕ → FoundFront → Type 0
 IsFrontOf id seat front = (front.board ≡ id) × (front.seat ≡ seat)

@@ -1,6 +1,7 @@
-ghost use Rattle.std.specs.Prelude.{◌≡◌, ◌<◌, IfSome, length, slice_get};
+ghost use Rattle.std.specs.Prelude.{◌≡◌, ◌<◌, All, IfSome, length, slice_get};
 ghost use Rattle.chain_steps.specs.Node.{durable_of, is_stopped, last_of};
 ghost use Rattle.chain_model.specs.View.{is_in};
+ghost use Rattle.chain.specs.Member.{HasOwnDisk};
 
 use crate::links::Links;
 use crate::lone_board::LoneBoard;
@@ -66,6 +67,15 @@ impl<S: StoreLike> Model for Chain<S> {
 }
 
 impl<S: StoreLike + Drop> Chain<S> {
+    /// Does nothing: its clause is what holds of all members.
+    pub fn sound(&self)
+        ensures { All (HasOwnDisk S.about) self.now.members }
+    {
+        for member in &self.members {
+            member.sound();
+        }
+    }
+
     /// How many members it has, those too that were removed.
     pub fn len(&self) -> usize
         ensures { result ≡ length self.now.members }

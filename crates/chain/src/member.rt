@@ -36,6 +36,15 @@ impl<S: StoreLike> Model for Member<S> {
 }
 
 impl<S: StoreLike + Drop> Member<S> {
+    ghost use Rattle.chain.specs.Member.{HasOwnDisk};
+
+    /// Does nothing: its clause is what holds of every member.
+    pub(crate) fn sound(&self)
+        ensures { HasOwnDisk S.about self.now }
+    {
+        self.node.sound();
+    }
+
     /// Its slot.
     pub(crate) fn slot(&self) -> Slot
         ensures { result ≡ self.now.node.state.place.slot }

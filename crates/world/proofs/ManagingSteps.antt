@@ -27,7 +27,7 @@ use Rattle.world.specs.Telling.{handed_by, handed_in}
 use Rattle.world.specs.World.{IsOfOneVolume, Seen}
 use Rattle.world.specs.declared.told.Told.{Told}
 use Rattle.world.proofs.InnerSteps.{rests_so}
-use Rattle.world.specs.Management.{IsMemberAt, Managing, has_stopped_in, knows, noted_one}
+use Rattle.world.specs.Management.{HoldsWritten, IsMemberAt, Managing, has_stopped_in, knows, noted_one}
 use Rattle.world.proofs.CallSteps.{some_of}
 
 -- ---- the member at a slot
@@ -136,7 +136,7 @@ module _ {S : Type 0} (c : Chained S) (st now later : State) (at : ℕ) where
 module _ {D : Type 0} (moment : D → ℕ) (left_since : D → ℕ → List ℕ → Type 0) (store : configs.State) (writing : Option Record) where
   -- a stop leaves the record that is there, or the one that is being written
   abbrev pub HoldsEither : List ℕ → Type 0
-  HoldsEither c = HoldsRecord store.current (inside store.pair.part c) ⊎ IfSome writing (λ next. HoldsRecord next (inside store.pair.part c))
+  HoldsEither c = HoldsRecord store.current (inside store.pair.part c) ⊎ HoldsWritten writing (inside store.pair.part c)
 
   -- nothing is written
   pub held_still : {gives : List ℕ} {may_leave : List ℕ → Type 0} (disk : D) → ((c : List ℕ) → left_since disk (moment disk) c → may_leave c) → IsSettledConfig store gives may_leave
@@ -152,7 +152,7 @@ module _ {D : Type 0} (moment : D → ℕ) (left_since : D → ℕ → List ℕ 
       weaker moment left_since old new (λ c. HoldsOldOrNew store.current next (inside store.pair.part c)) HoldsEither
       (λ c either. elim either [
         | inl holds ↦ inl holds
-        | inr holds ↦ inr (subst (λ (o : Option Record). IfSome o (λ next. HoldsRecord next (inside store.pair.part c))) (sym is) holds)
+        | inr holds ↦ inr (next, is, holds)
       ]) run
 
 -- and so it is of a manager, as it is seen

@@ -1,8 +1,8 @@
 -- The manager of a world, and what its orders do.
-use Rattle.std.specs.Prelude.{◌≡◌, ◌⊎◌, ℕ, ◌+◌, ◌≤◌, Bool, ◌&&◌, ◌||◌, true, false, if◌then◌else◌, None, Some, [], fold, slice_get}
+use Rattle.std.specs.Prelude.{◌≡◌, ◌⊎◌, ℕ, ◌+◌, ◌≤◌, Bool, ◌&&◌, ◌||◌, true, false, if◌then◌else◌, Option, None, Some, List, [], fold, slice_get}
 use Rattle.configurations.specs.Record.{Record}
 use Rattle.configurations.specs.Store as configs
-use Rattle.configurations.specs.Store.{recorded}
+use Rattle.configurations.specs.Store.{HoldsRecord, recorded}
 use Rattle.manager.specs.Manager as managers
 use Rattle.manager.specs.Manager.{begun_of, done_of, has_slot, is_joining, next_of, record_of, stopped_at}
 use Rattle.manager.specs.Orders.{is_record}
@@ -57,6 +57,14 @@ pub record HasBegun {S D : Type 0} (old new : Managing D) (world after : Seen S)
 -- no record is the next order, or it may not come next
 abbrev pub BeginsNone : {S D : Type 0} → Managing D → Seen S → Type 0
 BeginsNone old world = (record_of old.manager ≡ None) ⊎ ((next : Record) × (record_of old.manager ≡ Some next) × (MayBegin world.chain next → ⊥))
+
+-- the bytes hold the record that is being written
+abbrev pub HoldsWritten : Option Record → List ℕ → Type 0
+HoldsWritten writing bytes = (next : Record) × (writing ≡ Some next) × HoldsRecord next bytes
+
+-- the bytes hold the recorded chain's record, or the one that is being written
+abbrev pub HoldsOne : {S : Type 0} → Chained S → List ℕ → Type 0
+HoldsOne c bytes = HoldsRecord c.recorded bytes ⊎ HoldsWritten c.writing bytes
 
 -- The record that is being written stands on the disk, and is the recorded one.
 pub record HasEnded {S D : Type 0} (old new : Managing D) (world after : Seen S) : Type 0 where

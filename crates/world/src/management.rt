@@ -2,15 +2,15 @@
 ghost use Rattle.std.specs.Prelude.{◌≡◌, ◌≢◌, ◌⊎◌, ◌+◌, ◌∷◌, ◌++◌, ◌<◌, ◌≤◌, [], None, Some, false, length, replicate, true, IfErr, IfNone, IfOk, IfSome, IsErrOf, IsOk, OnErr, OnOk};
 ghost use Rattle.configurations.specs.Refusal.{HasCause, IsOfDevice, IsOfRecording};
 ghost use Rattle.configurations.specs.Store.{HoldsRecord, IsSettledConfig};
-ghost use Rattle.disk_model.specs.Disk.{LeavesOnly};
+ghost use Rattle.disk_model.specs.Disk.{LeavesOnly, NothingNew};
 ghost use Rattle.disk_model.specs.Event.{counted_from};
-ghost use Rattle.disk_model.specs.Memory.{IsAsBefore, calls_of, script_of};
+ghost use Rattle.disk_model.specs.Memory.{IsAsBefore, calls_of, may_be_left, script_of};
 ghost use Rattle.disk_model.specs.Part.{inside};
 ghost use Rattle.manager.specs.Manager.{next_of, removal_of, why_no_removal};
 ghost use Rattle.manager.specs.Orders.{is_record};
 ghost use Rattle.manager.specs.declared.refusal.Refusal.TheVariants as managers;
 ghost use Rattle.clients.specs.Clients.{no_one};
-ghost use Rattle.world.specs.Management.{BeginsNone, CountsNone, CountsOut, EndsNone, HasBegun, HasEnded, HasNobody, IsMemberAt, TellsNext, TellsNobody, TellsSlot, noted};
+ghost use Rattle.world.specs.Management.{BeginsNone, CountsNone, CountsOut, EndsNone, HasBegun, HasEnded, HasNobody, HoldsWritten, IsMemberAt, TellsNext, TellsNobody, TellsSlot, noted};
 ghost use Rattle.world.specs.Telling.{handed_some};
 ghost use Rattle.world.specs.World.{IsOfOneVolume};
 
@@ -58,6 +58,13 @@ impl<D: Disk + Drop> Management<D> {
             config,
             disk,
         }
+    }
+
+    /// Does nothing: its clause is what holds of every manager.
+    pub fn sound(&self)
+        ensures { self.now.config.pair.part.start + self.now.config.pair.part.len ≤ D.size self.now.disk }
+    {
+        let _ = &self.disk;
     }
 
     /// The next order.
@@ -144,7 +151,8 @@ impl<D: Disk + Drop> Management<D> {
     /// The record that is being written goes to the disk, by six device calls, and is the recorded one. `false` where no record is the next
     /// order, or none is being written that may be recorded: nothing changed.
     ///
-    /// What `ConfigStore::record` refuses: the record is being written still, and it may stand on the disk, or the one before.
+    /// What `ConfigStore::record` refuses: the record is being written still. After a refusal of the device it may stand on the disk, or
+    /// the one before; and then each such order is refused with 122.
     pub fn end_record<S: StoreLike + Drop>(&mut self, world: &mut World<S>) -> Result<bool, Refusal>
         ensures ended { IfOk result (λ done. done ≡ true → HasEnded self.old self.new world.old world.new) }
         ensures settled { D.keeps_model → IsSettledConfig self.old.config (D.gives self.old.disk) (D.may_leave_now self.old.disk)
@@ -152,14 +160,16 @@ impl<D: Disk + Drop> Management<D> {
         ensures idle { IfOk result (λ done. done ≡ false → EndsNone self.old world.old × ((self.new ≡ self.old) × (world.new ≡ world.old))) }
         ensures world { OnErr result (world.new ≡ world.old) }
         ensures manager { OnErr result (self.new.manager ≡ self.old.manager) }
-        ensures unchanged { IfErr result (λ r. (IsOfDevice r → ⊥) → self.new ≡ self.old) }
+        ensures unchanged { IfErr result (λ r. ¬ IsOfDevice r → self.new ≡ self.old) }
         ensures told { IfErr result IsOfRecording }
         ensures cause { HasCause (D.failures self.old.disk) (D.failures self.new.disk) result }
+        ensures device { IfErr result (λ r. IsOfDevice r → self.new.config ≡ record self.old.config { pair = record self.old.config.pair { is_closed = self.new.config.pair.is_closed; broken = true } }) }
+        ensures broken { self.old.config.pair.broken ≡ true → IfErr result (λ r. ¬ IsOfDevice r) × IfOk result (λ done. done ≡ false) }
 
         // A stop at any moment of the call leaves the record that was there, or the one that is being written.
         ensures any_moment { D.keeps_model → IsSettledConfig self.old.config (D.gives self.old.disk) (D.may_leave_now self.old.disk)
             → LeavesOnly D.moment D.may_have_left_since self.old.disk self.new.disk (λ c. HoldsRecord self.old.config.current (inside self.old.config.pair.part c)
-            ⊎ IfSome world.old.chain.writing (λ next. HoldsRecord next (inside self.old.config.pair.part c))) }
+            ⊎ HoldsWritten world.old.chain.writing (inside self.old.config.pair.part c)) }
         ensures one_volume { S.keeps_model → IsOfOneVolume S.about S.keeps S.may_leave_now no_one no_one world.old world.new }
     {
         if !self.next_is_record() || !world.may_end() {
@@ -248,6 +258,7 @@ impl Management<MemDisk> {
         ensures ok { OnOk result (script_of self.new.disk ≡ script_of self.old.disk ++ counted_from (calls_of self.old.disk) event ∷ []) }
         ensures err { OnErr result (script_of self.new.disk ≡ script_of self.old.disk) }
         ensures stays { IsAsBefore self.old.disk self.new.disk }
+        ensures leaves { NothingNew (may_be_left self.old.disk) (may_be_left self.new.disk) }
         ensures manager { self.new.manager ≡ self.old.manager }
         ensures config { self.new.config ≡ self.old.config }
     {

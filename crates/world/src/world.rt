@@ -36,6 +36,7 @@ impl<S: StoreLike> Model for World<S> {
 
 impl<S: StoreLike + Drop> World<S> {
     ghost use Rattle.chain.specs.Chain as chains;
+    ghost use Rattle.chain.specs.Member.{HasOwnDisk};
     ghost use Rattle.clients.specs.Clients.{AreSessions};
     ghost use Rattle.world.specs.World.{HasNoClients, IsJoined, Shows};
     ghost use Rattle.chain_model.specs.View.{View};
@@ -78,8 +79,10 @@ impl<S: StoreLike + Drop> World<S> {
     pub fn sound(&self)
         ensures joined { IsJoined self.now }
         ensures sessions { AreSessions self.now.sessions }
+        ensures disks { All (HasOwnDisk S.about) self.now.chain.members }
     {
         self.clients.sound();
+        self.chain.sound();
     }
 
     /// How many members it has, those too that were removed.
