@@ -31,3 +31,11 @@ zip_there R [] (b ∷ ys) k y all there = absurd all
 zip_there R (a ∷ xs) [] k y all there = absurd all
 zip_there R (a ∷ xs) (b ∷ ys) zero y all there = let some : Some b ≡ Some y = there in let same : b ≡ y = cc some in (a, refl, subst (R a) same all.0)
 zip_there R (a ∷ xs) (b ∷ ys) (suc k) y all there = zip_there R xs ys k y all.1 there
+
+-- nobody stands beside where nothing is
+pub zip_nobody : {A B : Type 0} (R : A → B → Type 0) (xs : List A) (ys : List B) (k : ℕ) → AllZip R xs ys → slice_get ys k ≡ None → slice_get xs k ≡ None
+zip_nobody R [] [] k all none = refl
+zip_nobody R [] (b ∷ ys) k all none = absurd all
+zip_nobody R (a ∷ xs) [] k all none = absurd all
+zip_nobody R (a ∷ xs) (b ∷ ys) zero all none = let clash : Some b ≡ None = none in absurd (cc)
+zip_nobody R (a ∷ xs) (b ∷ ys) (suc k) all none = zip_nobody R xs ys k all.1 none

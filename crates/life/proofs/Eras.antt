@@ -1,6 +1,6 @@
 -- One era after another: lemmas.
 use Rattle.std.proofs.Common.{◌≡◌, ℕ, List, [], ◌∷◌, ◌++◌, map, refl, ap, sym, subst, ◌∙◌}
-use Rattle.std.specs.Prelude.{◌*◌, true, All, IfSome, Some, slice_get, zip}
+use Rattle.std.specs.Prelude.{◌*◌, All, Some, slice_get, zip}
 use Rattle.std.specs.List.{range_with_len}
 use Rattle.std.proofs.lemmas.Option.{get_or_from_slice_get}
 use Rattle.disk_model.specs.Memory.{given_of}
@@ -14,25 +14,27 @@ use Rattle.volume.specs.declared.geometry.Geometry.{Geometry}
 use Rattle.chain_model.specs.Chain.{StandsFor}
 use Rattle.chain_model.specs.Laws.{FirstChain, IsOnEachDisk, RestartsChain}
 use Rattle.chain_model.specs.Life.{HappeningsAreOfOneVolume}
-use Rattle.chain_model.specs.View.{may_be_recorded}
 use Rattle.world_model.specs.Machine.{Restart, State, after, shown, start}
 use Rattle.chain_model.specs.Refusing.{RefusalsHavePleas, StopsHaveCauses}
 use Rattle.chain.specs.Chain.{bytes_of}
-use Rattle.chain.specs.Member.{Linked}
+use Rattle.chain.specs.Member.{HasOwnDisk, Linked}
 use Rattle.clients.specs.Clients.{AreSessions}
+use Rattle.configurations.specs.Record.{Record}
 use Rattle.clients.specs.Laws.{FirstHasNone, OutputsAreLawful}
 use Rattle.world.specs.World.{IsJoined, Seen}
 use Rattle.life.specs.Begun.{BeginsWith, IsCutFrom, export_of, first_about, stores_of}
-use Rattle.life.specs.Headline.{AreRefusedSo, EraLeads, ErasLead, HasWhatIsOwed, IsOneLife}
+use Rattle.life.specs.Headline.{AreRefusedSo, EraLeads, ErasLead, HasDisk, HasWhatIsOwed, IsOneLife, first_record}
 use Rattle.life.specs.Lived.{AreOfOneVolume, IsFresh}
-use Rattle.life.specs.Plays.{DeedsLead, GoesOnFrom, IsRecorded}
+use Rattle.life.specs.Managed.{AreInStep, IsAtRest, IsConfigured, Managed, MayStand}
+use Rattle.life.specs.Plays.{DeedsLead, GoesOnFrom}
 use Rattle.life.specs.declared.answer.Answer.{Answer}
 use Rattle.life.specs.declared.era.Answers.{Answers}
 use Rattle.life.specs.declared.era.Era.{Era}
 use Rattle.life.proofs.Beside.{zip_there}
-use Rattle.life.proofs.Lives.{each_disk, era_lawful, exported_as, may_be, recovers}
+use Rattle.life.proofs.Lives.{each_disk, era_lawful, exported_as, in_own, may_be_in, recovers}
 use Rattle.life.proofs.Passing.{goes_plays}
 use Rattle.life.proofs.Pleas.{refused_so}
+use Rattle.life.proofs.Places.{all_at}
 use Rattle.life.proofs.Stops.{there_at}
 
 -- what is so of each that is at a place is so of all
@@ -41,10 +43,10 @@ all_from Q xs each = λ k d within. let (x, here) = there_at xs k within in subs
 
 module _ {S : Type 0} (premise : Type 0) (about : S → About) (keeps : S → List ℕ → Type 0) (is_pending : S → ℕ → Type 0) (may_leave_now : S → List ℕ → Type 0) (moment : S → ℕ)
     (left_since : S → ℕ → List ℕ → Type 0) (failures : S → ℕ) (disk : S → MemDisk) where
-  abbrev Leads : Export → Era → List Answer → Seen S → State → Seen S → State → Type 0
+  abbrev Leads : Export → Era → List Answer → Managed S → State → Managed S → State → Type 0
   Leads = EraLeads premise about keeps is_pending may_leave_now moment left_since failures disk
 
-  abbrev Lead : Export → List Era → List Answers → Seen S → State → Seen S → State → Type 0
+  abbrev Lead : Export → List Era → List Answers → Managed S → State → Managed S → State → Type 0
   Lead = ErasLead premise about keeps is_pending may_leave_now moment left_since failures disk
 
   abbrev Fresh : Export → Seen S → State → Type 0
@@ -52,54 +54,59 @@ module _ {S : Type 0} (premise : Type 0) (about : S → About) (keeps : S → Li
 
   -- whatever a stop may leave of the member's disk has what is owed, if it may be recorded
   abbrev HasOwed : ℕ → State → Seen S → Linked S → Type 0
-  HasOwed size s w m = may_be_recorded w.chain.recorded w.chain.writing m.node.state ≡ true → (bytes : List ℕ) → may_leave_now m.node.store bytes → HasWhatIsOwed size s (about m.node.store) bytes
+  HasOwed size s w m = (r : Record) → MayStand w.chain r → HasDisk r (about m.node.store) → (bytes : List ℕ) → may_leave_now m.node.store bytes → HasWhatIsOwed size s (about m.node.store) bytes
 
   -- an era whose deeds were played, behind which the chain goes on from a disk
   pub era_leads : HappeningsAreOfOneVolume → RefusalsHavePleas → StopsHaveCauses → RestartsChain → IsOnEachDisk → FirstHasNone → OutputsAreLawful
       → ((one other : Meaning) (bytes : List ℕ) → Means one bytes → Means other bytes → one ≡ other)
-      → (era : Era) (answers : List Answer) (dropped : SessionId → List ℕ) (old mid new : Seen S) → IsJoined old → IsJoined mid → AreSessions mid.sessions
+      → (era : Era) (answers : List Answer) (dropped : SessionId → List ℕ) (old mid new : Managed S) → IsJoined old.world → IsJoined mid.world → AreSessions mid.world.sessions
+      → All (HasOwnDisk about) mid.world.chain.members → IsConfigured mid → AreInStep mid
       → DeedsLead premise about keeps is_pending may_leave_now moment left_since failures disk era.deeds.items answers old mid
-      → AreOfOneVolume about keeps may_leave_now (zip era.deeds.items answers) dropped old mid
+      → AreOfOneVolume about keeps may_leave_now (zip era.deeds.items answers) dropped old.world mid.world
       → GoesOnFrom about keeps may_leave_now disk era mid new
-      → (export : Export) (s : State) → Fresh export old s → (t : State) × Leads export era answers old s new t × Fresh export new t
-  era_leads happenings pleas causes restarts each_has first lawful one_meaning era answers dropped old mid new joined joined_then are played pass goes export s fresh =
-      let size : export.size ≡ bytes_of old.chain = ap (λ e. e.size) (sym fresh.has) ∙ joined.size in
+      → (export : Export) (s : State) → Fresh export old.world s → (t : State) × Leads export era answers old s new t × Fresh export new.world t
+  era_leads happenings pleas causes restarts each_has first lawful one_meaning era answers dropped old mid new joined joined_then are owners configured in_step played pass goes export s fresh =
+      let size : export.size ≡ bytes_of old.world.chain = ap (λ e. e.size) (sym fresh.has) ∙ joined.size in
       let stands = subst (λ n. StandsFor n fresh.view s) size fresh.stands in
       let turn = pass fresh.view s fresh.shows stands in
       let one = turn.happens in
-      let plays = goes_plays happenings (bytes_of old.chain) fresh.view one.w one.events one.goes s stands in
-      let stays : bytes_of mid.chain ≡ bytes_of old.chain = sym joined_then.size ∙ ap (λ e. e.size) one.remain.export ∙ joined.size in
+      let plays = goes_plays happenings (bytes_of old.world.chain) fresh.view one.w one.events one.goes s stands in
+      let stays : bytes_of mid.world.chain ≡ bytes_of old.world.chain = sym joined_then.size ∙ ap (λ e. e.size) one.remain.export ∙ joined.size in
       let stands_then = subst (λ n. StandsFor n one.w plays.1) (sym stays) plays.4 in
-      let exported : mid.sessions.export ≡ export = one.remain.export ∙ fresh.has in
-      let again : export_of mid.chain.geometry ≡ export = exported_as about keeps may_leave_now mid joined_then ∙ exported in
-      let (m, here, cut) = zip_there (λ m left. IsCutFrom may_leave_now disk era.cut m.node.store left) mid.chain.members goes.disks era.returned goes.returns goes.cut goes.there in
-      let (may, later) = recovers about keeps may_leave_now restarts mid one.w plays.1 era.returned m (given_of goes.returns) goes.meaning new one_meaning one.shows stands_then here
-      (may_be about keeps may_leave_now mid.chain m (subst (λ o. IfSome o (IsRecorded mid.chain)) here goes.recorded)) cut.left goes.means (ap export_of goes.sizes) goes.begins in (
-        after plays.1 (Restart goes.meaning.front),
+      let exported : mid.world.sessions.export ≡ export = one.remain.export ∙ fresh.has in
+      let again : export_of mid.world.chain.geometry ≡ export = exported_as about keeps may_leave_now mid.world joined_then ∙ exported in
+      let (m, here, cut) = zip_there (λ m left. IsCutFrom may_leave_now disk era.cut m.node.store left) mid.world.chain.members goes.disks era.returned goes.returns goes.cut.members goes.there in
+      let found = goes.recovers in
+      let (may, later) = recovers about keeps may_leave_now restarts mid.world one.w plays.1 era.returned m (given_of goes.returns) found.meaning new.world one_meaning one.shows stands_then here
+      found.recorded goes.recorded.either found.has (all_at (HasOwnDisk about) mid.world.chain.members era.returned m owners here) cut.left found.means (ap export_of goes.sizes) found.begins in (
+        after plays.1 (Restart found.meaning.front),
         record {
           end = mid;
           played = played;
           events = one.events;
-          lawful = era_lawful about keeps may_leave_now old mid (zip era.deeds.items answers) dropped fresh.view export turn first lawful fresh.no_clients are fresh.has;
+          lawful = era_lawful about keeps may_leave_now old.world mid.world (zip era.deeds.items answers) dropped fresh.view export turn first lawful fresh.no_clients are fresh.has;
           moves = plays.0;
           state = plays.1;
           runs = plays.2;
           shows = subst (λ n. shown n s plays.0 ≡ one.events) (sym size) plays.3;
-          refused = subst (λ n. AreRefusedSo about keeps may_leave_now n old s mid plays.1 one.events) (sym size)
-              (refused_so about keeps may_leave_now pleas causes happenings old mid fresh.view one.w s plays.1 one.events fresh.shows one.shows stands plays.4 fresh.runs one.goes);
-          disks = subst (λ n. All (HasOwed n plays.1 mid) mid.chain.members) (stays ∙ sym size)
-              (all_from (HasOwed (bytes_of mid.chain) plays.1 mid) mid.chain.members
-              (λ at x there may bytes left. each_disk about keeps may_leave_now each_has mid one.w plays.1 one.shows stands_then at x there may bytes left));
+          refused = subst (λ n. AreRefusedSo about keeps may_leave_now n old.world s mid.world plays.1 one.events) (sym size)
+              (refused_so about keeps may_leave_now pleas causes happenings old.world mid.world fresh.view one.w s plays.1 one.events fresh.shows one.shows stands plays.4 fresh.runs one.goes);
+          in_step = in_step;
+          config = configured.left;
+          disks = subst (λ n. All (HasOwed n plays.1 mid.world) mid.world.chain.members) (stays ∙ sym size)
+              (all_from (HasOwed (bytes_of mid.world.chain) plays.1 mid.world) mid.world.chain.members
+              (λ at x there r stood has bytes left. each_disk about keeps may_leave_now each_has mid.world one.w plays.1 one.shows stands_then at x there
+              (may_be_in mid.world.chain x r stood (in_own about r x (all_at (HasOwnDisk about) mid.world.chain.members at x owners there) has)) bytes left));
           goes_on = goes;
           may = may;
           restarts = refl;
         },
-        subst (λ n. IsFresh about keeps may_leave_now n export new (after plays.1 (Restart goes.meaning.front))) (stays ∙ sym size)
-            (subst (λ e. IsFresh about keeps may_leave_now (bytes_of mid.chain) e new (after plays.1 (Restart goes.meaning.front))) again later),
+        subst (λ n. IsFresh about keeps may_leave_now n export new.world (after plays.1 (Restart found.meaning.front))) (stays ∙ sym size)
+            (subst (λ e. IsFresh about keeps may_leave_now (bytes_of mid.world.chain) e new.world (after plays.1 (Restart found.meaning.front))) again later),
       )
 
   -- one era more
-  pub eras_more : (export : Export) (eras : List Era) (answers : List Answers) (old : Seen S) (s : State) (mid : Seen S) (r : State) (new : Seen S) (t : State) (era : Era) (these : Answers)
+  pub eras_more : (export : Export) (eras : List Era) (answers : List Answers) (old : Managed S) (s : State) (mid : Managed S) (r : State) (new : Managed S) (t : State) (era : Era) (these : Answers)
       → Lead export eras answers old s mid r → Leads export era these.items.items mid r new t → Lead export (eras ++ era ∷ []) (answers ++ these ∷ []) old s new t
   eras_more export [] [] old s mid r new t era these (same, stays) did =
       (new, t, subst (λ w. Leads export era these.items.items w s new t) same (subst (λ x. Leads export era these.items.items mid x new t) stays did), (refl, refl))
@@ -118,13 +125,16 @@ module _ {S : Type 0} (premise : Type 0) (about : S → About) (keeps : S → Li
     runs = begun.runs;
   }
 
-  pub one_life : (geometry : Geometry) (members : ℕ) (eras : List Era) (answers : List Answers) (first w : Seen S) (t : State) → map about (stores_of first) ≡ map (first_about geometry) (range_with_len 0 members)
-      → BeginsWith about keeps may_leave_now geometry 0 (volume_of (4096 * geometry.blocks) []) first → Lead (export_of geometry) eras answers first start w t → Fresh (export_of geometry) w t
+  pub one_life : (geometry : Geometry) (members : ℕ) (eras : List Era) (answers : List Answers) (first w : Managed S) (t : State) → map about (stores_of first.world) ≡ map (first_about geometry) (range_with_len 0 members)
+      → BeginsWith about keeps may_leave_now geometry 0 (volume_of (4096 * geometry.blocks) []) first.world → first.world.chain.recorded ≡ first_record members → IsAtRest first
+      → Lead (export_of geometry) eras answers first start w t → Fresh (export_of geometry) w.world t
       → IsOneLife premise about keeps is_pending may_leave_now moment left_since failures disk geometry members eras answers w
-  one_life geometry members eras answers first w t slots begins leads fresh = record {
+  one_life geometry members eras answers first w t slots begins recorded rests leads fresh = record {
     first = first;
     slots = slots;
     begins = begins;
+    recorded = recorded;
+    rests = rests;
     end = t;
     leads = leads;
     view = fresh.view;

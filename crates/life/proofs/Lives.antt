@@ -2,7 +2,7 @@
 use Rattle.std.proofs.Common.{◌≡◌, ℕ, ◌≤◌, Bool, true, false, List, [], ◌∷◌, ◌++◌, length, take, ltb, refl, ap, sym, subst, ◌∙◌, inl, inr, arith}
 use Rattle.std.specs.Prelude.{◌||◌, ◌==◌, All, None, Option, Some, fold, get_or, slice_get, zip}
 use Rattle.std.specs.List.{AllZip}
-use Rattle.std.proofs.lemmas.Bool.{eqb-true, ltb-false, ltb-true}
+use Rattle.std.proofs.lemmas.Bool.{eqb-true, ltb-false, ltb-true, or_right}
 use Rattle.std.proofs.lemmas.Grind.{flat_map-append}
 use Rattle.std.proofs.lemmas.List.{append_assoc, append-nil, length-append, take-append-le, take_all}
 use Rattle.std.proofs.lemmas.List.Quantifiers.{position-Some}
@@ -18,23 +18,25 @@ use Rattle.volume.specs.Writes.{patched}
 use Rattle.chain_steps.specs.Node.{NodeState}
 use Rattle.chain_steps.specs.Steps.{volume_at}
 use Rattle.chain_model.specs.Chain.{StandsFor}
-use Rattle.chain_model.specs.View.{View, is_in_some, may_be_recorded}
+use Rattle.chain_model.specs.View.{View, is_in, is_in_some, may_be_recorded}
 use Rattle.chain_model.specs.Laws.{IsBeginning, IsOnEachDisk, RestartsChain, with_members}
 use Rattle.world_model.specs.Event.{ClientEvent}
 use Rattle.world_model.specs.Life.{all_events}
 use Rattle.chain_model.specs.Life.{HappeningsAreOfOneVolume}
 use Rattle.world_model.specs.Machine.{May, Restart, State, after}
 use Rattle.chain.specs.Chain.{Chained, bytes_of}
-use Rattle.chain.specs.Member.{IsShown, Linked}
+use Rattle.chain.specs.Member.{HasOwnDisk, IsShown, Linked}
 use Rattle.chain.proofs.Cells.{place_of as cell_of, twin_of}
 use Rattle.clients.specs.Clients.{AllGo, AreSessions, Client, Extends, IsOf, Sessions, no_one, place_of, replies_in}
+use Rattle.configurations.specs.Record.{Record}
 use Rattle.clients.specs.Laws.{FirstHasNone, IsLawfulFor, OutputsAreLawful}
 use Rattle.clients.proofs.Places.{same_id}
 use Rattle.world.specs.World.{HappensSo, IsJoined, IsOfOneVolume, Seen, Shows}
 use Rattle.life.specs.Begun.{BeginsWith, export_of}
-use Rattle.life.specs.Headline.{Fit, HasWhatIsOwed, IsLawfulEra, IsLawfulSession, Trace, fed_in, handed_in}
+use Rattle.life.specs.Headline.{Fit, HasDisk, HasWhatIsOwed, IsLawfulEra, IsLawfulSession, Trace, fed_in, handed_in}
 use Rattle.life.specs.Lived.{AreOfOneVolume, HappenInTurn, HappenedUntil, IsFresh}
-use Rattle.life.specs.Plays.{IsRecorded}
+use Rattle.life.specs.Managed.{MayStand}
+use Rattle.life.specs.Recovered.{HasMember}
 use Rattle.life.proofs.Passing.{happens_as, happens_then, none_happens}
 use Rattle.life.specs.Played.{fed_by, handed_by}
 use Rattle.life.specs.declared.answer.Answer.{Answer}
@@ -104,6 +106,17 @@ lawful_less export fed handed dropped asked replies (inr (none, out, unasked, si
 -- what a history became that was nothing
 was_nothing : {A : Type 0} (xs ys more : List A) → xs ≡ ys ++ more → ys ≡ [] → xs ≡ more
 was_nothing xs ys more is none = is ∙ ap (λ l. l ++ more) none
+
+-- who is in a record that a stop may leave may be recorded
+pub may_be_in : {S : Type 0} (c : Chained S) (m : Linked S) (r : Record) → MayStand c r → is_in r m.node.state.place.slot m.node.state.incarnation ≡ true → may_be_recorded c.recorded c.writing m.node.state ≡ true
+may_be_in c m r (inl same) is = ap (λ b. b || is_in_some c.writing m.node.state.place.slot m.node.state.incarnation) (ap (λ x. is_in x m.node.state.place.slot m.node.state.incarnation) (sym same) ∙ is)
+may_be_in c m r (inr written) is =
+    or_right (is_in c.recorded m.node.state.place.slot m.node.state.incarnation) (is_in_some c.writing m.node.state.place.slot m.node.state.incarnation)
+    (ap (λ o. is_in_some o m.node.state.place.slot m.node.state.incarnation) written ∙ is)
+
+-- the disk is the member's own
+pub in_own : {S : Type 0} (about : S → About) (r : Record) (m : Linked S) → HasOwnDisk about m → HasDisk r (about m.node.store) → is_in r m.node.state.place.slot m.node.state.incarnation ≡ true
+in_own about r m its has = subst (λ i. is_in r m.node.state.place.slot i ≡ true) its.incarnation (subst (λ n. is_in r n (about m.node.store).incarnation ≡ true) its.slot has)
 
 module _ {S : Type 0} (about : S → About) (keeps : S → List ℕ → Type 0) (may_leave_now : S → List ℕ → Type 0) where
   -- what came until then, of sessions that all began since
@@ -234,12 +247,12 @@ module _ {S : Type 0} (about : S → About) (keeps : S → List ℕ → Type 0) 
   -- what a disk is left with means a front of its member, and the machine restarts there
   pub recovers : RestartsChain → (old : Seen S) (v : View) (s : State) (at : ℕ) (m : Linked S) (c : List ℕ) (meaning : Meaning) (new : Seen S)
       → ((one other : Meaning) (bytes : List ℕ) → Means one bytes → Means other bytes → one ≡ other)
-      → Shows about keeps may_leave_now old v → StandsFor (bytes_of old.chain) v s → slice_get old.chain.members at ≡ Some m → may_be_recorded old.chain.recorded old.chain.writing m.node.state ≡ true
-      → may_leave_now m.node.store c → Means meaning c
+      → Shows about keeps may_leave_now old v → StandsFor (bytes_of old.chain) v s → slice_get old.chain.members at ≡ Some m
+      → (r : Record) → MayStand old.chain r → HasMember r meaning → HasOwnDisk about m → may_leave_now m.node.store c → Means meaning c
       → export_of meaning.geometry ≡ export_of old.chain.geometry
       → BeginsWith about keeps may_leave_now meaning.geometry meaning.front meaning.volume new
       → May s (Restart meaning.front) × IsFresh about keeps may_leave_now (bytes_of old.chain) (export_of old.chain.geometry) new (after s (Restart meaning.front))
-  recovers law old v s at m c meaning new one_meaning shows stands here may left means sizes begun =
+  recovers law old v s at m c meaning new one_meaning shows stands here r stood has its left means sizes begun =
       let place = cell_of old.chain.members at m here in
       let twin = twin_of (IsShown about keeps may_leave_now (bytes_of old.chain)) place.above m place.below v.members (subst (λ l. AllZip (IsShown about keeps may_leave_now (bytes_of old.chain)) l v.members) place.split shows.chain.members) in
       let so = twin.fits in
@@ -247,6 +260,9 @@ module _ {S : Type 0} (about : S → About) (keeps : S → List ℕ → Type 0) 
       let (front, durable, known, is) = so.left c left in
       let same = one_meaning meaning (meaning_with (record (about m.node.store) { front = front }) (volume_at own.volume m.node.state front)) c means is in
       let node : own.node ≡ m.node.state = ap (λ x. x.node) so.is in
+      let own_slot : meaning.slot ≡ m.node.state.place.slot = ap (λ x. x.slot) same ∙ its.slot in
+      let own_incarnation : meaning.incarnation ≡ m.node.state.incarnation = ap (λ x. x.incarnation) same ∙ its.incarnation in
+      let may = may_be_in old.chain m r stood (subst (λ i. is_in r m.node.state.place.slot i ≡ true) own_incarnation (subst (λ n. is_in r n meaning.incarnation ≡ true) own_slot has)) in
       let begins : IsBeginning front (fold patched own.volume (writes_upto own.node.table front)) begun.view =
       rw node (subst (λ f. IsBeginning f (volume_at own.volume m.node.state front) begun.view) (ap (λ x. x.front) same) (subst (λ l. IsBeginning meaning.front l begun.view) (ap (λ x. x.volume) same) begun.begins)) in
       let did = law (bytes_of old.chain) v twin.over own twin.under s front begun.view
@@ -272,10 +288,6 @@ module _ {S : Type 0} (about : S → About) (keeps : S → List ℕ → Type 0) 
   exported_as w joined = rw (joined.size, joined.payload, joined.area) refl
 
   -- ---- what is left of disks
-
-  -- who is recorded may be recorded
-  pub may_be : (c : Chained S) (m : Linked S) → IsRecorded c m → may_be_recorded c.recorded c.writing m.node.state ≡ true
-  may_be c m is = ap (λ b. b || is_in_some c.writing m.node.state.place.slot m.node.state.incarnation) is
 
   -- whatever a stop may leave of the disk of each member that may be recorded has what is owed
   pub each_disk : IsOnEachDisk → (w : Seen S) (v : View) (s : State) → Shows about keeps may_leave_now w v → StandsFor (bytes_of w.chain) v s

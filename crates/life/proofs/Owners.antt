@@ -1,4 +1,4 @@
--- Whose disks a chain's members have, and of which sizes: no step changes that. Lemmas.
+-- Whose disks a chain's members have, of which sizes, and which record is recorded: no step of a world changes that. Lemmas.
 use Rattle.std.proofs.Common.{◌≡◌, ℕ, zero, suc, Bool, true, false, List, [], ◌∷◌, length, map, refl, ap, sym, subst, ◌∙◌, inl, inr, arith}
 use Rattle.std.specs.Prelude.{◌⊎◌, ◌≢◌, Option, None, Some, Result, Ok, Err, IfNone, IfSome, slice_get, slice_set}
 use Rattle.std.proofs.lemmas.Bool.{cases_lt}
@@ -22,7 +22,6 @@ use Rattle.chain_steps.specs.declared.waiting.WriteToken.{WriteToken}
 use Rattle.chain_steps.specs.declared.waiting.WriteToken.TheVariants as tokens
 use Rattle.disk_model.specs.declared.error.DiskError.{DiskError}
 use Rattle.disk_model.specs.declared.error.DiskError.TheVariants.{ReadFault}
-use Rattle.disk_model.specs.declared.memory.MemDisk.{MemDisk}
 use Rattle.flush_barrier.specs.Reply.{GivenReply}
 use Rattle.flush_barrier.specs.declared.session_id.SessionId.{SessionId}
 use Rattle.gate_journal.specs.Receipt.{Receipt}
@@ -37,18 +36,15 @@ use Rattle.world.specs.Taking.{HasRefused, HasTaken, Takes}
 use Rattle.world.specs.World.{Seen}
 use Rattle.world.specs.declared.told.Told.{Told}
 use Rattle.life.specs.Calls.{AnswersOr, BeginsCommits, Checkpoints, Comes, Connects, EndsCommit, EndsInput, MovesOr, TakesFirst, TakesIn, Ticks}
-use Rattle.life.specs.Does.{Acts, BeginsSome, Does, DoesDeed, IsAtMember}
-use Rattle.life.specs.Plays.{DeedsLead}
+use Rattle.life.specs.Does.{Acts, BeginsSome, Does, IsAtMember}
 use Rattle.life.specs.declared.answer.Answer.{Answer}
-use Rattle.life.specs.declared.era.Deed.{Deed}
-use Rattle.life.specs.declared.era.Deed.TheVariants as deeds
 use Rattle.life.specs.declared.step.Act.{Act}
 use Rattle.life.specs.declared.step.Act.TheVariants as acts
 use Rattle.life.specs.declared.step.Step.{Step}
 use Rattle.life.specs.declared.step.Step.TheVariants as steps
 
 -- an item becomes one that f takes for the same
-map_set : {A B : Type 0} (f : A → B) (xs : List A) (at : ℕ) (x y : A) → slice_get xs at ≡ Some x → f y ≡ f x → map f (slice_set xs at y) ≡ map f xs
+pub map_set : {A B : Type 0} (f : A → B) (xs : List A) (at : ℕ) (x y : A) → slice_get xs at ≡ Some x → f y ≡ f x → map f (slice_set xs at y) ≡ map f xs
 map_set f [] at x y here same = let none : None ≡ Some x = here in absurd (cc)
 map_set f (a ∷ xs) zero x y here same = let some : Some a ≡ Some x = here in let is : a ≡ x = cc some in ap (λ b. b ∷ map f xs) (same ∙ ap f (sym is))
 map_set f (a ∷ xs) (suc k) x y here same = ap (λ l. f a ∷ l) (map_set f xs k x y here same)
@@ -61,23 +57,38 @@ module _ {S : Type 0} (about : S → About) where
   abbrev pub own_of : Linked S → ℕ × Geometry
   own_of m = own (about m.node.store)
 
-  -- the chain has the same sizes, and its members the same disks
+  -- the chain has the same sizes, its members the same disks, and the same record is recorded and being written
   pub record StayOwn (old new : Chained S) : Type 0 where
     pub geometry : new.geometry ≡ old.geometry
     pub owners : map own_of new.members ≡ map own_of old.members
+    pub recorded : new.recorded ≡ old.recorded
+    pub writing : new.writing ≡ old.writing
 
   pub stay_still : (c : Chained S) → StayOwn c c
-  stay_still c = record { geometry = refl; owners = refl }
+  stay_still c = record { geometry = refl; owners = refl; recorded = refl; writing = refl }
 
-  pub stay_then : (a b c : Chained S) → StayOwn a b → StayOwn b c → StayOwn a c
-  stay_then a b c one two = record { geometry = two.geometry ∙ one.geometry; owners = two.owners ∙ one.owners }
+  -- whatever becomes of the record, its sizes and its members' disks stay
+  pub record KeepOwn (old new : Chained S) : Type 0 where
+    pub geometry : new.geometry ≡ old.geometry
+    pub owners : map own_of new.members ≡ map own_of old.members
 
-  stay_same : (old new : Chained S) → new ≡ old → StayOwn old new
+  pub keep_still : (c : Chained S) → KeepOwn c c
+  keep_still c = record { geometry = refl; owners = refl }
+
+  pub keep_then : (a b c : Chained S) → KeepOwn a b → KeepOwn b c → KeepOwn a c
+  keep_then a b c one two = record { geometry = two.geometry ∙ one.geometry; owners = two.owners ∙ one.owners }
+
+  pub they_keep : (old new : Chained S) → StayOwn old new → KeepOwn old new
+  they_keep old new stay = record { geometry = stay.geometry; owners = stay.owners }
+
+  pub stay_same : (old new : Chained S) → new ≡ old → StayOwn old new
   stay_same old new same = subst (StayOwn old) (sym same) (stay_still old)
 
-  stay_changed : (at : ℕ) (old new : Chained S) (Did : Linked S → Linked S → Type 0) → Changes at old new Did → ((m n : Linked S) → Did m n → own_of n ≡ own_of m) → StayOwn old new
+  pub stay_changed : (at : ℕ) (old new : Chained S) (Did : Linked S → Linked S → Type 0) → Changes at old new Did → ((m n : Linked S) → Did m n → own_of n ≡ own_of m) → StayOwn old new
   stay_changed at old new Did changes same = record {
     geometry = ap (λ c. c.geometry) changes.are;
+    recorded = ap (λ c. c.recorded) changes.are;
+    writing = ap (λ c. c.writing) changes.are;
     owners = ap (λ c. map own_of c.members) changes.are ∙ map_set own_of old.members at changes.before changes.after changes.here (same changes.before changes.after changes.did);
   }
 
@@ -118,6 +129,8 @@ module _ {S : Type 0} (about : S → About) where
   halts : (links_of : Chained S → List (List Envelope)) (from at : ℕ) (old new : Chained S) (replies : List GivenReply) → MessageHalts links_of from at old new replies → StayOwn old new
   halts links_of from at old new replies is = record {
     geometry = ap (λ c. c.geometry) is.are;
+    recorded = ap (λ c. c.recorded) is.are;
+    writing = ap (λ c. c.writing) is.are;
     owners = ap (λ c. map own_of c.members) is.are
         ∙ map_set own_of old.members at is.before (record is.before { node = record { store = is.before.node.store; state = (stop is.cause is.before.node.state).node } }) is.here refl;
   }
@@ -125,6 +138,8 @@ module _ {S : Type 0} (about : S → About) where
   message_stays : (from at : ℕ) (old new : Chained S) (replies : List GivenReply) → MessageComes from at old new replies → StayOwn old new
   message_stays from at old new replies (inl is) = record {
     geometry = ap (λ c. c.geometry) is.are;
+    recorded = ap (λ c. c.recorded) is.are;
+    writing = ap (λ c. c.writing) is.are;
     owners = ap (λ c. map own_of c.members) is.are
         ∙ map_set own_of old.members at is.before (record is.before { node = record { store = is.before.node.store; state = is.stepped.node } }) is.here refl;
   }
@@ -133,6 +148,8 @@ module _ {S : Type 0} (about : S → About) where
   submit_stays : (from at : ℕ) (old new : Chained S) (replies : List GivenReply) → SubmitComes from at old new replies → StayOwn old new
   submit_stays from at old new replies (inl is) = record {
     geometry = ap (λ c. c.geometry) is.are;
+    recorded = ap (λ c. c.recorded) is.are;
+    writing = ap (λ c. c.writing) is.are;
     owners = ap (λ c. map own_of c.members) is.are
         ∙ map_set own_of old.members at is.before (record is.before { node = record { store = is.before.node.store; state = is.stepped.node } }) is.here refl;
   }
@@ -141,6 +158,8 @@ module _ {S : Type 0} (about : S → About) where
   submitted : (at : ℕ) (token : WriteToken) (write : Placed) (old new : Chained S) → HasSubmitted at token write old new → StayOwn old new
   submitted at token write old new is = record {
     geometry = ap (λ c. c.geometry) is.are;
+    recorded = ap (λ c. c.recorded) is.are;
+    writing = ap (λ c. c.writing) is.are;
     owners = ap (λ c. map own_of c.members) is.are
         ∙ map_set own_of old.members at is.before (record is.before { node = record { store = is.before.node.store; state = (submit token write is.before.node.state).node } }) is.here refl;
   }
@@ -148,6 +167,8 @@ module _ {S : Type 0} (about : S → About) where
   known : (at : ℕ) (replies : List GivenReply) (old new : Chained S) → HasKnown at replies old new → StayOwn old new
   known at replies old new is = record {
     geometry = ap (λ c. c.geometry) is.are;
+    recorded = ap (λ c. c.recorded) is.are;
+    writing = ap (λ c. c.writing) is.are;
     owners = ap (λ c. map own_of c.members) is.are
         ∙ map_set own_of old.members at is.before (record is.before { node = is.node }) is.here (step_or_stop is.before.node is.node is.out (raised_step is.before.node.state) is.did);
   }
@@ -184,6 +205,8 @@ module _ {S : Type 0} (about : S → About) where
   raises : (at : ℕ) (old new : Chained S) → RaisesAt at old new → StayOwn old new
   raises at old new is = record {
     geometry = ap (λ c. c.geometry) is.are;
+    recorded = ap (λ c. c.recorded) is.are;
+    writing = ap (λ c. c.writing) is.are;
     owners = ap (λ c. map own_of c.members) is.are ∙ map_set own_of old.members at is.before is.after is.here (ap own_of is.did.are);
   }
 
@@ -194,6 +217,8 @@ module _ {S : Type 0} (about : S → About) where
   posts : (at : ℕ) (old new : Chained S) → PostsAt at old new → StayOwn old new
   posts at old new is = record {
     geometry = ap (λ c. c.geometry) is.are;
+    recorded = ap (λ c. c.recorded) is.are;
+    writing = ap (λ c. c.writing) is.are;
     owners = ap (λ c. map own_of c.members) is.are ∙ map_set own_of old.members at is.member (record is.member { receipt = None }) is.here refl;
   }
 
@@ -315,7 +340,7 @@ module _ {S : Type 0} (about : S → About) where
     acts_stay acts.Stop at answer old new (given, tells, did) = answers_or given old new _ _ did (λ replies is. stay_changed at old.chain new.chain _ is (λ m n so. ap own_of so.are)) (rests at old.chain new.chain)
 
     -- at a place that may be no member's
-    at_place : (at : ℕ) (answer : Answer) (old new : Seen S) (Did : Type 0) → IsAtMember at answer old new Did → (Did → StayOwn old.chain new.chain) → StayOwn old.chain new.chain
+    pub at_place : (at : ℕ) (answer : Answer) (old new : Seen S) (Did : Type 0) → IsAtMember at answer old new Did → (Did → StayOwn old.chain new.chain) → StayOwn old.chain new.chain
     at_place at answer old new Did is did = elim (cases_lt at (length old.chain.members)) [
       | inl there ↦ did (is.member there)
       | inr beyond ↦ stay_same old.chain new.chain (ap (λ w. w.chain) (is.nobody beyond).1)
@@ -335,22 +360,9 @@ module _ {S : Type 0} (about : S → About) where
     ends id true old new is = ap (λ w. w.chain) (is.ended refl).are
     ends id false old new is = ap (λ w. w.chain) (is.idle refl).1
 
-    does_stay : (step : Step) (answer : Answer) (old new : Seen S) → Does premise about keeps is_pending may_leave_now moment left_since failures step answer old new → StayOwn old.chain new.chain
+    pub does_stay : (step : Step) (answer : Answer) (old new : Seen S) → Does premise about keeps is_pending may_leave_now moment left_since failures step answer old new → StayOwn old.chain new.chain
     does_stay (steps.Connect id at) answer old new is = at_place at answer old new _ is (λ (given, tells, did). stay_same old.chain new.chain (connects id at given old new did))
     does_stay (steps.Bytes id piece) answer old new (given, tells, did) = stay_same old.chain new.chain (takes_in id piece.items given old new did)
     does_stay (steps.End id) answer old new (taken, tells, did) = stay_same old.chain new.chain (ends id taken old new did)
     does_stay (steps.HandOut id) answer old new (given, tells, did) = stay_same old.chain new.chain (ap (λ w. w.chain) did.are)
     does_stay (steps.Member at act) answer old new is = at_place at answer old new _ is (acts_stay act at answer old new)
-
-    -- ---- deeds
-
-    module _ (disk : S → MemDisk) where
-      deed_stays : (deed : Deed) (answer : Answer) (old new : Seen S) → DoesDeed premise about keeps is_pending may_leave_now moment left_since failures disk deed answer old new → StayOwn old.chain new.chain
-      deed_stays (deeds.Step step) answer old new is = does_stay step answer old new is
-      deed_stays (deeds.Arm at event) answer old new is = at_place at answer old new _ is (λ (given, tells, did). stay_changed at old.chain new.chain _ did.armed.did (λ m n so. ap own so.stays.tells))
-
-      pub deeds_stay : (deeds : List Deed) (answers : List Answer) (old new : Seen S) → DeedsLead premise about keeps is_pending may_leave_now moment left_since failures disk deeds answers old new → StayOwn old.chain new.chain
-      deeds_stay [] [] old new same = stay_same old.chain new.chain (ap (λ w. w.chain) same)
-      deeds_stay [] (a ∷ answers) old new leads = absurd leads
-      deeds_stay (d ∷ deeds) [] old new (answer, did, met) = deed_stays d answer old new did
-      deeds_stay (d ∷ deeds) (a ∷ answers) old new (mid, did, runs, later) = stay_then old.chain mid.chain new.chain (deed_stays d a old mid did) (deeds_stay deeds answers mid new later)

@@ -1,9 +1,7 @@
 -- A member's disk after a cut, and why it may not return: lemmas.
-use Rattle.std.proofs.Common.{◌≡◌, ℕ, zero, suc, ◌<◌, List, [], ◌∷◌, ◌++◌, length, map, refl, ap, sym, subst, ◌∙◌, inl, inr, arith}
+use Rattle.std.proofs.Common.{◌≡◌, ℕ, ◌<◌, List, ◌∷◌, ◌++◌, refl, sym, subst, inl, inr, arith}
 use Rattle.std.specs.Prelude.{◌⊎◌, All, Err, IfErr, IfSome, IsErrAnd, None, Ok, Option, Result, Some, slice_get}
 use Rattle.std.specs.List.{AllZip}
-use Rattle.std.proofs.lemmas.List.{get_or-map, length-map}
-use Rattle.std.proofs.lemmas.List.Elements.{All-head, All-tail}
 use Rattle.chain.specs.Chain.{bytes_of}
 use Rattle.chain.specs.Member.{IsShown, Linked}
 use Rattle.chain.proofs.Cells.{place_of as cell_of, twin_of}
@@ -20,13 +18,15 @@ use Rattle.volume.specs.declared.geometry.Geometry.{Geometry}
 use Rattle.world.specs.World.{Seen, Shows}
 use Rattle.chain_model.specs.View.{View}
 use Rattle.life.specs.Begun.{AreOnDisks, IsCutFrom, IsOfMember}
+use Rattle.life.specs.Managed.{Managed}
 use Rattle.life.specs.Headline.{BreaksOff, EndsAtReturn, IsOneLife}
 use Rattle.life.specs.Refusal.{IsOfMemory, IsOfReopening}
 use Rattle.life.specs.declared.era.Answers.{Answers}
 use Rattle.life.specs.declared.era.Era.{Era}
 use Rattle.life.specs.declared.refusal.Refusal.{Refusal}
 use Rattle.life.specs.declared.refusal.Refusal.TheVariants.{Store}
-use Rattle.life.proofs.Owners.{StayOwn, own_of}
+use Rattle.life.proofs.Owners.{KeepOwn, own_of}
+use Rattle.life.proofs.Places.{all_at, of_mapped}
 use Rattle.life.proofs.Starting.{IsStore, about_of_store, all_mapped, disk_in, keeps_volume, leaves_now}
 
 -- what is so of what is there
@@ -38,15 +38,6 @@ if_some (Some x) P each = each x refl
 pub passed_on : {T E : Type 0} (result : Result T E) (e : E) (P : E → Type 0) → IsErrAnd result (λ y. y ≡ e) → P e → IfErr result P
 passed_on (Ok t) e P is so = tt
 passed_on (Err y) e P is so = subst P (sym is) so
-
--- what is so of each is so of the one at a place
-all_at : {A : Type 0} (Q : A → Type 0) (xs : List A) (at : ℕ) (x : A) → All Q xs → slice_get xs at ≡ Some x → Q x
-all_at Q [] at x all here = let none : None ≡ Some x = here in absurd (cc)
-all_at Q (a ∷ xs) zero x all here = let some : Some a ≡ Some x = here in let same : a ≡ x = cc some in subst Q same (All-head Q a xs all)
-all_at Q (a ∷ xs) (suc k) x all here = all_at Q xs k x (All-tail Q a xs all) here
-
-of_mapped : {A B : Type 0} (Q : B → Type 0) (f : A → B) (xs : List A) → All Q (map f xs) → All (λ x. Q (f x)) xs
-of_mapped Q f xs all = λ k d within. subst Q (get_or-map f xs k d (f d) within) (all k (f d) (rw (length-map xs f) within))
 
 -- ---- a store that may have been migrated
 
@@ -61,7 +52,7 @@ migrated_as now before (inr moved) P is = subst (λ (x : About). P x.slot x.inca
 abbrev IsOwn : Geometry → ℕ × Geometry → Type 0
 IsOwn geometry owner = (0 < owner.0) × (owner.1 ≡ geometry)
 
-pub disks_stay : {S : Type 0} (about : S → About) (old new : Seen S) → StayOwn about old.chain new.chain → AreOnDisks about old → AreOnDisks about new
+pub disks_stay : {S : Type 0} (about : S → About) (old new : Seen S) → KeepOwn about old.chain new.chain → AreOnDisks about old → AreOnDisks about new
 disks_stay about old new stays on =
     subst (λ g. All (λ m. IsOwn g (own_of about m)) new.chain.members) (sym stays.geometry)
     (of_mapped (IsOwn old.chain.geometry) (own_of about) new.chain.members (subst (All (IsOwn old.chain.geometry)) (sym stays.owners) (all_mapped (IsOwn old.chain.geometry) (own_of about) old.chain.members on)))
@@ -70,7 +61,8 @@ disks_stay about old new stays on =
 
 -- it is its member's, with the sizes of the chain's volume
 pub cut_of_member : (old : Seen IsStore) (v : View) (at : ℕ) (m : Linked IsStore) (disk : MemDisk) → Shows about_of_store keeps_volume leaves_now old v → slice_get old.chain.members at ≡ Some m
-    → (kind : Cut) → IsCutFrom leaves_now disk_in kind m.node.store disk → AreOnDisks about_of_store old → (is : IsOfMember disk) × (is.meaning.geometry ≡ old.chain.geometry)
+    → (kind : Cut) → IsCutFrom leaves_now disk_in kind m.node.store disk → AreOnDisks about_of_store old
+    → (is : IsOfMember disk) × (is.meaning.geometry ≡ old.chain.geometry) × (is.meaning.slot ≡ (about_of_store m.node.store).slot) × (is.meaning.incarnation ≡ (about_of_store m.node.store).incarnation)
 cut_of_member old v at m disk shows here kind cut on =
     let place = cell_of old.chain.members at m here in
     let twin = twin_of (IsShown about_of_store keeps_volume leaves_now (bytes_of old.chain)) place.above m place.below v.members
@@ -78,7 +70,7 @@ cut_of_member old v at m disk shows here kind cut on =
     let so = twin.fits in
     let (front, durable, known, is) = so.left (given_of disk) cut.left in
     let own = all_at (λ n. (0 < (about_of_store n.node.store).incarnation) × ((about_of_store n.node.store).geometry ≡ old.chain.geometry)) old.chain.members at m on here in
-    (record { meaning = _; means = is; given = own.0; long = omega (arith, m.node.store.room, cut.left.size) }, own.1)
+    (record { meaning = _; means = is; given = own.0; long = omega (arith, m.node.store.room, cut.left.size) }, own.1, refl, refl)
 
 -- ---- why it may be refused
 
@@ -106,15 +98,13 @@ reopening_of_memory stores.Backwards told calm = absurd told
 
 module _ {S : Type 0} (premise : Type 0) (about : S → About) (keeps : S → List ℕ → Type 0) (is_pending : S → ℕ → Type 0) (may_leave_now : S → List ℕ → Type 0) (moment : S → ℕ)
     (left_since : S → ℕ → List ℕ → Type 0) (failures : S → ℕ) (disk : S → MemDisk) where
-  abbrev Lives : Geometry → ℕ → List Era → List Answers → Seen S → Type 0
+  abbrev Lives : Geometry → ℕ → List Era → List Answers → Managed S → Type 0
   Lives = IsOneLife premise about keeps is_pending may_leave_now moment left_since failures disk
 
-  abbrev Ends : Era → Seen S → Refusal → Type 0
+  abbrev Ends : Era → Managed S → Refusal → Type 0
   Ends = EndsAtReturn premise about keeps is_pending may_leave_now moment left_since failures disk
 
   -- an era breaks off the life
-  pub breaks_off : (refusal : Refusal) (geometry : Geometry) (members : ℕ) (eras lived : List Era) (era : Era) (rest : List Era) (answers : List Answers) (w : Seen S) → eras ≡ lived ++ era ∷ rest
+  pub breaks_off : (refusal : Refusal) (geometry : Geometry) (members : ℕ) (eras lived : List Era) (era : Era) (rest : List Era) (answers : List Answers) (w : Managed S) → eras ≡ lived ++ era ∷ rest
       → Lives geometry members lived answers w → Ends era w refusal → BreaksOff premise about keeps is_pending may_leave_now moment left_since failures disk geometry members eras refusal
-  breaks_off refusal geometry members eras lived era rest answers w are life (inl memory) = inl memory
-  breaks_off refusal geometry members eras lived era rest answers w are life (inr (none, nobody)) =
-      inr (none, record { lived = lived; era = era; rest = rest; are = are; answers = answers; world = w; life = life; nobody = nobody })
+  breaks_off refusal geometry members eras lived era rest answers w are life ends = inr (record { lived = lived; era = era; rest = rest; are = are; answers = answers; world = w; life = life; ends = ends })

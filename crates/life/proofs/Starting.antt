@@ -28,6 +28,7 @@ use Rattle.chain_model.specs.Laws.{IsBeginning}
 use Rattle.world_model.specs.Machine.{State}
 use Rattle.life.specs.Begun.{AreOnDisks, BeginsWith, export_of, first_about, stores_of}
 use Rattle.life.specs.Headline.{ErasLead}
+use Rattle.life.specs.Managed.{Managed}
 use Rattle.life.specs.Plays.{DeedsLead}
 use Rattle.life.specs.declared.answer.Answer.{Answer}
 use Rattle.life.specs.declared.era.Answers.{Answers}
@@ -182,10 +183,10 @@ abbrev pub disk_in : IsStore → MemDisk
 disk_in s = s.disk
 
 -- what is played over them
-abbrev pub LeadOnDisks : List Deed → List Answer → Seen IsStore → Seen IsStore → Type 0
+abbrev pub LeadOnDisks : List Deed → List Answer → Managed IsStore → Managed IsStore → Type 0
 LeadOnDisks = DeedsLead (Unit {0}) about_of_store keeps_volume pends_in leaves_now moment_in left_in failures_in disk_in
 
-abbrev pub ErasOnDisks : Export → List Era → List Answers → Seen IsStore → State → Seen IsStore → State → Type 0
+abbrev pub ErasOnDisks : Export → List Era → List Answers → Managed IsStore → State → Managed IsStore → State → Type 0
 ErasOnDisks = ErasLead (Unit {0}) about_of_store keeps_volume pends_in leaves_now moment_in left_in failures_in disk_in
 
 pub first_begins : (geometry : Geometry) (n : ℕ) (stores : List IsStore) (w : Seen IsStore) → map about_of_store stores ≡ map (first_about geometry) (range_with_len 0 n) → 0 < n → All (keeps_zeros geometry) stores

@@ -1,6 +1,6 @@
 -- A device call that met its stop: lemmas.
-use Rattle.std.proofs.Common.{◌≡◌, ℕ, zero, suc, ◌+◌, ◌<◌, ◌≤◌, true, false, Some, List, [], ◌∷◌, length, map, refl, ap, ⊎_elim, sym, subst, ◌∙◌, arith}
-use Rattle.std.specs.Prelude.{IfSome, option_map, slice_get}
+use Rattle.std.proofs.Common.{◌≡◌, ℕ, zero, suc, ◌+◌, ◌<◌, ◌≤◌, true, false, Some, List, [], ◌∷◌, length, map, refl, ap, ⊎_elim, inl, inr, sym, subst, ◌∙◌, arith}
+use Rattle.std.specs.Prelude.{All, IfSome, option_map, slice_get}
 use Rattle.std.proofs.lemmas.Bool.{cases_lt}
 use Rattle.std.proofs.lemmas.List.{length-map}
 use Rattle.std.proofs.lemmas.Option.{get_or_from_slice_get, same_Some, slice_get-map, slice_get_within}
@@ -12,8 +12,9 @@ use Rattle.local_store.specs.About.{About}
 use Rattle.world.specs.World.{Seen}
 use Rattle.life.specs.Begun.{AllGo, stores_of}
 use Rattle.life.specs.Does.{DoesDeed}
+use Rattle.life.specs.Managed.{Managed}
 use Rattle.life.specs.Played.{fed_by}
-use Rattle.life.specs.Plays.{HasMetStop}
+use Rattle.life.specs.Plays.{HasMetStop, MemberMetStop}
 use Rattle.life.specs.declared.answer.Answer.{Answer}
 use Rattle.life.specs.declared.era.Deed.{Deed}
 use Rattle.life.specs.declared.era.Deed.TheVariants as deeds
@@ -33,7 +34,7 @@ module _ {S : Type 0} (disk : S → MemDisk) (w : Seen S) where
       slice_get-map (λ (m : Linked S). m.node.store) w.chain.members at ∙ ap (option_map (λ (m : Linked S). m.node.store)) here ∙ ap Some (sym same)
 
   -- a stop was met where the disk says so
-  pub met_at : (at : ℕ) (s : S) → at < length w.chain.members → IfSome (slice_get w.chain.members at) (λ m. s ≡ m.node.store) → has_stopped (disk s) ≡ true → HasMetStop disk w
+  pub met_at : (at : ℕ) (s : S) → at < length w.chain.members → IfSome (slice_get w.chain.members at) (λ m. s ≡ m.node.store) → has_stopped (disk s) ≡ true → MemberMetStop disk w
   met_at at s within is stopped = record { at = at; store = s; here = store_at at s within is; stopped = stopped }
 
   -- none was met by so many members' disks
@@ -48,31 +49,41 @@ module _ {S : Type 0} (disk : S → MemDisk) (w : Seen S) where
           let there : slice_get (stores_of w) k ≡ Some s = subst (λ (n : ℕ). slice_get (stores_of w) n ≡ Some s) (sym same) (store_at at s within is) in
           subst (λ (s : S). has_stopped (disk s) ≡ false) (same_Some s other (sym there ∙ here)) runs
 
-  pub none_at_all : (at : ℕ) → length w.chain.members ≤ at → NoneBefore at → HasMetStop disk w → ⊥
+  pub none_at_all : (at : ℕ) → length w.chain.members ≤ at → NoneBefore at → MemberMetStop disk w → ⊥
   none_at_all at all before met =
       let within = slice_get_within (stores_of w) met.at met.store met.here in
       let long = length-map w.chain.members (λ (m : Linked S). m.node.store) in
       let no : false ≡ true = sym (before met.at met.store (omega (arith, within, long, all)) met.here) ∙ met.stopped in absurd (cc)
 
-  -- where no disk has stopped none was met
-  pub none_met : AllGo disk w → HasMetStop disk w → ⊥
-  none_met go met =
-      let runs : has_stopped (disk met.store) ≡ false = subst (λ (s : S). has_stopped (disk s) ≡ false) (get_or_from_slice_get (stores_of w) met.at met.store met.store met.here)
-      (go met.at met.store (slice_get_within (stores_of w) met.at met.store met.here)) in
-      let no : false ≡ true = sym runs ∙ met.stopped in absurd (cc)
+-- so is none by those of a world
+none_of_all : {S : Type 0} (disk : S → MemDisk) (w : Seen S) → All (λ s. has_stopped (disk s) ≡ false) (stores_of w) → MemberMetStop disk w → ⊥
+none_of_all disk w go met =
+    let runs : has_stopped (disk met.store) ≡ false = subst (λ s. has_stopped (disk s) ≡ false) (get_or_from_slice_get (stores_of w) met.at met.store met.store met.here)
+    (go met.at met.store (slice_get_within (stores_of w) met.at met.store met.here)) in
+    let no : false ≡ true = sym runs ∙ met.stopped in absurd (cc)
 
--- nor by what leaves the chain as it was
-met_before : {S : Type 0} (disk : S → MemDisk) (old new : Seen S) → new.chain ≡ old.chain → HasMetStop disk new → HasMetStop disk old
-met_before disk old new same met = record { at = met.at; store = met.store; here = ap (λ c. slice_get (map (λ m. m.node.store) c.members) met.at) (sym same) ∙ met.here; stopped = met.stopped }
+-- where no disk has stopped none was met
+pub none_met : {S : Type 0} (disk : S → MemDisk) (w : Managed S) → AllGo disk w → HasMetStop disk w → ⊥
+none_met disk w go (inl met) = none_of_all disk w.world go.members met
+none_met disk w go (inr met) = let no : false ≡ true = sym go.config ∙ met in absurd (cc)
+
+-- nor by what leaves the chain and the configuration's disk as they were
+met_before : {S : Type 0} (disk : S → MemDisk) (old new : Managed S) → new.world.chain ≡ old.world.chain → new.management ≡ old.management → HasMetStop disk new → HasMetStop disk old
+met_before disk old new same management (inl met) =
+    inl (record { at = met.at; store = met.store; here = ap (λ c. slice_get (map (λ m. m.node.store) c.members) met.at) (sym same) ∙ met.here; stopped = met.stopped })
+met_before disk old new same management (inr met) = inr (ap (λ m. has_stopped m.disk) (sym management) ∙ met)
 
 module _ {S : Type 0} (premise : Type 0) (about : S → About) (keeps : S → List ℕ → Type 0) (is_pending : S → ℕ → Type 0) (may_leave_now : S → List ℕ → Type 0) (moment : S → ℕ)
     (left_since : S → ℕ → List ℕ → Type 0) (failures : S → ℕ) (disk : S → MemDisk) where
   -- so what met one fed no session
-  pub unfed : (deed : Deed) (answer : Answer) (old new : Seen S) → DoesDeed premise about keeps is_pending may_leave_now moment left_since failures disk deed answer old new → (HasMetStop disk old → ⊥) → HasMetStop disk new
+  pub unfed : (deed : Deed) (answer : Answer) (old new : Managed S) → DoesDeed premise about keeps is_pending may_leave_now moment left_since failures disk deed answer old new → (HasMetStop disk old → ⊥) → HasMetStop disk new
       → (id : SessionId) → fed_by deed answer id ≡ []
   unfed (deeds.Step (Connect session at)) answer old new does runs met id = refl
-  unfed (deeds.Step (Bytes session piece)) answer old new (given, tells, did) runs met id = absurd (runs (met_before disk old new (takes_in about premise keeps is_pending may_leave_now moment left_since failures session piece.items given old new did) met))
+  unfed (deeds.Step (Bytes session piece)) answer old new ((given, tells, did), same) runs met id =
+      absurd (runs (met_before disk old new (takes_in about premise keeps is_pending may_leave_now moment left_since failures session piece.items given old.world new.world did) same met))
   unfed (deeds.Step (End session)) answer old new does runs met id = refl
   unfed (deeds.Step (HandOut session)) answer old new does runs met id = refl
   unfed (deeds.Step (Member at act)) answer old new does runs met id = refl
+  unfed (deeds.Manage act) answer old new does runs met id = refl
   unfed (deeds.Arm at event) answer old new does runs met id = refl
+  unfed (deeds.ArmConfig event) answer old new does runs met id = refl

@@ -16,6 +16,7 @@ use Rattle.chain_model.specs.View.{View}
 use Rattle.chain_model.specs.Laws.{IsBeginning}
 use Rattle.nbd_session.specs.declared.answer.Export.{Export}
 use Rattle.world.specs.World.{Seen, Shows}
+use Rattle.life.specs.Managed.{Managed}
 
 -- what a volume of these sizes is to its clients
 abbrev pub export_of : Geometry → Export
@@ -50,9 +51,16 @@ pub record IsCutFrom {S : Type 0} (may_leave_now : S → List ℕ → Type 0) (o
   pub left : may_leave_now store (given_of disk)
   pub only : Only (given_of disk) (may_be_left disk)
 
--- no member's disk has stopped
-abbrev pub AllGo : {S : Type 0} → (S → MemDisk) → Seen S → Type 0
-AllGo disk w = All (λ s. has_stopped (disk s) ≡ false) (stores_of w)
+-- no disk has stopped, of a member or the configuration's
+pub record AllGo {S : Type 0} (disk : S → MemDisk) (w : Managed S) : Type 0 where
+  pub members : All (λ s. has_stopped (disk s) ≡ false) (stores_of w.world)
+  pub config : has_stopped w.management.disk ≡ false
+
+-- so is the configuration's disk cut
+pub record IsCut (cut : Cut) (old disk : MemDisk) : Type 0 where
+  pub content : given_of disk ≡ left_by cut (bytes_of old) (unsynced_of old)
+  pub left : may_be_left old (given_of disk)
+  pub only : Only (given_of disk) (may_be_left disk)
 
 -- each member's disk is that of an incarnation, counted from 1, and has the sizes of the chain's volume
 abbrev pub AreOnDisks : {S : Type 0} → (S → About) → Seen S → Type 0

@@ -1,5 +1,5 @@
 -- The calls of a world: what each does, with what it gives.
-use Rattle.std.specs.Prelude.{◌≡◌, ◌⊎◌, ◌↔◌, ℕ, Bool, true, false, Option, None, Some, Result, IfErr, IfNone, IfOk, IfSome, IsErrOf, IsSome, OnErr, OnOk, List, [], slice_get}
+use Rattle.std.specs.Prelude.{◌≡◌, ◌≢◌, ◌⊎◌, ◌↔◌, ℕ, Bool, true, false, Option, None, Some, Result, IfErr, IfNone, IfOk, IfSome, IsErrOf, IsOk, IsSome, OnErr, OnOk, List, [], ◌∷◌, ◌++◌, slice_get}
 use Rattle.chain.specs.Arming.{HasArmed, HasNewScript, HasOldScript}
 use Rattle.chain.specs.Chain.{Chained, Changes, RestsAt}
 use Rattle.chain.specs.Commits.{EndsAt, HasBegunCommits, HasCheckpointed, HasEndedCommit, HasNoCommit, HasNoGroup, HasNoNumber, HasStoppedTold, HasTicked, IsOutOfTurn, IsUsedUpAt, LeavesAt, PostsAt, PostsNone}
@@ -13,21 +13,33 @@ use Rattle.chain_steps.specs.declared.message.Envelope.{Envelope}
 use Rattle.clients.specs.Calls.{Begins, Ends, PutsOut}
 use Rattle.clients.specs.Clients.{HasClient, place_of}
 use Rattle.clients.specs.declared.output.Output.{Output}
+use Rattle.configurations.specs.Refusal.{HasCause, IsOfDevice, IsOfRecording}
+use Rattle.configurations.specs.Store.{HoldsRecord, IsSettledConfig}
+use Rattle.configurations.specs.declared.refusal.Refusal as config
+use Rattle.disk_model.specs.Disk.{LeavesOnly, NothingNew}
+use Rattle.disk_model.specs.Event.{counted_from}
+use Rattle.disk_model.specs.Memory.{IsAsBefore, calls_of, failures_of, given_of, left_since, may_be_left, moment_of, script_of}
+use Rattle.disk_model.specs.Part.{inside}
 use Rattle.disk_model.specs.declared.memory.MemDisk.{MemDisk}
 use Rattle.disk_model.specs.declared.script.Event.{Event}
 use Rattle.flush_barrier.specs.Reply.{GivenReply}
 use Rattle.flush_barrier.specs.declared.session_id.SessionId.{SessionId}
 use Rattle.local_store.specs.About.{About}
 use Rattle.local_store.specs.Arming.{IsAsItWas}
+use Rattle.manager.specs.Manager.{removal_of, why_no_removal}
+use Rattle.manager.specs.declared.refusal.Refusal as manager
+use Rattle.manager.specs.declared.refusal.Refusal.TheVariants as managers
 use Rattle.nbd_session.specs.Progress.{is_over}
 use Rattle.nbd_session.specs.declared.refusal.Refusal as session
 use Rattle.nbd_session.specs.declared.refusal.Refusal.TheVariants.{SessionOver}
 use Rattle.std.specs.declared.alloc.AllocError.{AllocError}
+use Rattle.world.specs.Management.{BeginsNone, CountsNone, CountsOut, EndsNone, HasBegun, HasEnded, HoldsWritten, TellsNext, TellsNobody, noted}
 use Rattle.world.specs.Reception.{Feeds, Receives}
 use Rattle.world.specs.Taking.{Takes}
 use Rattle.world.specs.Telling.{Answers, Moves}
 use Rattle.world.specs.World.{Seen}
 use Rattle.world.specs.declared.told.Told.{Told}
+use Rattle.life.specs.Managed.{Managed}
 
 -- ---- of clients
 
@@ -120,6 +132,66 @@ Settles at given old new = AnswersOr given old new (λ replies old new. Changes 
 -- the member stopped; or it had, and its cause stays
 abbrev pub Stops : {S : Type 0} → ℕ → Option Told → Seen S → Seen S → Type 0
 Stops at given old new = AnswersOr given old new (λ replies old new. Changes at old new (HasStoppedTold replies)) (RestsAt at)
+
+-- ---- of the manager
+
+-- nothing changed
+abbrev pub IsSame : {S : Type 0} → Managed S → Managed S → Type 0
+IsSame old new = (new.world ≡ old.world) × (new.management ≡ old.management)
+
+-- The manager noted who has stopped, and began the removal of the member at the slot; or it refuses it, by the first test that fails.
+pub record Removes {S : Type 0} (slot : ℕ) (given : Result (Unit {0}) manager.Refusal) (old new : Managed S) : Type 0 where
+  pub world : new.world ≡ old.world
+  pub done : OnOk given (new.management ≡ record old.management { manager = removal_of slot (noted old.world.chain old.management.manager) })
+  pub ok : IsOk given → why_no_removal slot (noted old.world.chain old.management.manager) ≡ None
+  pub refused : IfErr given (λ e. e ≢ managers.Memory → why_no_removal slot (noted old.world.chain old.management.manager) ≡ Some e)
+  pub memory : IsErrOf given managers.Memory → why_no_removal slot (noted old.world.chain old.management.manager) ≡ None
+  pub only_noted : OnErr given (new.management ≡ record old.management { manager = noted old.world.chain old.management.manager })
+
+-- The next record is being written; or no record is the next order, or it may not come next; or memory ran out.
+pub record BeginsRecord {S : Type 0} (given : Result Bool AllocError) (old new : Managed S) : Type 0 where
+  pub begun : IfOk given (λ done. done ≡ true → HasBegun old.management new.management old.world new.world)
+  pub idle : IfOk given (λ done. done ≡ false → BeginsNone old.management old.world × IsSame old new)
+  pub err : OnErr given (IsSame old new)
+
+-- The record that was being written stands on the configuration's disk, and is the recorded one; or none may be recorded; or it is refused,
+-- and then it is being written still. A stop at any moment leaves the one before it, or this one.
+pub record EndsRecord {S : Type 0} (given : Result Bool config.Refusal) (old new : Managed S) : Type 0 where
+  pub ended : IfOk given (λ done. done ≡ true → HasEnded old.management new.management old.world new.world)
+  pub idle : IfOk given (λ done. done ≡ false → EndsNone old.management old.world × IsSame old new)
+  pub world : OnErr given (new.world ≡ old.world)
+  pub manager : OnErr given (new.management.manager ≡ old.management.manager)
+  pub unchanged : IfErr given (λ r. (IsOfDevice r → ⊥) → new.management ≡ old.management)
+  pub device : IfErr given (λ r. IsOfDevice r → new.management.config
+      ≡ record old.management.config { pair = record old.management.config.pair { is_closed = new.management.config.pair.is_closed; broken = true } })
+  pub told : IfErr given IsOfRecording
+  pub cause : HasCause (failures_of old.management.disk) (failures_of new.management.disk) given
+  pub broken : old.management.config.pair.broken ≡ true → IfErr given (λ r. IsOfDevice r → ⊥) × IfOk given (λ done. done ≡ false)
+  pub settled : IsSettledConfig old.management.config (given_of old.management.disk) (may_be_left old.management.disk)
+      → OnOk given (IsSettledConfig new.management.config (given_of new.management.disk) (may_be_left new.management.disk))
+  pub any_moment : IsSettledConfig old.management.config (given_of old.management.disk) (may_be_left old.management.disk)
+      → LeavesOnly moment_of left_since old.management.disk new.management.disk (λ c. HoldsRecord old.management.config.current (inside old.management.config.pair.part c)
+      ⊎ HoldsWritten old.world.chain.writing (inside old.management.config.pair.part c))
+
+-- A slot is counted no longer; or that isn't the next order, or somebody is recorded there.
+pub record CountsSlotOut {S : Type 0} (done : Bool) (old new : Managed S) : Type 0 where
+  pub out : done ≡ true → CountsOut old.management new.management old.world new.world
+  pub idle : done ≡ false → CountsNone old.management old.world × IsSame old new
+
+-- A member was told the record, if it could be; or nobody is to be told.
+pub record TellsRecord {S : Type 0} (given : Option Told) (old new : Managed S) : Type 0 where
+  pub told : IfSome given (λ told. TellsNext told old.management new.management old.world new.world)
+  pub idle : IfNone given (TellsNobody old.management × IsSame old new)
+
+-- The script of the configuration's disk has one more event, unless memory ran out.
+pub record ArmsConfig {S : Type 0} (event : Event) (given : Result (Unit {0}) AllocError) (old new : Managed S) : Type 0 where
+  pub ok : OnOk given (script_of new.management.disk ≡ script_of old.management.disk ++ counted_from (calls_of old.management.disk) event ∷ [])
+  pub err : OnErr given (script_of new.management.disk ≡ script_of old.management.disk)
+  pub stays : IsAsBefore old.management.disk new.management.disk
+  pub leaves : NothingNew (may_be_left old.management.disk) (may_be_left new.management.disk)
+  pub manager : new.management.manager ≡ old.management.manager
+  pub config : new.management.config ≡ old.management.config
+  pub world : new.world ≡ old.world
 
 -- ---- of stores
 

@@ -1,20 +1,25 @@
 -- What a step does: exactly the call of the world that it names, whose result its answer tells. Where there is no member at its place,
 -- it is skipped, and nothing changed.
-use Rattle.std.specs.Prelude.{◌≡◌, ℕ, ◌<◌, ◌≤◌, Bool, true, false, Option, None, Some, Result, Ok, Err, List, [], length}
+use Rattle.std.specs.Prelude.{◌≡◌, ℕ, ◌<◌, ◌≤◌, Bool, true, false, Option, None, Some, IfSome, Result, Ok, Err, List, [], length}
 use Rattle.chain_core.specs.Refusal.{number_of}
 use Rattle.chain_core.specs.declared.refusal.Refusal.{Refusal}
 use Rattle.clients.specs.declared.output.Output.{Output}
+use Rattle.configurations.specs.Refusal as config
+use Rattle.configurations.specs.declared.refusal.Refusal as configs
 use Rattle.disk_model.specs.declared.memory.MemDisk.{MemDisk}
 use Rattle.disk_model.specs.declared.script.Event.{Event}
 use Rattle.flush_barrier.specs.declared.session_id.SessionId.{SessionId}
 use Rattle.local_store.specs.About.{About}
+use Rattle.manager.specs.Refusal as manager
+use Rattle.manager.specs.declared.refusal.Refusal as managers
 use Rattle.nbd_session.specs.Refusal as session
 use Rattle.nbd_session.specs.declared.refusal.Refusal as sessions
 use Rattle.std.specs.declared.alloc.AllocError.{AllocError}
 use Rattle.world.specs.Telling.{is_whole, outputs_of}
 use Rattle.world.specs.World.{Seen}
 use Rattle.world.specs.declared.told.Told.{Told}
-use Rattle.life.specs.Calls.{AnswersFront, Arms, BeginsCommits, Checkpoints, Connects, EndsCommit, EndsInput, FindsFront, Gauges, HandsOut, LooksUp, MustersCrew, Numbers, Passes, Posts, Raises, Settles, Stops, TakesFirst, TakesIn, TakesRaised, Ticks}
+use Rattle.life.specs.Calls.{AnswersFront, Arms, ArmsConfig, BeginsCommits, BeginsRecord, Checkpoints, Connects, CountsSlotOut, EndsCommit, EndsInput, EndsRecord, FindsFront, Gauges, HandsOut, LooksUp, MustersCrew, Numbers, Passes, Posts, Raises, Removes, Settles, Stops, TakesFirst, TakesIn, TakesRaised, TellsRecord, Ticks}
+use Rattle.life.specs.Managed.{Managed}
 use Rattle.life.specs.Played.{told_in, tried_in, went_in}
 use Rattle.life.specs.declared.answer.Answer.{Answer}
 use Rattle.life.specs.declared.answer.Answer.TheVariants.{Taken, HandedOut, Refused, Skipped}
@@ -22,6 +27,8 @@ use Rattle.life.specs.declared.era.Deed.{Deed}
 use Rattle.life.specs.declared.era.Deed.TheVariants as deeds
 use Rattle.life.specs.declared.step.Act.{Act}
 use Rattle.life.specs.declared.step.Act.TheVariants as acts
+use Rattle.life.specs.declared.step.ManagerAct.{ManagerAct}
+use Rattle.life.specs.declared.step.ManagerAct.TheVariants as manages
 use Rattle.life.specs.declared.step.Step.{Step}
 use Rattle.life.specs.declared.step.Step.TheVariants.{Connect, Bytes, End, HandOut, Member}
 
@@ -54,6 +61,16 @@ TellsFed (Some (Err refusal)) answer = answer ≡ Refused (session.number_of ref
 abbrev pub TellsArmed : Result (Unit {0}) AllocError → Answer → Type 0
 TellsArmed (Ok armed) answer = IsSilent answer
 TellsArmed (Err error) answer = answer ≡ Refused 100
+
+-- a removal was begun, or refused
+abbrev pub TellsRemoved : Result (Unit {0}) managers.Refusal → Answer → Type 0
+TellsRemoved (Ok begun) answer = IsSilent answer
+TellsRemoved (Err refusal) answer = answer ≡ Refused (manager.number_of refusal)
+
+-- a record was written, or there was none to write, or it was refused; where the disk has stopped, there is no answer
+abbrev pub TellsRecorded : Result Bool configs.Refusal → Answer → Type 0
+TellsRecorded (Ok done) answer = TellsDone done answer
+TellsRecorded (Err refusal) answer = IfSome (config.number_of refusal) (λ number. answer ≡ Refused number)
 
 -- what waited for a client went out, and else there was no such step
 abbrev pub handed_out_in : Option Output → Answer
@@ -114,6 +131,20 @@ abbrev pub IsArmed : {S : Type 0} → (S → About) → (S → List ℕ → Type
 IsArmed about keeps is_pending may_leave_now failures disk at event answer old new =
     IsAtMember at answer old new ((given : Result (Unit {0}) AllocError) × TellsArmed given answer × Arms about keeps is_pending may_leave_now failures disk at event given old new)
 
+-- the script of the configuration's disk has one more event
+abbrev pub IsConfigArmed : {S : Type 0} → Event → Answer → Managed S → Managed S → Type 0
+IsConfigArmed event answer old new = (given : Result (Unit {0}) AllocError) × TellsArmed given answer × ArmsConfig event given old new
+
+-- ---- the manager
+
+-- what the manager did
+abbrev pub Manages : {S : Type 0} → ManagerAct → Answer → Managed S → Managed S → Type 0
+Manages (manages.Remove slot) answer old new = (given : Result (Unit {0}) managers.Refusal) × TellsRemoved given answer × Removes slot given old new
+Manages manages.BeginRecord answer old new = (given : Result Bool AllocError) × TellsBegun given answer × BeginsRecord given old new
+Manages manages.EndRecord answer old new = (given : Result Bool configs.Refusal) × TellsRecorded given answer × EndsRecord given old new
+Manages manages.CountOut answer old new = IsDone answer (λ done. CountsSlotOut done old new)
+Manages manages.Tell answer old new = IsTold answer (λ given. TellsRecord given old new)
+
 -- ---- any step
 
 module _ {S : Type 0} (premise : Type 0) (about : S → About) (keeps : S → List ℕ → Type 0) (is_pending : S → ℕ → Type 0) (may_leave_now : S → List ℕ → Type 0) (moment : S → ℕ)
@@ -158,6 +189,8 @@ module _ {S : Type 0} (premise : Type 0) (about : S → About) (keeps : S → Li
   -- ---- a deed
 
   -- what the deed did, where this is the disk of a store
-  abbrev pub DoesDeed : (S → MemDisk) → Deed → Answer → Seen S → Seen S → Type 0
-  DoesDeed disk (deeds.Step step) answer old new = Does step answer old new
-  DoesDeed disk (deeds.Arm at event) answer old new = IsArmed about keeps is_pending may_leave_now failures disk at event answer old new
+  abbrev pub DoesDeed : (S → MemDisk) → Deed → Answer → Managed S → Managed S → Type 0
+  DoesDeed disk (deeds.Step step) answer old new = Does step answer old.world new.world × (new.management ≡ old.management)
+  DoesDeed disk (deeds.Manage act) answer old new = Manages act answer old new
+  DoesDeed disk (deeds.Arm at event) answer old new = IsArmed about keeps is_pending may_leave_now failures disk at event answer old.world new.world × (new.management ≡ old.management)
+  DoesDeed disk (deeds.ArmConfig event) answer old new = IsConfigArmed event answer old new

@@ -1,13 +1,18 @@
--- THE HEADLINE. Whatever clients, members and the board do, and wherever disks fail or stop, with everything stopped again and again
--- and each time one member's disk returned: clients see one volume, and what was answered with FUA, or before a FLUSH was sent that
--- was answered, is on each recorded member's disk at each stop.
+-- THE HEADLINE. Whatever clients, members, the board and the manager do, which members are removed, and wherever disks fail or stop, with
+-- everything stopped again and again and each time one member's disk returned: clients see one volume, and what was answered with FUA, or
+-- before a FLUSH was sent that was answered, is on each recorded member's disk at each stop.
 --
 -- A life (IsOneLife) is a list of eras (EraLeads). In an era deeds are played from world to world (DeedsLead); clients see events
 -- (IsLawfulEra), which one run of the one volume's machine shows, and no request is refused without a plea (AreRefusedSo); then
--- everything stops, the disk of each recorded member has what is owed whatever is left of it (HasWhatIsOwed), and the chain goes on from
--- one of them, as the machine does, at its front (GoesOnFrom).
-use Rattle.std.specs.Prelude.{◌≡◌, ◌≢◌, ◌⊎◌, ℕ, ◌*◌, ◌≤◌, true, Some, All, List, [], ◌∷◌, ◌++◌, length, map, take, zip}
+-- everything stops, the configuration's disk has the recorded chain or the one that was being written, and the disk of each member of
+-- either has what is owed, whatever is left of them (HasWhatIsOwed); and the chain goes on from one of these, as the machine does, at its
+-- front (GoesOnFrom).
+use Rattle.std.specs.Prelude.{◌≡◌, ◌≢◌, ◌⊎◌, ℕ, ◌*◌, ◌≤◌, false, true, Some, All, IfSome, List, [], ◌∷◌, ◌++◌, length, map, slice_get, take, zip}
 use Rattle.std.specs.List.{flat_map, range_with_len}
+use Rattle.configurations.specs.Record.{Record}
+use Rattle.configurations.specs.declared.refusal.Refusal.TheVariants.{NotNext}
+use Rattle.disk_model.specs.Memory.{may_be_left}
+use Rattle.disk_model.specs.Part.{inside}
 use Rattle.disk_model.specs.declared.memory.MemDisk.{MemDisk}
 use Rattle.flush_barrier.specs.declared.session_id.SessionId.{SessionId}
 use Rattle.local_store.specs.About.{About}
@@ -22,22 +27,25 @@ use Rattle.volume.specs.Writes.{volume_of}
 use Rattle.volume.specs.declared.geometry.Geometry.{Geometry}
 use Rattle.chain_model.specs.Chain.{StandsFor}
 use Rattle.chain_model.specs.Life.{Happening, Happens}
-use Rattle.chain_model.specs.View.{View, may_be_recorded}
+use Rattle.chain_model.specs.View.{View, is_in}
 use Rattle.world_model.specs.Event.{ClientEvent}
 use Rattle.world_model.specs.Life.{all_events}
 use Rattle.world_model.specs.Machine.{May, Move, Restart, RunsOn, State, after, machine_volume, shown, start}
 use Rattle.chain_model.specs.Refusing.{HasPlea}
+use Rattle.world.specs.Management.{HoldsOne}
 use Rattle.world.specs.World.{Seen, Shows, sent_in}
 use Rattle.life.specs.Begun.{BeginsWith, export_of, first_about, stores_of}
 use Rattle.life.specs.Played.{fed_by, handed_by}
-use Rattle.life.specs.Plays.{DeedsLead, GoesOnFrom, IsNobody}
+use Rattle.life.specs.Managed.{AreInStep, IsAtRest, Managed, MayStand, config_part}
+use Rattle.life.specs.Recovered.{IsAtItsEnd}
+use Rattle.life.specs.Plays.{AreCut, DeedsLead, GoesOnFrom, IsLeftRecorded}
 use Rattle.life.specs.Refusal.{IsOfMemory}
 use Rattle.life.specs.declared.answer.Answer.{Answer}
 use Rattle.life.specs.declared.era.Answers.{Answers}
 use Rattle.life.specs.declared.era.Deed.{Deed}
 use Rattle.life.specs.declared.era.Era.{Era}
 use Rattle.life.specs.declared.refusal.Refusal.{Refusal}
-use Rattle.life.specs.declared.refusal.Refusal.TheVariants.{NotInChain}
+use Rattle.life.specs.declared.refusal.Refusal.TheVariants.{Config, NotInChain}
 
 -- ---- bytes
 
@@ -110,13 +118,21 @@ pub record HasWhatIsOwed (size : ℕ) (s : State) (member : About) (bytes : List
   pub taken : front ≤ length s.taken
   pub means : Means (record { slot = member.slot; incarnation = member.incarnation; geometry = member.geometry; front = front; volume = machine_volume size s front }) bytes
 
+-- the record has the member whose disk this is
+abbrev pub HasDisk : Record → About → Type 0
+HasDisk r member = is_in r member.slot member.incarnation ≡ true
+
 -- ---- a life
+
+-- the first record of a chain of so many members: their disks were formatted
+abbrev pub first_record : ℕ → Record
+first_record members = record { epoch = 1; members = map (λ slot. record { slot = slot; incarnation = 1 }) (range_with_len 0 members) }
 
 module _ {S : Type 0} (premise : Type 0) (about : S → About) (keeps : S → List ℕ → Type 0) (is_pending : S → ℕ → Type 0) (may_leave_now : S → List ℕ → Type 0) (moment : S → ℕ)
     (left_since : S → ℕ → List ℕ → Type 0) (failures : S → ℕ) (disk : S → MemDisk) where
   -- An era leads from a world and a state of the machine to the next.
-  pub record EraLeads (export : Export) (era : Era) (answers : List Answer) (old : Seen S) (s : State) (new : Seen S) (t : State) : Type 0 where
-    pub end : Seen S
+  pub record EraLeads (export : Export) (era : Era) (answers : List Answer) (old : Managed S) (s : State) (new : Managed S) (t : State) : Type 0 where
+    pub end : Managed S
     pub played : DeedsLead premise about keeps is_pending may_leave_now moment left_since failures disk era.deeds.items answers old end
     -- one run of the machine, without a restart, shows what clients saw
     pub events : List ClientEvent
@@ -125,57 +141,80 @@ module _ {S : Type 0} (premise : Type 0) (about : S → About) (keeps : S → Li
     pub state : State
     pub runs : RunsOn s moves state
     pub shows : shown export.size s moves ≡ events
-    pub refused : AreRefusedSo about keeps may_leave_now export.size old s end state events
-    -- whatever a stop may leave then of the disk of a member that may be recorded has what is owed
-    pub disks : All (λ m. may_be_recorded end.chain.recorded end.chain.writing m.node.state ≡ true → (bytes : List ℕ) → may_leave_now m.node.store bytes
-        → HasWhatIsOwed export.size state (about m.node.store) bytes) end.chain.members
+    pub refused : AreRefusedSo about keeps may_leave_now export.size old.world s end.world state events
+    -- the manager's record is the recorded chain's, and what is being written is the record of its next order
+    pub in_step : AreInStep end
+    -- whatever a stop may leave then of the configuration's disk has the recorded chain, or the one that is being written
+    pub config : (bytes : List ℕ) → may_be_left end.management.disk bytes → HoldsOne end.world.chain (inside config_part bytes)
+    -- and of the disk of a member of either what is owed
+    pub disks : All (λ m. (r : Record) → MayStand end.world.chain r → HasDisk r (about m.node.store) → (bytes : List ℕ) → may_leave_now m.node.store bytes
+        → HasWhatIsOwed export.size state (about m.node.store) bytes) end.world.chain.members
     -- the chain goes on from a disk, and the machine from its front
     pub goes_on : GoesOnFrom about keeps may_leave_now disk era end new
-    pub may : May state (Restart goes_on.meaning.front)
-    pub restarts : t ≡ after state (Restart goes_on.meaning.front)
+    pub may : May state (Restart goes_on.recovers.meaning.front)
+    pub restarts : t ≡ after state (Restart goes_on.recovers.meaning.front)
 
   -- one era after another
-  abbrev pub ErasLead : Export → List Era → List Answers → Seen S → State → Seen S → State → Type 0
+  abbrev pub ErasLead : Export → List Era → List Answers → Managed S → State → Managed S → State → Type 0
   ErasLead export [] [] old s new t = (new ≡ old) × (t ≡ s)
   ErasLead export [] (these ∷ answers) old s new t = ⊥
   ErasLead export (era ∷ eras) [] old s new t = ⊥
   ErasLead export (era ∷ eras) (these ∷ answers) old s new t =
-      (mid : Seen S) × (between : State) × EraLeads export era these.items.items old s mid between × ErasLead export eras answers mid between new t
+      (mid : Managed S) × (between : State) × EraLeads export era these.items.items old s mid between × ErasLead export eras answers mid between new t
 
   -- A life of so many members and these eras leads from a world with a volume of zeros, and from the machine before anything happened, to a
   -- world that stands for the machine's state.
-  pub record IsOneLife (geometry : Geometry) (members : ℕ) (eras : List Era) (answers : List Answers) (new : Seen S) : Type 0 where
-    pub first : Seen S
-    pub slots : map about (stores_of first) ≡ map (first_about geometry) (range_with_len 0 members)
-    pub begins : BeginsWith about keeps may_leave_now geometry 0 (volume_of (4096 * geometry.blocks) []) first
+  pub record IsOneLife (geometry : Geometry) (members : ℕ) (eras : List Era) (answers : List Answers) (new : Managed S) : Type 0 where
+    pub first : Managed S
+    pub slots : map about (stores_of first.world) ≡ map (first_about geometry) (range_with_len 0 members)
+    pub begins : BeginsWith about keeps may_leave_now geometry 0 (volume_of (4096 * geometry.blocks) []) first.world
+    pub recorded : first.world.chain.recorded ≡ first_record members
+    pub rests : IsAtRest first
     pub end : State
     pub leads : ErasLead (export_of geometry) eras answers first start new end
     pub view : View
-    pub shows : Shows about keeps may_leave_now new view
+    pub shows : Shows about keeps may_leave_now new.world view
     pub stands : StandsFor (4096 * geometry.blocks) view end
 
   -- ---- a life that breaks off
 
-  -- In the world in which the era's deeds ended no recorded member is at the place whose disk was to return.
-  pub record ReturnsNobody (era : Era) (old : Seen S) : Type 0 where
+  -- The era's deeds ended so, and each disk was cut: this record was left.
+  pub record EndsWith (era : Era) (old : Managed S) (r : Record) : Type 0 where
     pub answers : List Answer
-    pub end : Seen S
+    pub end : Managed S
+    pub disks : List MemDisk
+    pub config : MemDisk
     pub played : DeedsLead premise about keeps is_pending may_leave_now moment left_since failures disk era.deeds.items answers old end
-    pub nobody : IsNobody end.chain era.returned
+    pub cut : AreCut may_leave_now disk era.cut end disks config
+    pub recorded : IsLeftRecorded end.world.chain config r
 
-  -- Memory ran out, or some era of the life returned nobody.
-  pub record BreaksAt (geometry : Geometry) (members : ℕ) (eras : List Era) : Type 0 where
+  -- At the place whose disk was to return is none of a member of the chain that was left recorded.
+  pub record ReturnsNobody (era : Era) (old : Managed S) : Type 0 where
+    pub recorded : Record
+    pub ends : EndsWith era old recorded
+    pub nobody : IfSome (slice_get ends.end.world.chain.members era.returned) (λ m. is_in recorded (about m.node.store).slot (about m.node.store).incarnation ≡ false)
+
+  -- No two records can follow the one that was left: a recovery that was broken off may have written one.
+  pub record HasNoNext (era : Era) (old : Managed S) : Type 0 where
+    pub recorded : Record
+    pub ends : EndsWith era old recorded
+    pub none : IsAtItsEnd ends.config
+
+  -- why an era isn't followed by another: memory ran out; or nobody returned, or no record can follow
+  abbrev pub EndsAtReturn : Era → Managed S → Refusal → Type 0
+  EndsAtReturn era old refusal = IsOfMemory refusal ⊎ (((refusal ≡ NotInChain) × ReturnsNobody era old) ⊎ ((refusal ≡ Config NotNext) × HasNoNext era old))
+
+  -- Some era of the life ended so.
+  pub record BreaksAt (geometry : Geometry) (members : ℕ) (eras : List Era) (refusal : Refusal) : Type 0 where
     pub lived : List Era
     pub era : Era
     pub rest : List Era
     pub are : eras ≡ lived ++ era ∷ rest
     pub answers : List Answers
-    pub world : Seen S
+    pub world : Managed S
     pub life : IsOneLife geometry members lived answers world
-    pub nobody : ReturnsNobody era world
+    pub ends : EndsAtReturn era world refusal
 
-  abbrev pub EndsAtReturn : Era → Seen S → Refusal → Type 0
-  EndsAtReturn era old refusal = IsOfMemory refusal ⊎ ((refusal ≡ NotInChain) × ReturnsNobody era old)
-
+  -- memory ran out, or the life broke off behind an era
   abbrev pub BreaksOff : Geometry → ℕ → List Era → Refusal → Type 0
-  BreaksOff geometry members eras refusal = IsOfMemory refusal ⊎ ((refusal ≡ NotInChain) × BreaksAt geometry members eras)
+  BreaksOff geometry members eras refusal = IsOfMemory refusal ⊎ BreaksAt geometry members eras refusal

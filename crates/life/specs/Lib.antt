@@ -3,6 +3,8 @@ pub mod Calls
 pub mod Does
 pub mod Headline
 pub mod Lived
+pub mod Managed
 pub mod Played
 pub mod Plays
+pub mod Recovered
 pub mod Refusal

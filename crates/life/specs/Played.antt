@@ -70,8 +70,12 @@ went_in (Err refusal) = Refused (number_of refusal)
 
 abbrev pub fed_by : Deed → Answer → SessionId → List ℕ
 fed_by (deeds.Step step) answer = fed_by_step step answer
+fed_by (deeds.Manage act) answer = no_one
 fed_by (deeds.Arm at event) answer = no_one
+fed_by (deeds.ArmConfig event) answer = no_one
 
 abbrev pub handed_by : Deed → Answer → SessionId → List ℕ
 handed_by (deeds.Step step) answer = handed_by_step step answer
+handed_by (deeds.Manage act) answer = handed_of answer
 handed_by (deeds.Arm at event) answer = no_one
+handed_by (deeds.ArmConfig event) answer = no_one

@@ -3,49 +3,88 @@ ghost use Rattle.std.specs.Prelude.{◌≡◌, ◌≢◌, ◌*◌, ◌<◌, ◌�
 ghost use Rattle.std.specs.List.{AllPairs, range_with_len};
 ghost use Rattle.chain.specs.Opening.{AreEven, recorded_in};
 ghost use Rattle.chain_core.specs.Node.{size_of};
-ghost use Rattle.disk_model.specs.Memory.{has_stopped};
+ghost use Rattle.configurations.specs.Store.{IsSettledConfig, created};
+ghost use Rattle.disk_model.specs.Memory.{given_of, has_stopped, may_be_left, size_of as disk_size_of};
 ghost use Rattle.life.specs.Begun.{AllGo, AreOnDisks, BeginsWith, first_about, stores_of};
+ghost use Rattle.life.specs.Headline.{first_record};
+ghost use Rattle.life.specs.Managed.{IsAtRest, config_part};
 ghost use Rattle.life.specs.Refusal.{IsOfMemory};
 ghost use Rattle.local_store.specs.About.{IsOfVersionTwo};
 ghost use Rattle.volume.specs.Writes.{volume_of};
 
+use crate::managed::ManagedWorld;
 use crate::refusal::Refusal;
 use chain::Chain;
-use configurations::{Epoch, Incarnation, Member, Record};
-use disk_model::{MemDisk, Script};
-use gate_journal::Slot;
+use configurations::{ConfigStore, Epoch, Incarnation, Member, Record};
+use disk_model::{MemDisk, Part, Script};
+use gate_journal::{PAIR_SIZE, Slot};
 use home_blocks::disk_size;
 use local_store::{Store, StoreLike};
 use std::alloc::{AllocError, Global};
 use volume::Geometry;
-use world::World;
+use world::{Management, World};
 
-/// The epoch of a chain's only record.
-const EPOCH: u64 = 1;
+/// The epoch of a chain's first record.
+const FIRST_EPOCH: u64 = 1;
+
+/// The part of the configuration's disk in which the record stands.
+pub(crate) fn config_part() -> Part
+    ensures { result ≡ config_part }
+{
+    Part {
+        start: 0,
+        len: PAIR_SIZE,
+    }
+}
 
 /// The incarnation of a disk that was formatted.
 const FIRST_INCARNATION: u64 = 1;
 
-/// A world of so many members, 1 to 8, at the slots from 0 up, over new disks in memory, with a volume of zeros and without clients.
+/// A world of so many members, 1 to 8, at the slots from 0 up, over new disks in memory, with a volume of zeros and without clients; and
+/// its manager, with the first record on a new disk.
 ///
 /// 100 `Memory`, and only that: nothing is armed on a new disk.
 pub fn begin(
     alloc: Global,
     geometry: Geometry,
     members: u8,
-) -> Result<World<Store<MemDisk>>, Refusal>
+) -> Result<ManagedWorld<Store<MemDisk>, MemDisk>, Refusal>
     requires some { 0 < members }
     requires few { members ≤ 8 }
-    ensures many { IfOk result (λ world. length world.chain.members ≡ members) }
-    ensures slots { IfOk result (λ world. map ⟦<Store<MemDisk> as StoreLike>⟧.about (stores_of world) ≡ map (first_about geometry) (range_with_len 0 members)) }
-    ensures disks { IfOk result (λ world. AreOnDisks ⟦<Store<MemDisk> as StoreLike>⟧.about world) }
+    ensures many { IfOk result (λ managed. length managed.world.chain.members ≡ members) }
+    ensures slots { IfOk result (λ managed. map ⟦<Store<MemDisk> as StoreLike>⟧.about (stores_of managed.world) ≡ map (first_about geometry) (range_with_len 0 members)) }
+    ensures disks { IfOk result (λ managed. AreOnDisks ⟦<Store<MemDisk> as StoreLike>⟧.about managed.world) }
     ensures go { IfOk result (AllGo (λ s. s.disk)) }
-    ensures begins { IfOk result (BeginsWith ⟦<Store<MemDisk> as StoreLike>⟧.about ⟦<Store<MemDisk> as StoreLike>⟧.keeps ⟦<Store<MemDisk> as StoreLike>⟧.may_leave_now
-        geometry 0 (volume_of (4096 * geometry.blocks) [])) }
+    ensures recorded { IfOk result (λ managed. managed.world.chain.recorded ≡ first_record members) }
+    ensures rests { IfOk result IsAtRest }
+    ensures begins { IfOk result (λ managed. BeginsWith ⟦<Store<MemDisk> as StoreLike>⟧.about ⟦<Store<MemDisk> as StoreLike>⟧.keeps ⟦<Store<MemDisk> as StoreLike>⟧.may_leave_now
+        geometry 0 (volume_of (4096 * geometry.blocks) []) managed.world) }
     ensures refused { IfErr result IsOfMemory }
 {
     let stores = first_stores(alloc, geometry, members)?;
-    Ok(world_of(alloc, stores)?)
+    let epoch = Epoch::new(FIRST_EPOCH).unwrap();
+    let (config, disk) = first_config(alloc, record_of(alloc, epoch, &stores)?)?;
+    let chain = record_of(alloc, epoch, &stores)?;
+    let world = world_of(alloc, epoch, stores)?;
+    Ok(ManagedWorld {
+        world,
+        management: Management::new(alloc, chain, config, disk),
+    })
+}
+
+/// The store of the configuration on a new disk, with this first record.
+fn first_config(alloc: Global, first: Record) -> Result<(ConfigStore, MemDisk), Refusal>
+    ensures store { IfOk result (λ r. r.0 ≡ created config_part first) }
+    ensures settled { IfOk result (λ r. IsSettledConfig r.0 (given_of r.1) (may_be_left r.1)) }
+    ensures size { IfOk result (λ r. disk_size_of r.1 ≡ 8192) }
+    ensures go { IfOk result (λ r. has_stopped r.1 ≡ false) }
+    ensures refused { IfErr result IsOfMemory }
+{
+    let mut disk = MemDisk::new(alloc, PAIR_SIZE, Script::new(alloc))?;
+    match ConfigStore::create(alloc, &mut disk, config_part(), first) {
+        Ok(config) => Ok((config, disk)),
+        Err(refusal) => Err(Refusal::Config(refusal)),
+    }
 }
 
 /// The stores of so many members, at the slots from 0 up, on new disks.
@@ -83,10 +122,11 @@ fn first_store(alloc: Global, geometry: Geometry, number: u8) -> Result<Store<Me
     }
 }
 
-/// The world of the chain of these stores' members, in this order, without clients. The stores are one to eight, not broken, of
-/// slots of their own, at one front, with volumes of the same sizes, on disks of version 2.
+/// The world of the chain of these stores' members, in this order, recorded with this epoch, without clients. The stores are one to eight,
+/// not broken, of slots of their own, at one front, with volumes of the same sizes, on disks of version 2.
 pub(crate) fn world_of<S: StoreLike + Drop>(
     alloc: Global,
+    epoch: Epoch,
     stores: Vec<S>,
 ) -> Result<World<S>, AllocError>
     requires some { 0 < length stores.items }
@@ -99,16 +139,14 @@ pub(crate) fn world_of<S: StoreLike + Drop>(
     requires here { All (λ s. (S.about s).lent ≡ None) stores.items }
     requires keeps { S.keeps_model → All (λ s. (volume : List ℕ) × S.keeps s volume × (length volume ≡ size_of (S.about s))) stores.items }
     ensures many { IfOk result (λ world. length world.chain.members ≡ length stores.items) }
+    ensures recorded { IfOk result (λ world. world.chain.recorded ≡ record { epoch = epoch; members = map (recorded_in S.about) stores.items }) }
+    ensures idle { IfOk result (λ world. world.chain.writing ≡ None) }
     ensures stores { IfOk result (λ world. stores_of world ≡ stores.items) }
     ensures disks { IfOk result (AreOnDisks S.about) }
     ensures begins { S.keeps_model → IfOk result (λ world. IfSome (slice_get stores.items 0) (λ first. (volume : List ℕ) → All (λ s. S.keeps s volume) stores.items
         → BeginsWith S.about S.keeps S.may_leave_now (S.about first).geometry (S.about first).front volume world)) }
 {
-    let members = members_of(alloc, &stores)?;
-    let record = match Record::new(Epoch::new(EPOCH).unwrap(), members) {
-        Ok(record) => record,
-        Err(_) => unreachable!(),
-    };
+    let record = record_of(alloc, epoch, &stores)?;
     let Ok(chain) = Chain::new(alloc, record, stores) else {
         return Err(AllocError);
     };
@@ -118,6 +156,23 @@ pub(crate) fn world_of<S: StoreLike + Drop>(
             drop(chain.abandon());
             Err(AllocError)
         }
+    }
+}
+
+/// The record of this epoch, of the members whose stores these are, one to eight, of slots of their own.
+pub(crate) fn record_of<S: StoreLike>(
+    alloc: Global,
+    epoch: Epoch,
+    stores: &[S],
+) -> Result<Record, AllocError>
+    requires some { 0 < length stores.now }
+    requires few { length stores.now ≤ 8 }
+    requires slots { AllPairs (λ one other. (S.about one).slot ≢ (S.about other).slot) stores.now }
+    ensures { IfOk result (λ r. r ≡ record { epoch = epoch; members = map (recorded_in S.about) stores.now }) }
+{
+    match Record::new(epoch, members_of(alloc, stores)?) {
+        Ok(record) => Ok(record),
+        Err(_) => unreachable!(),
     }
 }
 
@@ -133,7 +188,7 @@ fn members_of<S: StoreLike>(alloc: Global, stores: &[S]) -> Result<Vec<Member>, 
 }
 
 /// The member whose store this is, as it is recorded.
-fn member_of<S: StoreLike>(store: &S) -> Member
+pub(crate) fn member_of<S: StoreLike>(store: &S) -> Member
     ensures { result ≡ recorded_in S.about store.now }
 {
     Member {

@@ -1,5 +1,5 @@
 use crate::answer::Answer;
-use crate::step::Step;
+use crate::step::{ManagerAct, Step};
 use disk_model::{Cut, Event};
 
 /// What is done in an era.
@@ -7,8 +7,12 @@ use disk_model::{Cut, Event};
 pub enum Deed {
     /// A step of the world.
     Step(Step),
+    /// The manager does something.
+    Manage(ManagerAct),
     /// Something is to happen at a device call to come, of the member at a place.
     Arm { at: usize, event: Event },
+    /// Or at one of the configuration's disk.
+    ArmConfig { event: Event },
 }
 
 /// From a beginning, or a recovery, to the next cut.

@@ -144,7 +144,7 @@ fn tick<S: StoreLike + Drop>(world: &mut World<S>, at: usize) -> Answer
 }
 
 /// A step that tells clients something, where it is taken.
-fn told(told: Option<Told>) -> Answer
+pub(crate) fn told(told: Option<Told>) -> Answer
     ensures { result ≡ told_in told }
 {
     match told {
@@ -174,7 +174,7 @@ fn went(went: Result<Told, Refusal>) -> Answer
 }
 
 /// One that tells nobody anything.
-fn done(alloc: Global, taken: bool) -> Answer
+pub(crate) fn done(alloc: Global, taken: bool) -> Answer
     ensures { TellsDone taken result }
 {
     if taken {
@@ -185,7 +185,7 @@ fn done(alloc: Global, taken: bool) -> Answer
 }
 
 /// It was taken, and told nobody anything.
-fn silent(alloc: Global) -> Answer
+pub(crate) fn silent(alloc: Global) -> Answer
     ensures { IsSilent result }
 {
     Answer::Taken(Told::Out(Vec::new(alloc)))

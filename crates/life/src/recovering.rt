@@ -1,84 +1,223 @@
 //! A chain of one goes on.
-ghost use Rattle.std.specs.Prelude.{◌≡◌, ◌⊎◌, ◌<◌, ◌≤◌, ◌∷◌, [], ℕ, List, IfErr, IfOk, IfSome, None, false, length};
-ghost use Rattle.disk_model.specs.Disk.{NothingNew};
+ghost use Rattle.std.specs.Prelude.{◌≡◌, ◌≢◌, ◌⊎◌, ◌<◌, ◌≤◌, ◌∷◌, [], ℕ, List, IfErr, IfOk, IfSome, IsErrOf, None, OnOk, false, length, true};
+ghost use Rattle.configurations.specs.Refusal.{HasCause, IsCaused as IsConfigCaused, IsOfOpening as IsOfConfigOpening};
+ghost use Rattle.configurations.specs.Store.{HoldsNone, HoldsOldOrNext, IsSettledConfig, recorded};
+ghost use Rattle.configurations.specs.declared.refusal.Refusal.TheVariants as config_refusals;
 ghost use Rattle.disk_model.specs.Memory.{failures_of, given_of, has_stopped, may_be_left, most_failures_of, size_of};
-ghost use Rattle.life.specs.Begun.{AllGo, AreOfMember, AreOnDisks, BeginsWith, HasVersionTwo, IsOfMember, MeansStill, stores_of};
-ghost use Rattle.life.specs.Refusal.{IsCausedBy, IsStopOf, IsOfMemory, IsOfRecovering, IsOfReturning};
+ghost use Rattle.disk_model.specs.Part.{inside};
+ghost use Rattle.gate_journal.specs.declared.batch.TheConstants.{MAX_NUMBER};
+ghost use Rattle.chain.specs.Opening.{recorded_in};
+ghost use Rattle.chain_model.specs.View.{is_in};
+ghost use Rattle.life.specs.Begun.{AllGo, AreOnDisks, BeginsWith, HasVersionTwo, MeansStill, stores_of};
+ghost use Rattle.life.specs.Managed.{IsLast, StandsOn, config_part};
+ghost use Rattle.life.specs.Recovered.{IsRecordedAlone, IsStranger, IsUnwritten, MayReturn, RecordsStill, Recovers, one_behind};
+ghost use Rattle.life.specs.Refusal.{IsCausedBy, IsCausedByConfig, IsOfCalm, IsOfRecord, IsOfRecovering, IsOfReturning, IsStopOf, IsStopOfConfig};
 ghost use Rattle.local_store.specs.About.{IsOfVersionTwo, meaning_with, migrated};
 ghost use Rattle.local_store.specs.Meaning.{Meaning, Means};
 ghost use Rattle.local_store.specs.Refusal.{IsCaused, IsNotOfDevice, IsOfDevice};
 
-use crate::beginning::world_of;
+use crate::beginning::{config_part, member_of, world_of};
+use crate::managed::ManagedWorld;
 use crate::refusal::Refusal;
-use disk_model::{DiskError, MemDisk};
+use chain_steps::incarnation_in;
+use configurations::{ConfigStore, Epoch, Record, numbers_are_one, records_are_one};
+use disk_model::{Disk, DiskError, MemDisk};
+use gate_journal::PAIR_SIZE;
 use home_blocks::{Version, superblocks_are_one};
 use local_store::{Store, StoreLike, disks_mean_one, meanings_are_opened};
 use std::alloc::{AllocError, Global};
-use world::World;
+use world::{Management, World};
 
-/// Why a chain doesn't go on, with the disk, where that is still there.
+/// Why a chain doesn't go on, with the disks, where they are still there.
 #[derive(Drop)]
 pub struct Refused {
     /// The refusal.
     pub refusal: Refusal,
-    /// The disk. `None` where memory ran out once its store was open.
+    /// The member's disk. `None` where memory ran out once its store was open.
     pub disk: Option<MemDisk>,
+    /// The configuration's.
+    pub config: MemDisk,
 }
 
-/// The member of a disk goes on alone, without clients: at the front that the disk means, with the volume there. A disk of version 1
-/// is migrated before.
+/// The member of a disk goes on alone, without clients, by the record on the configuration's disk: at the front that the disk means, with the
+/// volume there. It is recorded alone, with the next epoch; then a disk of version 1 is migrated.
 ///
-/// What `Store::open` and `Store::migrate` refuse, which is the device's only where the disk can fail; 131 `NotAVolume` also for an
-/// incarnation of 0, which no member's disk is given; and 100 `Memory`.
-pub fn recover(alloc: Global, disk: MemDisk) -> Result<World<Store<MemDisk>>, Refused>
-    ensures alone { IfOk result (λ world. length world.chain.members ≡ 1) }
-    ensures disks { IfOk result (λ world. AreOnDisks ⟦<Store<MemDisk> as StoreLike>⟧.about world) }
+/// 192 `NotInChain` where the record hasn't the disk's member, by slot and incarnation: neither disk was written. 161 `NoRecord` where there
+/// is no record, 162 `NotNext` where none can follow it, and what `ConfigStore::open` and `record` refuse. What `Store::open` and
+/// `Store::migrate` refuse; 131 `NotAVolume` also for an incarnation of 0, which no member's disk is given; and 100 `Memory`. A refusal is the
+/// device's only where its disk can fail.
+pub fn recover(
+    alloc: Global,
+    disk: MemDisk,
+    config: MemDisk,
+) -> Result<ManagedWorld<Store<MemDisk>, MemDisk>, Refused>
+    ensures alone { IfOk result (λ managed. length managed.world.chain.members ≡ 1) }
+    ensures disks { IfOk result (λ managed. AreOnDisks ⟦<Store<MemDisk> as StoreLike>⟧.about managed.world) }
     ensures go { IfOk result (AllGo (λ s. s.disk)) }
-    ensures goes_on { IfOk result (λ world. (meaning : Meaning) × Means meaning (given_of disk)
-        × AreOfMember ⟦<Store<MemDisk> as StoreLike>⟧.about meaning (stores_of world)
-        × BeginsWith ⟦<Store<MemDisk> as StoreLike>⟧.about ⟦<Store<MemDisk> as StoreLike>⟧.keeps ⟦<Store<MemDisk> as StoreLike>⟧.may_leave_now
-        meaning.geometry meaning.front meaning.volume world) }
+    ensures goes_on { IfOk result (Recovers ⟦<Store<MemDisk> as StoreLike>⟧.about ⟦<Store<MemDisk> as StoreLike>⟧.keeps ⟦<Store<MemDisk> as StoreLike>⟧.may_leave_now disk config) }
     ensures refused { IfErr result (λ e. IsOfRecovering e.refusal) }
-    ensures returning { IfErr result (λ e. IsOfMember disk → IsOfReturning e.refusal) }
+    ensures strangers { IfErr result (λ e. e.refusal ≡ Refusal.NotInChain → IsStranger disk config × (IfSome e.disk (IsUnwritten disk) × IsUnwritten config e.config)) }
+    ensures missing { IfErr result (λ e. e.refusal ≡ Refusal.Config config_refusals.NoRecord → (size_of config < 8192) ⊎ HoldsNone (inside config_part (given_of config))) }
+    ensures last { IfErr result (λ e. e.refusal ≡ Refusal.Config config_refusals.NotNext → IsLast (given_of config)) }
+    ensures returning { IfErr result (λ e. MayReturn disk config → IsOfReturning e.refusal) }
     ensures cause { IfErr result (λ e. IfSome e.disk (λ back. IsCausedBy (failures_of disk) (failures_of back) e.refusal ⊎ IsStopOf back e.refusal)) }
-    ensures calm { IfErr result (λ e. IsOfMember disk → failures_of disk ≡ most_failures_of disk → IsOfMemory e.refusal) }
-    // A disk of version 2 was only read.
-    ensures back { IfErr result (λ e. IfSome e.disk (λ back. HasVersionTwo (given_of disk) → (given_of back ≡ given_of disk) × NothingNew (may_be_left disk) (may_be_left back))) }
-    // A recovery that was broken off can be cut, and done again: what is left means what the disk meant.
-    ensures again { IfErr result (λ e. IfSome e.disk (λ back. MeansStill disk back)) }
+    ensures config_cause { IfErr result (λ e. IsCausedByConfig (failures_of config) (failures_of e.config) e.refusal ⊎ IsStopOfConfig e.config e.refusal) }
+    ensures calm { IfErr result (λ e. MayReturn disk config → failures_of disk ≡ most_failures_of disk → failures_of config ≡ most_failures_of config → IsOfCalm e.refusal) }
+    // The member's disk isn't written before the record of this member alone is durable; and one of version 2 was only read.
+    ensures order { IfErr result (λ e. IfSome e.disk (IsUnwritten disk) ⊎ IsRecordedAlone disk config e.config) }
+    ensures back { IfErr result (λ e. HasVersionTwo (given_of disk) → IfSome e.disk (IsUnwritten disk)) }
+    // A recovery that was broken off can be cut, and done again: what is left means what the disk meant, and has the record or the next one.
+    ensures again { IfErr result (λ e. IfSome e.disk (MeansStill disk)) }
+    ensures records { IfErr result (λ e. RecordsStill disk config e.config) }
     ensures size { IfErr result (λ e. IfSome e.disk (λ back. size_of back ≡ size_of disk)) }
+    ensures config_size { IfErr result (λ e. size_of e.config ≡ size_of config) }
     ensures gone { IfErr result (λ e. e.disk ≡ None → e.refusal ≡ Refusal.Memory) }
 {
     disks_mean_one();
     meanings_are_opened();
     superblocks_are_one();
-    match Store::open(alloc, disk) {
-        Ok(store) => {
-            if store.incarnation() == 0 {
-                Err(Refused {
-                    refusal: Refusal::Store(local_store::Refusal::NotAVolume),
-                    disk: Some(store.into_disk()),
-                })
-            } else {
-                match ready(store) {
-                    Ok(store) => match alone(alloc, store) {
-                        Ok(world) => Ok(world),
-                        Err(_) => Err(Refused {
-                            refusal: Refusal::Memory,
-                            disk: None,
-                        }),
-                    },
-                    Err((refusal, disk)) => Err(Refused {
-                        refusal: Refusal::Store(refusal),
-                        disk: Some(disk),
-                    }),
-                }
-            }
+    records_are_one();
+    numbers_are_one();
+    let mut config = config;
+    let found = match open_config(alloc, &mut config) {
+        Ok(found) => found,
+        Err(refusal) => {
+            return Err(Refused {
+                refusal: Refusal::Config(refusal),
+                disk: Some(disk),
+                config,
+            });
         }
-        Err((refusal, disk)) => Err(Refused {
-            refusal: Refusal::Store(refusal),
-            disk: Some(disk),
+    };
+    let store = match Store::open(alloc, disk) {
+        Ok(store) => store,
+        Err((refusal, disk)) => {
+            return Err(Refused {
+                refusal: Refusal::Store(refusal),
+                disk: Some(disk),
+                config,
+            });
+        }
+    };
+    if store.incarnation() == 0 {
+        return Err(Refused {
+            refusal: Refusal::Store(local_store::Refusal::NotAVolume),
+            disk: Some(store.into_disk()),
+            config,
+        });
+    }
+    if !has_member(found.current(), &store) {
+        return Err(Refused {
+            refusal: Refusal::NotInChain,
+            disk: Some(store.into_disk()),
+            config,
+        });
+    }
+    let found = match record_alone(alloc, found, &mut config, &store) {
+        Ok(found) => found,
+        Err(refusal) => {
+            return Err(Refused {
+                refusal: Refusal::Config(refusal),
+                disk: Some(store.into_disk()),
+                config,
+            });
+        }
+    };
+    let store = match ready(store) {
+        Ok(store) => store,
+        Err((refusal, disk)) => {
+            return Err(Refused {
+                refusal: Refusal::Store(refusal),
+                disk: Some(disk),
+                config,
+            });
+        }
+    };
+    match alone(alloc, found.current().epoch(), store) {
+        Ok((world, chain)) => Ok(ManagedWorld {
+            world,
+            management: Management::new(alloc, chain, found, config),
         }),
+        Err(_) => Err(Refused {
+            refusal: Refusal::Memory,
+            disk: None,
+            config,
+        }),
+    }
+}
+
+/// The record on the configuration's disk, which it only reads and syncs. 161 `NoRecord` also where the disk is too short.
+fn open_config(alloc: Global, config: &mut MemDisk) -> Result<ConfigStore, configurations::Refusal>
+    ensures part { IfOk result (λ s. s.pair.part ≡ config_part) }
+    ensures stands { IfOk result (λ s. StandsOn (given_of config.old) s.current) }
+    ensures settled { IfOk result (λ s. IsSettledConfig s (given_of config.new) (may_be_left config.new)) }
+    ensures long { IfOk result (λ _. 8192 ≤ size_of config.new) }
+    ensures none { IsErrOf result config_refusals.NoRecord → (size_of config.old < 8192) ⊎ HoldsNone (inside config_part (given_of config.old)) }
+    ensures reads { IsUnwritten config.old config.new }
+    ensures told { IfErr result IsOfConfigOpening }
+    ensures size { size_of config.new ≡ size_of config.old }
+    ensures cause { HasCause (failures_of config.old) (failures_of config.new) result }
+    ensures most { most_failures_of config.new ≤ most_failures_of config.old }
+{
+    if config.len() < PAIR_SIZE {
+        return Err(configurations::Refusal::NoRecord);
+    }
+    ConfigStore::open(alloc, config, config_part())
+}
+
+/// Whether a record has a store's member.
+fn has_member<S: StoreLike>(chain: &Record, store: &S) -> bool
+    ensures { result ≡ is_in chain.now (S.about store.now).slot (S.about store.now).incarnation }
+{
+    match incarnation_in(chain, store.slot()) {
+        Some(recorded) => recorded.number() == store.incarnation(),
+        None => false,
+    }
+}
+
+/// The member of a store is recorded alone, with the next epoch.
+fn record_alone(
+    alloc: Global,
+    found: ConfigStore,
+    config: &mut MemDisk,
+    store: &Store<MemDisk>,
+) -> Result<ConfigStore, configurations::Refusal>
+    requires part { found.pair.part ≡ config_part }
+    requires long { 8192 ≤ size_of config.old }
+    requires settled { IsSettledConfig found (given_of config.old) (may_be_left config.old) }
+    requires given { 0 < (⟦<Store<MemDisk> as StoreLike>⟧.about store.now).incarnation }
+    ensures recorded { IfOk result (λ s. s ≡ recorded found (one_behind ⟦<Store<MemDisk> as StoreLike>⟧.about found.current store.now)) }
+    ensures settled { IfOk result (λ s. IsSettledConfig s (given_of config.new) (may_be_left config.new)) }
+    ensures go { OnOk result (has_stopped config.new ≡ false) }
+    ensures told { IfErr result IsOfRecord }
+    ensures found { IfErr result (λ r. r ≢ config_refusals.NoRecord) }
+    ensures last { IsErrOf result config_refusals.NotNext → (MAX_NUMBER ≤ found.current.epoch) ⊎ (MAX_NUMBER ≤ found.pair.number) }
+    ensures still { (c : List ℕ) → may_be_left config.new c → HoldsOldOrNext found (one_behind ⟦<Store<MemDisk> as StoreLike>⟧.about found.current store.now) (inside config_part c) }
+    ensures cause { IfErr result (λ r. IsConfigCaused (failures_of config.old) (failures_of config.new) r ⊎ ((r ≡ config_refusals.Device DiskError.Stopped) × (has_stopped config.new ≡ true))) }
+    ensures calm { IfErr result (λ r. most_failures_of config.old ≤ failures_of config.old → IsOfCalm (Refusal.Config r)) }
+    ensures size { size_of config.new ≡ size_of config.old }
+{
+    let Some(epoch) = Epoch::new(found.current().epoch().number() + 1) else {
+        return Err(configurations::Refusal::NotNext);
+    };
+    let next = alone_record(alloc, epoch, store)?;
+    let mut found = found;
+    found.record(alloc, config, next)?;
+    if config.is_stopped() {
+        return Err(configurations::Refusal::Device(DiskError::Stopped));
+    }
+    Ok(found)
+}
+
+/// The record of a store's member alone.
+fn alone_record<S: StoreLike>(alloc: Global, epoch: Epoch, store: &S) -> Result<Record, AllocError>
+    ensures { IfOk result (λ r. r ≡ record { epoch = epoch; members = recorded_in S.about store.now ∷ [] }) }
+{
+    let mut members = Vec::with_capacity(alloc, 1)?;
+    members.push_reserved(member_of(store));
+    match Record::new(epoch, members) {
+        Ok(record) => Ok(record),
+        Err(_) => unreachable!(),
     }
 }
 
@@ -119,20 +258,28 @@ fn ready(store: Store<MemDisk>) -> Result<Store<MemDisk>, (local_store::Refusal,
     Ok(store)
 }
 
-/// The world of a store's member alone.
-fn alone<S: StoreLike + Drop>(alloc: Global, store: S) -> Result<World<S>, AllocError>
+/// The world of a store's member alone, recorded with this epoch, and its record.
+fn alone<S: StoreLike + Drop>(
+    alloc: Global,
+    epoch: Epoch,
+    store: S,
+) -> Result<(World<S>, Record), AllocError>
     requires given { 0 < (S.about store).incarnation }
     requires runs { (S.about store).broken ≡ false }
     requires version { IsOfVersionTwo (S.about store) }
     requires here { (S.about store).lent ≡ None }
     requires keeps { S.keeps_model → (volume : List ℕ) × S.keeps store volume }
-    ensures alone { IfOk result (λ world. length world.chain.members ≡ 1) }
-    ensures store { IfOk result (λ world. stores_of world ≡ store ∷ []) }
-    ensures disks { IfOk result (AreOnDisks S.about) }
-    ensures begins { S.keeps_model → IfOk result (λ world. (volume : List ℕ) → S.keeps store volume
-        → BeginsWith S.about S.keeps S.may_leave_now (S.about store).geometry (S.about store).front volume world) }
+    ensures alone { IfOk result (λ r. length r.0.chain.members ≡ 1) }
+    ensures recorded { IfOk result (λ r. r.0.chain.recorded ≡ record { epoch = epoch; members = recorded_in S.about store ∷ [] }) }
+    ensures chain { IfOk result (λ r. r.1 ≡ r.0.chain.recorded) }
+    ensures idle { IfOk result (λ r. r.0.chain.writing ≡ None) }
+    ensures store { IfOk result (λ r. stores_of r.0 ≡ store ∷ []) }
+    ensures disks { IfOk result (λ r. AreOnDisks S.about r.0) }
+    ensures begins { S.keeps_model → IfOk result (λ r. (volume : List ℕ) → S.keeps store volume
+        → BeginsWith S.about S.keeps S.may_leave_now (S.about store).geometry (S.about store).front volume r.0) }
 {
+    let chain = alone_record(alloc, epoch, &store)?;
     let mut stores = Vec::with_capacity(alloc, 1)?;
     stores.push_reserved(store);
-    world_of(alloc, stores)
+    Ok((world_of(alloc, epoch, stores)?, chain))
 }

@@ -9,12 +9,15 @@ pub enum Refusal {
     /// Memory ran out.
     #[error("100 Memory")]
     Memory,
-    /// No member of the recorded chain is at the place whose disk was to return.
+    /// The disk that was to return is none of a member of the recorded chain.
     #[error("192 NotInChain")]
     NotInChain,
     /// The store on the disk was refused.
     #[error(transparent)]
     Store(local_store::Refusal),
+    /// The record on the configuration's disk was refused.
+    #[error(transparent)]
+    Config(configurations::Refusal),
 }
 
 impl From<std::alloc::AllocError> for Refusal {

@@ -54,3 +54,18 @@ pub enum Act {
     /// It stops. Once it has, that is no step.
     Stop,
 }
+
+/// What the manager does.
+#[derive(Clone, Copy, Debug, PartialEq, Eq)]
+pub enum ManagerAct {
+    /// It notes who has stopped, and begins the removal of the stopped member at a slot.
+    Remove { slot: u64 },
+    /// The next record is being written, if that is the next order.
+    BeginRecord,
+    /// What is being written goes to the configuration's disk, by six device calls, and is the recorded chain.
+    EndRecord,
+    /// The board counts a slot no longer, if that is the next order.
+    CountOut,
+    /// A member is told the record, if that is the next order.
+    Tell,
+}

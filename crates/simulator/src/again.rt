@@ -3,8 +3,8 @@ ghost use Rattle.std.specs.Prelude.{◌<◌, ◌≤◌};
 
 use crate::refusal::Refusal;
 use crate::sim::Sim;
-use disk_model::{Cut, Event};
-use life::{Answer, Answers, Deed, Era, Lived, Step, live};
+use disk_model::Cut;
+use life::{Answer, Answers, Deed, Era, Lived, ManagedWorld, live};
 use std::alloc::Global;
 use std::io::Write;
 use std::mem;
@@ -21,12 +21,10 @@ pub(crate) struct Kept {
     deeds: Vec<Deed>,
     /// The answers, a line each. The deed in which a device call met its stop has none.
     answers: Vec<u8>,
-    /// What was cut, until a disk returns.
-    cut: Option<Cut>,
+    /// What was cut, until a disk returns, and the place of a member that is recorded then.
+    cut: Option<(Cut, usize)>,
     /// Whether a recovery was refused. A life does it again by itself, with nothing armed any more.
     is_broken_off: bool,
-    /// Whether a change of the chain was begun.
-    is_changed: bool,
 }
 
 impl Kept {
@@ -41,22 +39,17 @@ impl Kept {
             answers: Vec::new(alloc),
             cut: None,
             is_broken_off: false,
-            is_changed: false,
         }
     }
 
-    /// A step was taken. Without an answer a device call met its stop in it.
-    pub(crate) fn add_step(&mut self, step: Step, answer: Option<&Answer>) -> Result<(), Refusal> {
-        self.add(Deed::Step(step), answer)
-    }
-
     /// Something is to happen at a device call to come.
-    pub(crate) fn add_event(&mut self, at: usize, event: Event) -> Result<(), Refusal> {
+    pub(crate) fn add_event(&mut self, arming: Deed) -> Result<(), Refusal> {
         let taken = Answer::Taken(Told::Out(Vec::new(self.alloc)));
-        self.add(Deed::Arm { at, event }, Some(&taken))
+        self.add_deed(arming, Some(&taken))
     }
 
-    fn add(&mut self, deed: Deed, answer: Option<&Answer>) -> Result<(), Refusal> {
+    /// A deed was done. Without an answer a device call met its stop in it.
+    pub(crate) fn add_deed(&mut self, deed: Deed, answer: Option<&Answer>) -> Result<(), Refusal> {
         self.deeds.push(deed)?;
         match answer {
             Some(answer) => add_line(&mut self.answers, answer),
@@ -64,15 +57,18 @@ impl Kept {
         }
     }
 
-    /// Everything was cut.
-    pub(crate) fn cut(&mut self, cut: Cut) {
-        self.cut = Some(cut);
+    /// Everything was cut, where the member at a place was recorded.
+    pub(crate) fn cut(&mut self, cut: Cut, survivor: usize) {
+        self.cut = Some((cut, survivor));
     }
 
     /// The disk at a place returned: the era is over.
     pub(crate) fn returned(&mut self, returned: usize) -> Result<(), Refusal> {
         let deeds = mem::replace(&mut self.deeds, Vec::new(self.alloc));
-        let cut = self.cut.take().unwrap_or(Cut::All);
+        let cut = match self.cut.take() {
+            Some((cut, _)) => cut,
+            None => Cut::All,
+        };
         Ok(
             self.eras.push(Era {
                 deeds,
@@ -87,26 +83,20 @@ impl Kept {
         self.is_broken_off = true;
     }
 
-    /// A change of the chain was begun.
-    pub(crate) fn changed(&mut self) {
-        self.is_changed = true;
-    }
-
-    /// Lives it once more, and tells whether each deed is answered as it was.
-    fn live<T: Write>(&mut self, told: &mut T) -> Result<(), Refusal> {
+    /// Lives it once more, from whose last era the member at a place returns if nobody did yet, and tells whether each deed is answered as it
+    /// was.
+    fn live<T: Write>(&mut self, survivor: usize, told: &mut T) -> Result<(), Refusal> {
         if self.is_broken_off {
             return Ok(writeln!(
                 told,
                 "not lived again: a recovery was refused, which a life does again by itself"
             )?);
         }
-        if self.is_changed {
-            return Ok(writeln!(
-                told,
-                "not lived again: the chain was changed, which no life does yet"
-            )?);
-        }
-        self.returned(0)?;
+        let survivor = match self.cut {
+            Some((_, survivor)) => survivor,
+            None => survivor,
+        };
+        self.returned(survivor)?;
         let eras = self.eras.len();
         let mut answers = Vec::new(self.alloc);
         self.answer(&mut answers)?;
@@ -143,7 +133,11 @@ fn answers_of(
     let Ok(lived) = live(alloc, geometry, members, eras) else {
         return Err(Refusal::Memory);
     };
-    let Lived { world, answers } = lived;
+    let Lived { managed, answers } = lived;
+    let ManagedWorld {
+        world,
+        management: _,
+    } = managed;
     let _stores = world.abandon();
     Ok(answers)
 }
@@ -156,8 +150,9 @@ fn add_line(text: &mut Vec<u8>, answer: &Answer) -> Result<(), Refusal> {
 impl Sim {
     /// Lives what was kept once more, and tells what came of it.
     pub(crate) fn tell_again<T: Write>(&mut self, told: &mut T) -> Result<(), Refusal> {
+        let survivor = self.survivor();
         match self.kept.take() {
-            Some(mut kept) => kept.live(told),
+            Some(mut kept) => kept.live(survivor, told),
             None => Ok(()),
         }
     }

@@ -2,20 +2,21 @@
 ghost use Rattle.std.specs.Prelude.{◌≤◌, ◌<◌, vec_len};
 
 use crate::again::Kept;
-use crate::managing::management_of;
 use crate::refusal::Refusal;
 use crate::script::NamedDisk;
 use crate::sim::{Left, Sim};
 use disk_model::{Cut, Event, MemDisk};
-use life::{MEMORY, Refusal as LifeRefusal, Refused};
+use life::{Deed, Disks, MEMORY, ManagedWorld, Refusal as LifeRefusal, Refused};
 use local_store::Store;
 use std::io::Write;
 use std::mem;
 use volume::{Geometry, MAX_MAX_PAYLOAD, least_area};
-use world::World;
 
 /// The number of the refusal of a recovery for which no disk is returned.
 const NONE_RETURNED: u16 = 191;
+
+/// That of one for which a disk is returned that the recorded chain hasn't.
+const NOT_IN_CHAIN: u16 = 192;
 
 impl Sim {
     /// Makes the world of a chain, or prints why its numbers are refused.
@@ -42,25 +43,27 @@ impl Sim {
             }
         };
         match life::begin(self.alloc, geometry, members) {
-            Ok(world) => {
+            Ok(managed) => {
                 if self.is_kept {
                     self.kept = Some(Kept::new(self.alloc, geometry, members));
                 }
-                self.goes_on_with(world)
+                self.goes_on_with(managed);
+                Ok(())
             }
             Err(refusal) => self.not_begun(refusal, writer),
         }
     }
 
-    /// The script goes on with this world, and a manager of it whose configuration stands on a new disk.
-    fn goes_on_with(&mut self, world: World<Store<MemDisk>>) -> Result<(), Refusal> {
-        let management = management_of(self.alloc, world.recorded());
-        if let Some(old) = mem::replace(&mut self.world, Some(world)) {
-            let _stores = old.abandon();
+    /// The script goes on with this world and its manager.
+    fn goes_on_with(&mut self, managed: ManagedWorld<Store<MemDisk>, MemDisk>) {
+        if let Some(old) = mem::replace(&mut self.managed, Some(managed)) {
+            let ManagedWorld {
+                world,
+                management: _,
+            } = old;
+            let _stores = world.abandon();
         }
         self.raised.clear();
-        self.management = Some(management?);
-        Ok(())
     }
 
     /// A device call to come fails, or the world stops in it. A member that is none, or no call, changes nothing.
@@ -72,11 +75,11 @@ impl Sim {
         let Some(at) = self.place(member) else {
             return Ok(());
         };
-        match &mut self.world {
-            Some(world) if call > 0 && at < world.len() => {
+        match &mut self.managed {
+            Some(ManagedWorld { world, .. }) if call > 0 && at < world.len() => {
                 world.arm(at, event)?;
                 match &mut self.kept {
-                    Some(kept) => kept.add_event(at, event),
+                    Some(kept) => kept.add_event(Deed::Arm { at, event }),
                     None => Ok(()),
                 }
             }
@@ -86,7 +89,7 @@ impl Sim {
 
     /// Prints the epoch, the committed front and the chain that are recorded, if there is a world.
     pub(crate) fn state<W: Write>(&mut self, writer: &mut W) -> Result<(), Refusal> {
-        let Some(world) = &mut self.world else {
+        let Some(ManagedWorld { world, .. }) = &mut self.managed else {
             return Ok(());
         };
         let front = world.front();
@@ -105,36 +108,51 @@ impl Sim {
             for left in &mut self.left {
                 left.disk.cut(cut);
             }
+            if let Some(config) = &mut self.config_left {
+                config.cut(cut);
+            }
         }
         self.stopped = false;
+        let survivor = self.survivor();
         let mut slots = Vec::new(self.alloc);
-        if let Some(world) = &self.world {
+        if let Some(ManagedWorld { world, .. }) = &self.managed {
             for at in 0..world.len() {
                 slots.push(world.slot(at))?;
             }
         }
-        let Some(world) = self.world.take() else {
+        let Some(managed) = self.managed.take() else {
             return Ok(());
         };
         if let Some(kept) = &mut self.kept {
-            kept.cut(cut);
+            kept.cut(cut, survivor);
         }
-        let disks = life::cut(self.alloc, world, cut)?;
-        for (slot, disk) in slots.into_iter().zip(disks) {
+        let Disks { members, config } = life::cut(self.alloc, managed, cut)?;
+        for (slot, disk) in slots.into_iter().zip(members) {
             self.left.push(Left { slot, disk })?;
         }
+        self.config_left = Some(config);
         Ok(())
     }
 
-    /// A member goes on alone from its disk, after a cut: prints `source M front F`. The other disks and the sessions are gone.
-    /// Without a member it is refused; a member without a disk changes nothing. Nor does anything once a change of the chain was begun:
-    /// its configuration isn't read yet.
+    /// The place of a member of the recorded chain, one that runs if there is one: whichever record a cut leaves, it has this one.
+    pub(crate) fn survivor(&self) -> usize {
+        let Some(ManagedWorld { world, .. }) = &self.managed else {
+            return 0;
+        };
+        (0..world.len())
+            .find(|&at| at < world.len() && world.is_recorded(at) && world.cause(at).is_none())
+            .or_else(|| (0..world.len()).find(|&at| at < world.len() && world.is_recorded(at)))
+            .unwrap_or(0)
+    }
+
+    /// A member goes on alone from its disk, after a cut, by the record on the configuration's: prints `source M front F`. The other disks and
+    /// the sessions are gone. Without a member it is refused, and where the record hasn't that member; a member without a disk changes nothing.
     pub(crate) fn recover<W: Write>(
         &mut self,
         member: Option<u64>,
         writer: &mut W,
     ) -> Result<(), Refusal> {
-        if self.left.is_empty() || self.is_changed {
+        if self.left.is_empty() {
             return Ok(());
         }
         let Some(member) = member else {
@@ -154,29 +172,40 @@ impl Sim {
     fn go_on_from<W: Write>(&mut self, at: usize, writer: &mut W) -> Result<(), Refusal>
         requires within { at < vec_len self.old.left }
     {
+        let Some(config) = self.config_left.take() else {
+            return Ok(());
+        };
         let Left { slot, disk } = self.left.remove(at);
-        match life::recover(self.alloc, disk) {
-            Ok(world) => {
+        match life::recover(self.alloc, disk, config) {
+            Ok(managed) => {
+                let world = &managed.world;
                 let front = if world.len() > 0 { world.durable(0) } else { 0 };
                 self.left.clear();
                 self.speakers.clear();
                 self.faulty.clear();
-                self.goes_on_with(world)?;
+                self.goes_on_with(managed);
                 if let Some(kept) = &mut self.kept {
                     kept.returned(at)?;
                 }
                 let member = slot.number();
                 Ok(writeln!(writer, "source {member} front {front}")?)
             }
-            Err(Refused { refusal, disk }) => {
+            Err(
+                Refused {
+                    refusal,
+                    disk,
+                    config,
+                },
+            ) => {
                 let Some(disk) = disk else {
                     return Err(Refusal::Memory);
                 };
                 if let Some(kept) = &mut self.kept {
                     kept.broken_off();
                 }
-                self.stopped = disk.is_stopped();
+                self.stopped = disk.is_stopped() || config.is_stopped();
                 self.left.push(Left { slot, disk })?;
+                self.config_left = Some(config);
                 self.not_begun(refusal, writer)
             }
         }
@@ -184,10 +213,13 @@ impl Sim {
 
     /// Prints why there is no world: a number, or that a device call met its stop.
     fn not_begun<W: Write>(&self, refusal: LifeRefusal, writer: &mut W) -> Result<(), Refusal> {
-        let LifeRefusal::Store(refusal) = refusal else {
-            return Err(Refusal::Memory);
+        let number = match refusal {
+            LifeRefusal::Memory => Some(MEMORY),
+            LifeRefusal::NotInChain => Some(NOT_IN_CHAIN),
+            LifeRefusal::Store(refusal) => refusal.number(),
+            LifeRefusal::Config(refusal) => refusal.number(),
         };
-        match refusal.number() {
+        match number {
             Some(MEMORY) => Err(Refusal::Memory),
             Some(number) => Ok(writeln!(writer, "refused {number}")?),
             None => self.tell_stop(writer),

@@ -2,58 +2,52 @@
 use crate::printed::Printed;
 use crate::refusal::Refusal;
 use crate::sim::Sim;
-use configurations::{ConfigStore, Record};
-use disk_model::{Event, MemDisk, Part, Script};
-use gate_journal::PAIR_SIZE;
-use manager::{Order, Refusal as ManagerRefusal};
-use std::alloc::{AllocError, Global};
-use world::Management;
-
-/// A copy of a record.
-fn copy_of(alloc: Global, record: &Record) -> Result<Record, AllocError> {
-    let members = Vec::from_slice(alloc, record.members())?;
-    Ok(Record::new(record.epoch(), members).unwrap())
-}
-
-/// The manager of a chain, whose record stands on a new disk.
-pub(crate) fn management_of(alloc: Global, chain: &Record) -> Result<Management<MemDisk>, Refusal> {
-    let mut disk = MemDisk::new(alloc, PAIR_SIZE, Script::new(alloc))?;
-    let part = Part {
-        start: 0,
-        len: PAIR_SIZE,
-    };
-    let Ok(config) = ConfigStore::create(alloc, &mut disk, part, copy_of(alloc, chain)?) else {
-        return Err(Refusal::Memory);
-    };
-    let chain = copy_of(alloc, chain)?;
-    Ok(Management::new(alloc, chain, config, disk))
-}
+use crate::steps::Outcome;
+use disk_model::Event;
+use life::{Answer, Deed, MEMORY, ManagerAct};
+use manager::Order;
 
 impl Sim {
     /// A device call to come of the configuration's disk fails, or the world stops in it.
     pub(crate) fn arm_config(&mut self, call: u64, event: Event) -> Result<(), Refusal> {
-        match &mut self.management {
-            Some(management) if call > 0 => Ok(management.arm(event)?),
+        match &mut self.managed {
+            Some(managed) if call > 0 => {
+                managed.management.arm(event)?;
+                match &mut self.kept {
+                    Some(kept) => kept.add_event(Deed::ArmConfig { event }),
+                    None => Ok(()),
+                }
+            }
             _ => Ok(()),
+        }
+    }
+
+    /// The manager does something. Of what meets its stop at a device call, nothing is added. It does nothing without a world, or behind such
+    /// a stop.
+    fn manage(&mut self, act: ManagerAct, printed: &mut Printed) -> Result<Outcome, Refusal> {
+        let Some(managed) = &mut self.managed else {
+            return Ok(Outcome::Skipped);
+        };
+        if self.stopped {
+            return Ok(Outcome::Skipped);
+        }
+        let answer = life::manage(self.alloc, managed, act);
+        let is_stopped = managed.management.disk().is_stopped();
+        self.stopped = is_stopped;
+        if let Some(kept) = &mut self.kept {
+            let answer = if is_stopped { None } else { Some(&answer) };
+            kept.add_deed(Deed::Manage(act), answer)?;
+        }
+        match answer {
+            Answer::Refused(MEMORY) => Err(Refusal::Memory),
+            answer => self.add_answer(answer, printed),
         }
     }
 
     /// The manager begins the removal of the stopped member at a slot, or refuses it.
     pub(crate) fn remove(&mut self, member: u64, printed: &mut Printed) -> Result<(), Refusal> {
-        let (Some(world), Some(management)) = (&self.world, &mut self.management) else {
-            return Ok(());
-        };
-        match management.remove(world, member) {
-            Ok(()) => {
-                self.is_changed = true;
-                if let Some(kept) = &mut self.kept {
-                    kept.changed();
-                }
-                Ok(())
-            }
-            Err(ManagerRefusal::Memory) => Err(Refusal::Memory),
-            Err(refusal) => printed.add_refusal(refusal.number()),
-        }
+        self.manage(ManagerAct::Remove { slot: member }, printed)?
+            .show(printed)
     }
 
     /// Carries out the manager's next order, or all of them, until one isn't done.
@@ -68,49 +62,27 @@ impl Sim {
 
     /// Carries out the next order: whether there was one, and it was done.
     fn carry_out_next(&mut self, printed: &mut Printed) -> Result<bool, Refusal> {
-        if self.stopped {
-            return Ok(false);
-        }
-        let (Some(world), Some(management)) = (&mut self.world, &mut self.management) else {
+        let Some(managed) = &self.managed else {
             return Ok(false);
         };
-        let order = management.next();
-        if order == Order::Idle {
+        let order = managed.management.next();
+        if self.stopped || order == Order::Idle {
             return Ok(false);
         }
         printed.add_order(order)?;
         match order {
             Order::Record => self.record(printed),
-            Order::CountOut(_) => Ok(management.count_out(world)),
-            Order::Tell(_) => match management.tell(world) {
-                Some(told) => {
-                    self.add_told(told, printed)?;
-                    Ok(true)
-                }
-                None => Ok(false),
-            },
+            Order::CountOut(_) => Ok(self.manage(ManagerAct::CountOut, printed)?.is_taken()),
+            Order::Tell(_) => Ok(self.manage(ManagerAct::Tell, printed)?.is_taken()),
             _ => Ok(false),
         }
     }
 
     /// The next record is written, and is the recorded one: whether that was done. A refusal is added.
     fn record(&mut self, printed: &mut Printed) -> Result<bool, Refusal> {
-        let (Some(world), Some(management)) = (&mut self.world, &mut self.management) else {
-            return Ok(false);
-        };
-        management.begin_record(world)?;
-        let ended = management.end_record(world);
-        self.stopped = self.stopped || management.disk().is_stopped();
-        match ended {
-            Ok(done) => Ok(done),
-            Err(refusal) => match refusal.number() {
-                Some(life::MEMORY) => Err(Refusal::Memory),
-                Some(number) => {
-                    printed.add_refusal(number)?;
-                    Ok(false)
-                }
-                None => Ok(false),
-            },
-        }
+        self.manage(ManagerAct::BeginRecord, printed)?;
+        let outcome = self.manage(ManagerAct::EndRecord, printed)?;
+        outcome.show(printed)?;
+        Ok(outcome.is_taken())
     }
 }

@@ -5,7 +5,7 @@ use crate::sim::{Raise, Sim};
 use crate::steps::Outcome;
 use flush_barrier::SessionId;
 use gate_journal::Slot;
-use life::{Act, Step};
+use life::{Act, ManagedWorld, Step};
 
 /// The most writes of a commit in a round.
 const GROUP: u64 = 1_024;
@@ -33,7 +33,7 @@ impl Sim {
     /// Plays one round over the members of the recorded chain, from the head to the tail: whether it changed anything.
     fn round(&mut self, printed: &mut Printed) -> Result<bool, Refusal> {
         let mut places = Vec::new(self.alloc);
-        if let Some(world) = &self.world {
+        if let Some(ManagedWorld { world, .. }) = &self.managed {
             for member in world.recorded().members() {
                 if let Some(at) = self.place(u64::from(member.slot.number())) {
                     places.push(at)?;
@@ -66,7 +66,7 @@ impl Sim {
 
     /// How far the member at a place has come, if it runs.
     pub(crate) fn progress(&self, at: usize) -> Option<Progress> {
-        let world = self.world.as_ref()?;
+        let world = &self.managed.as_ref()?.world;
         if self.stopped || at >= world.len() || world.cause(at).is_some() {
             return None;
         }
@@ -157,7 +157,7 @@ impl Sim {
 
     /// Up to which write the tail at a place would raise the front.
     fn next_raise(&self, at: usize) -> Option<Raise> {
-        let world = self.world.as_ref()?;
+        let world = &self.managed.as_ref()?.world;
         if at >= world.len() {
             return None;
         }

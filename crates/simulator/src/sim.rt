@@ -8,11 +8,11 @@ use crate::trace::Telling;
 use disk_model::{Event, MemDisk};
 use flush_barrier::SessionId;
 use gate_journal::Slot;
+use life::ManagedWorld;
 use local_store::Store;
 use std::alloc::Global;
 use std::collections::BTreeMap;
 use std::io::{BufRead, Write};
-use world::{Management, World};
 
 /// The most members of a chain.
 const MAX_MEMBERS: u8 = 8;
@@ -88,17 +88,16 @@ pub(crate) struct Left {
 pub struct Sim {
     pub(crate) alloc: Global,
     pub(crate) begun: bool,
-    pub(crate) world: Option<World<Store<MemDisk>>>,
-    /// The world's manager, with the disk of its configuration.
-    pub(crate) management: Option<Management<MemDisk>>,
-    /// Whether a change of the chain was begun.
-    pub(crate) is_changed: bool,
+    /// The world and its manager.
+    pub(crate) managed: Option<ManagedWorld<Store<MemDisk>, MemDisk>>,
     /// For each slot at which a tail raised the front: the epoch, and the number of the write up to which it did last.
     pub(crate) raised: BTreeMap<Slot, Raise>,
     /// A device call met its stop: nothing goes on until a cut.
     pub(crate) stopped: bool,
     /// What a cut left, until a recovery.
     pub(crate) left: Vec<Left>,
+    /// The configuration's disk, which it left.
+    pub(crate) config_left: Option<MemDisk>,
     pub(crate) speakers: BTreeMap<SessionId, Speaker>,
     /// The members whose devices' faults were told.
     pub(crate) faulty: Vec<Slot>,
@@ -115,12 +114,11 @@ impl Sim {
         Sim {
             alloc,
             begun: false,
-            world: None,
-            management: None,
-            is_changed: false,
+            managed: None,
             raised: BTreeMap::new(alloc),
             stopped: false,
             left: Vec::new(alloc),
+            config_left: None,
             speakers: BTreeMap::new(alloc),
             faulty: Vec::new(alloc),
             notes: None,
@@ -134,19 +132,24 @@ impl Sim {
         let Sim {
             alloc: _,
             begun: _,
-            world,
-            management: _,
-            is_changed: _,
+            managed,
             raised: _,
             stopped: _,
             left: _,
+            config_left: _,
             speakers: _,
             faulty: _,
             notes: _,
             is_kept: _,
             kept: _,
         } = self;
-        if let Some(world) = world {
+        if let Some(
+            ManagedWorld {
+                world,
+                management: _,
+            },
+        ) = managed
+        {
             let _stores = world.abandon();
         }
     }
@@ -266,7 +269,7 @@ impl Sim {
 
     /// The slot of the member at a place, if there is one.
     pub(crate) fn slot(&self, at: usize) -> Option<Slot> {
-        let world = self.world.as_ref()?;
+        let world = &self.managed.as_ref()?.world;
         if at < world.len() {
             Some(world.slot(at))
         } else {
@@ -276,13 +279,14 @@ impl Sim {
 
     /// The place of the recorded chain's head, if there is a chain.
     pub(crate) fn head(&self) -> Option<usize> {
-        let head = self.world.as_ref()?.recorded().members().first()?.slot;
+        let world = &self.managed.as_ref()?.world;
+        let head = world.recorded().members().first()?.slot;
         self.place(u64::from(head.number()))
     }
 
     /// The place of the member at the slot of a number, if there is one.
     pub(crate) fn place(&self, member: u64) -> Option<usize> {
-        let world = self.world.as_ref()?;
+        let world = &self.managed.as_ref()?.world;
         (0..world.len()).find(|&at| at < world.len()
             && u64::from(world.slot(at).number()) == member)
     }

@@ -5,7 +5,7 @@ use crate::sim::Sim;
 use chain_steps::Cause;
 use clients::Output;
 use disk_model::DiskError;
-use life::{Act, Answer, Step};
+use life::{Act, Answer, Deed, ManagedWorld, Step};
 use world::Told;
 
 /// What became of a step.
@@ -40,19 +40,29 @@ impl Sim {
     /// Plays a step, and adds what it puts out; of one in which a device call meets its stop, nothing. There is no step
     /// without a world, or behind such a stop.
     pub(crate) fn step(&mut self, step: Step, printed: &mut Printed) -> Result<Outcome, Refusal> {
-        let Some(world) = &mut self.world else {
+        let Some(managed) = &mut self.managed else {
             return Ok(Outcome::Skipped);
         };
         if self.stopped {
             return Ok(Outcome::Skipped);
         }
-        let answer = life::play(self.alloc, world, &step);
+        let answer = life::play(self.alloc, &mut managed.world, &step);
         self.note_step(&step, &answer)?;
         self.look_at_devices(printed)?;
         let is_stopped = self.stopped;
         if let Some(kept) = &mut self.kept {
-            kept.add_step(step, if is_stopped { None } else { Some(&answer) })?;
+            let answer = if is_stopped { None } else { Some(&answer) };
+            kept.add_deed(Deed::Step(step), answer)?;
         }
+        self.add_answer(answer, printed)
+    }
+
+    /// Adds what an answer put out; where a device call met its stop, nothing.
+    pub(crate) fn add_answer(
+        &self,
+        answer: Answer,
+        printed: &mut Printed,
+    ) -> Result<Outcome, Refusal> {
         match answer {
             _ if self.stopped => Ok(Outcome::Skipped),
             Answer::Taken(told) => self.add_told(told, printed),
@@ -96,7 +106,7 @@ impl Sim {
 
     /// Sees whether a device call met its stop, and adds the fault of a member's device that wasn't told before.
     fn look_at_devices(&mut self, printed: &mut Printed) -> Result<(), Refusal> {
-        let Some(world) = &self.world else {
+        let Some(ManagedWorld { world, .. }) = &self.managed else {
             return Ok(());
         };
         for at in 0..world.len() {

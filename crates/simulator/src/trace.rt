@@ -147,10 +147,11 @@ impl Sim {
     /// Notes how far the chain is, where steps are told: its front, and of each member the durable front d, the known commit k, the last
     /// applied write L, and how many calls its device has had.
     pub(crate) fn note_chain(&mut self) -> Result<(), Refusal> {
-        let (Some(notes), Some(world)) = (&mut self.notes, &mut self.world) else {
+        let (Some(notes), Some(managed)) = (&mut self.notes, &mut self.managed) else {
             return Ok(());
         };
-        let front = world.front();
+        let front = managed.world.front();
+        let world = &managed.world;
         write!(notes, "  front {front}:")?;
         for at in 0..world.len() {
             let slot = world.slot(at).number();

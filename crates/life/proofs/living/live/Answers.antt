@@ -20,14 +20,17 @@ IsAll era answers = length answers.items.items ≤ length era.deeds.items
 
 pub loop-era-init : goal.loop-era-init
 loop-era-init c = record {
-  disks = c.in_ok-world.ensures.disks;
-  go = c.in_ok-world.ensures.go;
-  first = c.in_ok-world.world;
-  slots = c.in_ok-world.ensures.slots;
-  begins = c.in_ok-world.ensures.begins;
+  disks = c.in_ok-managed.ensures.disks;
+  go = c.in_ok-managed.ensures.go;
+  rests = c.in_ok-managed.ensures.rests;
+  recorded = c.in_ok-managed.ensures.recorded;
+  rested = c.in_ok-managed.ensures.rests;
+  first = c.in_ok-managed.managed;
+  slots = c.in_ok-managed.ensures.slots;
+  begins = c.in_ok-managed.ensures.begins;
   state = start;
-  leads = subst (λ (l : List Answers). ErasOnDisks (export_of c.args.geometry) [] l c.in_ok-world.world start c.in_ok-world.world start) (sym c.in_ok-answers.ensures.items) (refl, refl);
-  fresh = first_fresh (Unit {0}) about_of_store keeps_volume pends_in leaves_now moment_in left_in failures_in disk_in c.chains_begin_again.ensures.first c.args.geometry c.in_ok-world.world c.in_ok-world.ensures.begins;
+  leads = subst (λ (l : List Answers). ErasOnDisks (export_of c.args.geometry) [] l c.in_ok-managed.managed start c.in_ok-managed.managed start) (sym c.in_ok-answers.ensures.items) (refl, refl);
+  fresh = first_fresh (Unit {0}) about_of_store keeps_volume pends_in leaves_now moment_in left_in failures_in disk_in c.chains_begin_again.ensures.first c.args.geometry c.in_ok-managed.managed.world c.in_ok-managed.ensures.begins;
   all = subst (AllZip IsAll []) (sym c.in_ok-answers.ensures.items) tt;
   many = ap length c.in_ok-answers.ensures.items;
   count = c.in_ok-answers.ensures.len;
@@ -52,13 +55,16 @@ loop-era-preserved c =
     record {
       disks = c.in_ok-told.ensures.disks;
       go = c.in_ok-told.ensures.go;
+      rests = c.in_ok-told.ensures.rests;
+      recorded = inv.recorded;
+      rested = inv.rested;
       first = inv.first;
       slots = inv.slots;
       begins = inv.begins;
       state = state;
       leads = subst (λ (l : List Era). ErasOnDisks (export_of c.args.geometry) l new inv.first start c.in_ok-told.next state) (sym here)
           (subst (λ (l : List Answers). ErasOnDisks (export_of c.args.geometry) (take i eras ++ era ∷ []) l inv.first start c.in_ok-told.next state) (sym items)
-          (eras_more (Unit {0}) about_of_store keeps_volume pends_in leaves_now moment_in left_in failures_in disk_in (export_of c.args.geometry) (take i eras) answers inv.first start c.loop-era.world inv.state c.in_ok-told.next state era these inv.leads did));
+          (eras_more (Unit {0}) about_of_store keeps_volume pends_in leaves_now moment_in left_in failures_in disk_in (export_of c.args.geometry) (take i eras) answers inv.first start c.loop-era.managed inv.state c.in_ok-told.next state era these inv.leads did));
       fresh = fresh;
       all = subst (λ (l : List Era). AllZip IsAll l new) (sym here)
           (subst (AllZip IsAll (take i eras ++ era ∷ [])) (sym items) (all_more IsAll (take i eras) answers era these inv.all c.in_ok-told.ensures.all));
@@ -74,8 +80,8 @@ pub returns-clause-one_life : goal.returns-clause-one_life
 returns-clause-one_life c =
     let inv = c.loop-era.invariant in
     let whole = take_all c.loop-era.era-index c.args.eras.now c.loop-era-test.false in
-    one_life (Unit {0}) about_of_store keeps_volume pends_in leaves_now moment_in left_in failures_in disk_in c.args.geometry c.args.members c.args.eras.now c.loop-era.answers.items inv.first c.loop-era.world inv.state inv.slots inv.begins
-    (subst (λ (l : List Era). ErasOnDisks (export_of c.args.geometry) l c.loop-era.answers.items inv.first start c.loop-era.world inv.state) whole inv.leads) inv.fresh
+    one_life (Unit {0}) about_of_store keeps_volume pends_in leaves_now moment_in left_in failures_in disk_in c.args.geometry c.args.members c.args.eras.now c.loop-era.answers.items inv.first c.loop-era.managed inv.state inv.slots inv.begins inv.recorded inv.rested
+    (subst (λ (l : List Era). ErasOnDisks (export_of c.args.geometry) l c.loop-era.answers.items inv.first start c.loop-era.managed inv.state) whole inv.leads) inv.fresh
 
 pub live_era-requires-clause-fresh : goal.live_era-requires-clause-fresh
 live_era-requires-clause-fresh c = (export_of c.args.geometry, c.loop-era.invariant.state, c.loop-era.invariant.fresh)
@@ -93,11 +99,11 @@ returns-in_err-told-clause-refused c =
     let here : take (i + 1) eras ≡ take i eras ++ era ∷ [] = take_more eras i era c.loop-era-test.true ∙ ap (λ (e : Era). take i eras ++ e ∷ []) (sym c.era-item.is) in
     let whole : take i eras ++ era ∷ drop (i + 1) eras ≡ eras = sym (append_assoc (take i eras) (era ∷ []) (drop (i + 1) eras)) ∙ ap (λ (l : List Era). l ++ drop (i + 1) eras) (sym here) ∙ take-append-drop (i + 1) eras in
     passed_on c.from_residual-in_err-told.result c.in_err-told.field-0.0 (BreaksSo c.args.geometry c.args.members eras) c.from_residual-in_err-told.ensures.1
-    (breaks_off (Unit {0}) about_of_store keeps_volume pends_in leaves_now moment_in left_in failures_in disk_in c.in_err-told.field-0.0 c.args.geometry c.args.members eras (take i eras) era (drop (i + 1) eras) c.loop-era.answers.items c.loop-era.world (sym whole)
-    (one_life (Unit {0}) about_of_store keeps_volume pends_in leaves_now moment_in left_in failures_in disk_in c.args.geometry c.args.members (take i eras) c.loop-era.answers.items inv.first c.loop-era.world inv.state inv.slots inv.begins inv.leads inv.fresh)
+    (breaks_off (Unit {0}) about_of_store keeps_volume pends_in leaves_now moment_in left_in failures_in disk_in c.in_err-told.field-0.0 c.args.geometry c.args.members eras (take i eras) era (drop (i + 1) eras) c.loop-era.answers.items c.loop-era.managed (sym whole)
+    (one_life (Unit {0}) about_of_store keeps_volume pends_in leaves_now moment_in left_in failures_in disk_in c.args.geometry c.args.members (take i eras) c.loop-era.answers.items inv.first c.loop-era.managed inv.state inv.slots inv.begins inv.recorded inv.rested inv.leads inv.fresh)
     c.in_err-told.ensures.refused)
 
-pub returns-in_err-world-clause-refused : goal.returns-in_err-world-clause-refused
-returns-in_err-world-clause-refused c =
-    passed_on c.from_residual-in_err-world.result c.in_err-world.field-0.0 (BreaksSo c.args.geometry c.args.members c.args.eras.now) c.from_residual-in_err-world.ensures.1
-    (inl c.in_err-world.ensures.refused)
+pub returns-in_err-managed-clause-refused : goal.returns-in_err-managed-clause-refused
+returns-in_err-managed-clause-refused c =
+    passed_on c.from_residual-in_err-managed.result c.in_err-managed.field-0.0 (BreaksSo c.args.geometry c.args.members c.args.eras.now) c.from_residual-in_err-managed.ensures.1
+    (inl c.in_err-managed.ensures.refused)

@@ -16,9 +16,9 @@ use Rattle.life.proofs.living.play_all.Goals as goal
 
 pub loop-deed-init : goal.loop-deed-init
 loop-deed-init c = record {
-  plays = subst (λ (l : List Answer). LeadOnDisks [] l c.args.world.now c.args.world.now) (sym c.in_ok-answers.ensures.items) refl;
-  pass = subst (λ (l : List Answer). AreOfOneVolume about_of_store keeps_volume leaves_now (zip [] l) no_one c.args.world.now c.args.world.now) (sym c.in_ok-answers.ensures.items)
-      (none_turn about_of_store keeps_volume leaves_now c.args.world.now c.sound.ensures.sessions);
+  plays = subst (λ (l : List Answer). LeadOnDisks [] l c.args.managed.now c.args.managed.now) (sym c.in_ok-answers.ensures.items) refl;
+  pass = subst (λ (l : List Answer). AreOfOneVolume about_of_store keeps_volume leaves_now (zip [] l) no_one c.args.managed.now.world c.args.managed.now.world) (sym c.in_ok-answers.ensures.items)
+      (none_turn about_of_store keeps_volume leaves_now c.args.managed.now.world c.sound.ensures.sessions);
   runs = c.requires;
   many = ap length c.in_ok-answers.ensures.items;
   count = c.in_ok-answers.ensures.len;
@@ -41,13 +41,13 @@ loop-deed-preserved c =
     let long : length answers ≡ length (take i deeds) = inv.many ∙ sym (length-take-le i deeds (omega (arith, c.loop-deed-test.true))) in
     let told : zip (take (i + 1) deeds) c.push_reserved.new.self.items ≡ zip (take i deeds) answers ++ (deed, answer) ∷ [] =
     ap (λ (l : List Deed). zip l c.push_reserved.new.self.items) here ∙ ap (zip (take i deeds ++ deed ∷ [])) items ∙ zip_more (take i deeds) answers deed answer long in
-    let runs : HasMetStop disk_in c.play_deed-answer.new.world → ⊥ = λ met. let yes : c.has_met_stop.result ≡ true = c.has_met_stop.ensures.1 met in let no : false ≡ true = sym c.if-has_met_stop.false ∙ yes in absurd (cc) in
+    let runs : HasMetStop disk_in c.play_deed-answer.new.managed → ⊥ = λ met. let yes : c.has_met_stop.result ≡ true = c.has_met_stop.ensures.1 met in let no : false ≡ true = sym c.if-has_met_stop.false ∙ yes in absurd (cc) in
     record {
-      plays = subst (λ (l : List Deed). LeadOnDisks l c.push_reserved.new.self.items c.args.world.now c.play_deed-answer.new.world) (sym here)
-          (subst (λ (l : List Answer). LeadOnDisks (take i deeds ++ deed ∷ []) l c.args.world.now c.play_deed-answer.new.world) (sym items)
-          (leads_more (Unit {0}) about_of_store keeps_volume pends_in leaves_now moment_in left_in failures_in disk_in (take i deeds) answers c.args.world.now c.loop-deed.world c.play_deed-answer.new.world deed answer long inv.plays c.play_deed-answer.ensures.does runs));
-      pass = subst (λ (l : Trace). AreOfOneVolume about_of_store keeps_volume leaves_now l no_one c.args.world.now c.play_deed-answer.new.world) (sym told)
-          (turn_more about_of_store keeps_volume leaves_now c.lives_are_of_one_volume.ensures.happenings c.args.world.now c.loop-deed.world c.play_deed-answer.new.world c.sound.ensures.joined c.sound-in-loop-deed.ensures.joined
+      plays = subst (λ (l : List Deed). LeadOnDisks l c.push_reserved.new.self.items c.args.managed.now c.play_deed-answer.new.managed) (sym here)
+          (subst (λ (l : List Answer). LeadOnDisks (take i deeds ++ deed ∷ []) l c.args.managed.now c.play_deed-answer.new.managed) (sym items)
+          (leads_more (Unit {0}) about_of_store keeps_volume pends_in leaves_now moment_in left_in failures_in disk_in (take i deeds) answers c.args.managed.now c.loop-deed.managed c.play_deed-answer.new.managed deed answer long inv.plays c.play_deed-answer.ensures.does runs));
+      pass = subst (λ (l : Trace). AreOfOneVolume about_of_store keeps_volume leaves_now l no_one c.args.managed.now.world c.play_deed-answer.new.managed.world) (sym told)
+          (turn_more about_of_store keeps_volume leaves_now c.lives_are_of_one_volume.ensures.happenings c.args.managed.now.world c.loop-deed.managed.world c.play_deed-answer.new.managed.world c.sound.ensures.joined c.sound-in-loop-deed.ensures.joined
           (zip (take i deeds) answers) deed answer c.sound-in-loop-deed-2.ensures.sessions inv.pass c.play_deed-answer.ensures.one_volume);
       runs = runs;
       many = let sum = length-append answers (answer ∷ []) in omega (arith, inv.many, ap length items, sum);
@@ -68,8 +68,8 @@ returns-then-has_met_stop-clause-plays c =
     let whole : take i deeds ++ deed ∷ drop (i + 1) deeds ≡ deeds =
     sym (append_assoc (take i deeds) (deed ∷ []) (drop (i + 1) deeds)) ∙ ap (λ (l : List Deed). l ++ drop (i + 1) deeds) (sym here) ∙ take-append-drop (i + 1) deeds in
     let long : length c.loop-deed.answers.items ≡ length (take i deeds) = inv.many ∙ sym (length-take-le i deeds (omega (arith, c.loop-deed-test.true))) in
-    subst (λ (l : List Deed). LeadOnDisks l c.loop-deed.answers.items c.args.world.now c.play_deed-answer.new.world) whole
-    (leads_to_stop (Unit {0}) about_of_store keeps_volume pends_in leaves_now moment_in left_in failures_in disk_in (take i deeds) c.loop-deed.answers.items c.args.world.now c.loop-deed.world c.play_deed-answer.new.world deed c.play_deed-answer.result
+    subst (λ (l : List Deed). LeadOnDisks l c.loop-deed.answers.items c.args.managed.now c.play_deed-answer.new.managed) whole
+    (leads_to_stop (Unit {0}) about_of_store keeps_volume pends_in leaves_now moment_in left_in failures_in disk_in (take i deeds) c.loop-deed.answers.items c.args.managed.now c.loop-deed.managed c.play_deed-answer.new.managed deed c.play_deed-answer.result
     (drop (i + 1) deeds) long inv.plays c.play_deed-answer.ensures.does (c.has_met_stop.ensures.0 c.if-has_met_stop.true))
 
 pub returns-then-has_met_stop-clause-pass : goal.returns-then-has_met_stop-clause-pass
@@ -82,12 +82,12 @@ returns-then-has_met_stop-clause-pass c =
     let answer = c.play_deed-answer.result in
     let long : length answers ≡ length (take i deeds) = inv.many ∙ sym (length-take-le i deeds (omega (arith, c.loop-deed-test.true))) in
     let told : zip deeds answers ≡ zip (take i deeds) answers = ap (λ (l : List Deed). zip l answers) (sym (take-append-drop i deeds)) ∙ zip_less (take i deeds) answers (drop i deeds) long in
-    let met : HasMetStop disk_in c.play_deed-answer.new.world = c.has_met_stop.ensures.0 c.if-has_met_stop.true in (
+    let met : HasMetStop disk_in c.play_deed-answer.new.managed = c.has_met_stop.ensures.0 c.if-has_met_stop.true in (
       handed_by deed answer,
-      subst (λ (l : Trace). AreOfOneVolume about_of_store keeps_volume leaves_now l (handed_by deed answer) c.args.world.now c.play_deed-answer.new.world) (sym told)
-          (turn_to_stop about_of_store keeps_volume leaves_now c.lives_are_of_one_volume.ensures.happenings c.args.world.now c.loop-deed.world c.play_deed-answer.new.world c.sound.ensures.joined c.sound-in-loop-deed.ensures.joined
+      subst (λ (l : Trace). AreOfOneVolume about_of_store keeps_volume leaves_now l (handed_by deed answer) c.args.managed.now.world c.play_deed-answer.new.managed.world) (sym told)
+          (turn_to_stop about_of_store keeps_volume leaves_now c.lives_are_of_one_volume.ensures.happenings c.args.managed.now.world c.loop-deed.managed.world c.play_deed-answer.new.managed.world c.sound.ensures.joined c.sound-in-loop-deed.ensures.joined
           (zip (take i deeds) answers) deed answer
-          (unfed (Unit {0}) about_of_store keeps_volume pends_in leaves_now moment_in left_in failures_in disk_in deed answer c.loop-deed.world c.play_deed-answer.new.world c.play_deed-answer.ensures.does inv.runs met)
+          (unfed (Unit {0}) about_of_store keeps_volume pends_in leaves_now moment_in left_in failures_in disk_in deed answer c.loop-deed.managed c.play_deed-answer.new.managed c.play_deed-answer.ensures.does inv.runs met)
           inv.pass c.play_deed-answer.ensures.one_volume),
     )
 
@@ -95,12 +95,12 @@ pub returns-clause-all : goal.returns-clause-all
 returns-clause-all c = let most = c.loop-deed.auto.deed-index-end in omega (arith, c.loop-deed.invariant.many, most)
 
 pub returns-clause-plays : goal.returns-clause-plays
-returns-clause-plays c = subst (λ (l : List Deed). LeadOnDisks l c.loop-deed.answers.items c.args.world.now c.loop-deed.world)
+returns-clause-plays c = subst (λ (l : List Deed). LeadOnDisks l c.loop-deed.answers.items c.args.managed.now c.loop-deed.managed)
     (take_all c.loop-deed.deed-index c.args.deeds.now c.loop-deed-test.false) c.loop-deed.invariant.plays
 
 pub returns-clause-pass : goal.returns-clause-pass
 returns-clause-pass c = (
   no_one,
-  subst (λ (l : List Deed). AreOfOneVolume about_of_store keeps_volume leaves_now (zip l c.loop-deed.answers.items) no_one c.args.world.now c.loop-deed.world)
+  subst (λ (l : List Deed). AreOfOneVolume about_of_store keeps_volume leaves_now (zip l c.loop-deed.answers.items) no_one c.args.managed.now.world c.loop-deed.managed.world)
       (take_all c.loop-deed.deed-index c.args.deeds.now c.loop-deed-test.false) c.loop-deed.invariant.pass,
 )

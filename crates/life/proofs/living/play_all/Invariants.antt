@@ -8,9 +8,9 @@ use Rattle.life.proofs.living.play_all.Given as goal
 
 abbrev pub invariant-loop-deed : goal.invariant-loop-deed
 invariant-loop-deed l = record {
-  plays : LeadOnDisks (take l.deed-index l.fn.deeds) l.answers.items l.fn.world l.world;
-  pass : AreOfOneVolume about_of_store keeps_volume leaves_now (zip (take l.deed-index l.fn.deeds) l.answers.items) no_one l.fn.world l.world;
-  runs : HasMetStop disk_in l.world → ⊥;
+  plays : LeadOnDisks (take l.deed-index l.fn.deeds) l.answers.items l.fn.managed l.managed;
+  pass : AreOfOneVolume about_of_store keeps_volume leaves_now (zip (take l.deed-index l.fn.deeds) l.answers.items) no_one l.fn.managed.world l.managed.world;
+  runs : HasMetStop disk_in l.managed → ⊥;
   many : length l.answers.items ≡ l.deed-index;
   count : vec_len l.answers ≡ l.deed-index;
   room : length l.fn.deeds ≤ vec_capacity l.answers;

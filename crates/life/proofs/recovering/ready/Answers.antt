@@ -1,19 +1,13 @@
-use Rattle.std.proofs.Common.{◌≡◌, ◌≤◌, ℕ, List, false, true, ap, refl, subst, sym, ◌∙◌, arith}
+use Rattle.std.proofs.Common.{◌≡◌, ℕ, List, false, true, ap, refl, subst, sym, ◌∙◌, arith}
 use Rattle.disk_model.specs.Calm.{calm_runs}
-use Rattle.disk_model.specs.Waiting.{waiting_first, waiting_now}
-use Rattle.disk_model.specs.EraLaws.{counts_later}
-use Rattle.disk_model.specs.Memory.{failures_of, has_stopped, left_since, may_be_left, moment_of}
-use Rattle.disk_model.specs.declared.memory.MemDisk.{MemDisk}
+use Rattle.disk_model.specs.Memory.{failures_of, has_stopped, may_be_left, moment_of}
 use Rattle.local_store.specs.About.{About, meaning_with}
 use Rattle.local_store.specs.Kept.{stored_means}
 use Rattle.local_store.specs.Meaning.{Means}
 use Rattle.life.proofs.Starting.{IsStore, about_of_store, keeps_volume}
 use Rattle.life.proofs.recovering.ready.Goals as goal
+use Rattle.life.proofs.Configured.{left_now}
 use Rattle.life.proofs.recovering.ready.Goals.{in-Two, in-One+in_default}
-
--- what may be left now may have been left since an earlier moment
-left_now : (d : MemDisk) (t : ℕ) (c : List ℕ) → t ≤ moment_of d → may_be_left d c → left_since d t c
-left_now d t c le left = counts_later d.eras.items d.content.base.items d.content.bytes.items (waiting_first d.content) d.content.log.items (waiting_now d.content) d.content.replayed d.content.ranges t c le left
 
 -- what is left of a store's disk means what the store means
 left_means : (s : IsStore) (volume c : List ℕ) → keeps_volume s volume → may_be_left s.disk c → Means (meaning_with (about_of_store s) volume) c

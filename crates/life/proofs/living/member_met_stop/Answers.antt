@@ -1,7 +1,7 @@
 use Rattle.std.proofs.Common.{◌≡◌, true, false, refl, sym, ◌∙◌, arith}
 use Rattle.life.proofs.Starting.{disk_in}
 use Rattle.life.proofs.Stops.{met_at, none_at_all, none_more}
-use Rattle.life.proofs.living.has_met_stop.Goals as goal
+use Rattle.life.proofs.living.member_met_stop.Goals as goal
 
 pub loop-at-preserved : goal.loop-at-preserved
 loop-at-preserved c = record {

@@ -1,0 +1,14 @@
+-- What is so of all is so of one. Lemmas.
+use Rattle.std.proofs.Common.{◌≡◌, ℕ, zero, suc, List, [], ◌∷◌, map, subst}
+use Rattle.std.specs.Prelude.{All, None, Some, slice_get}
+use Rattle.std.proofs.lemmas.List.{get_or-map, length-map}
+use Rattle.std.proofs.lemmas.List.Elements.{All-head, All-tail}
+
+-- what is so of each is so of the one at a place
+pub all_at : {A : Type 0} (Q : A → Type 0) (xs : List A) (at : ℕ) (x : A) → All Q xs → slice_get xs at ≡ Some x → Q x
+all_at Q [] at x all here = let none : None ≡ Some x = here in absurd (cc)
+all_at Q (a ∷ xs) zero x all here = let some : Some a ≡ Some x = here in let same : a ≡ x = cc some in subst Q same (All-head Q a xs all)
+all_at Q (a ∷ xs) (suc k) x all here = all_at Q xs k x (All-tail Q a xs all) here
+
+pub of_mapped : {A B : Type 0} (Q : B → Type 0) (f : A → B) (xs : List A) → All Q (map f xs) → All (λ x. Q (f x)) xs
+of_mapped Q f xs all = λ k d within. subst Q (get_or-map f xs k d (f d) within) (all k (f d) (rw (length-map xs f) within))
