@@ -6,7 +6,7 @@ use Rattle.disk_model.specs.Moments.{weaker}
 use Rattle.disk_model.specs.Part.{inside}
 use Rattle.gate_journal.specs.Pair.{Entry, HoldsClosing, HoldsStored, IsSettledPair, Slots, last_number, newest, next_slot, with_entry}
 use Rattle.configurations.specs.Record.{IsEncoding, Record}
-use Rattle.configurations.specs.Store.{HoldsNumbered, HoldsOldOrNew, HoldsOldOrNext, HoldsRecord, IsSettledConfig, Records, State, settled_leaves, settled_leaves_numbered}
+use Rattle.configurations.specs.Store.{HoldsNumbered, HoldsOldOrNew, HoldsOldOrNext, HoldsRecord, IsSettledConfig, Records, State, numbered_holds, settled_leaves, settled_leaves_numbered}
 use Rattle.configurations.proofs.Encodings.{records_apart}
 
 -- an entry records one record at most
@@ -22,6 +22,11 @@ Empties = (slots : Slots) → newest (with_entry (next_slot slots) None slots) �
 abbrev pub Fills : Type 0
 Fills = (slots : Slots) (new : Entry) → new.number ≡ last_number (newest slots) + 1 → newest (with_entry (next_slot slots) (Some new) slots) ≡ Some new
 
+-- which number it has is no matter
+without_number : (store : State) (new : Record) (bytes : List ℕ) → HoldsOldOrNext store new bytes → HoldsOldOrNew store.current new bytes
+without_number store new bytes (inl old) = inl (numbered_holds old)
+without_number store new bytes (inr next) = inr (numbered_holds next)
+
 module _ (store : State) (gives : List ℕ) (may_leave : List ℕ → Type 0) (settled : IsSettledConfig store gives may_leave) where
   abbrev slots : Slots
   slots = settled.slots
@@ -36,22 +41,6 @@ module _ (store : State) (gives : List ℕ) (may_leave : List ℕ → Type 0) (s
       (λ holds. record { slots = slots; holds = holds; newer = settled.newer })
       (λ holds. record { slots = with_entry into None slots; holds = holds; newer = subst (λ (e : Option Entry). Records e store.current) (sym same) settled.newer })
       held
-
-  module _ (payload : List ℕ) (new : Record) (encodes : IsEncoding payload new) where
-    abbrev entry : Entry
-    entry = record { number = store.pair.number + 1; payload = payload }
-
-    old_or_new : Empties → Fills → (bytes : List ℕ) → HoldsStored slots into entry bytes → HoldsOldOrNew store.current new bytes
-    old_or_new empties fills bytes held =
-        let newer : newest (with_entry (next_slot slots) (Some entry) slots) ≡ Some entry = fills slots entry (ap (λ (n : ℕ). n + 1) settled.pair.number) in
-        let same : newest (with_entry into (Some entry) slots) ≡ Some entry = ap (λ (k : ℕ). newest (with_entry k (Some entry) slots)) settled.pair.into ∙ newer in
-        ⊎_elim
-        (λ holds. inl (still_held empties bytes (inl holds)))
-        (λ either. ⊎_elim
-        (λ holds. inl (still_held empties bytes (inr holds)))
-        (λ holds. inr (record { slots = with_entry into (Some entry) slots; holds = holds; newer = subst (λ (e : Option Entry). Records e new) (sym same) encodes }))
-        either)
-        held
 
   -- the record stays with its number, or the new one has the next
   old_or_next : Empties → Fills → (payload : List ℕ) (new : Record) → IsEncoding payload new → (bytes : List ℕ) → HoldsStored slots into (record { number = store.pair.number + 1; payload = payload }) bytes → HoldsOldOrNext store new bytes
@@ -92,7 +81,8 @@ module _ (store : State) (gives : List ℕ) (may_leave : List ℕ → Type 0) (s
     -- and so it is the old one or a new one
     pub either_before : (new : Record) (disk : D) → ((c : List ℕ) → left_since disk (moment disk) c → may_leave c) → LeavesOnly moment left_since disk disk (λ c. HoldsOldOrNew store.current new (inside store.pair.part c))
     either_before new disk only_now =
-        weaker moment left_since disk disk (λ c. HoldsRecord store.current (inside store.pair.part c)) (λ c. HoldsOldOrNew store.current new (inside store.pair.part c)) (λ c holds. inl holds) (held_before disk only_now)
+        weaker moment left_since disk disk (λ c. HoldsOldOrNext store new (inside store.pair.part c)) (λ c. HoldsOldOrNew store.current new (inside store.pair.part c)) (λ c. without_number store new (inside store.pair.part c))
+        (next_before new disk only_now)
 
 module _ (view now : State) (is : view ≡ now) {gives : List ℕ} {may_leave : List ℕ → Type 0} {D : Type 0} (moment : D → ℕ) (left_since : D → ℕ → List ℕ → Type 0) (from to : D) (empties : Empties) where
   -- while the gate is closed, the record is held
@@ -102,18 +92,18 @@ module _ (view now : State) (is : view ≡ now) {gives : List ℕ} {may_leave : 
       (λ settled. weaker moment left_since from to (λ c. HoldsClosing settled.slots view.pair.into (inside view.pair.part c)) (λ c. HoldsRecord view.current (inside view.pair.part c))
       (λ c. still_held view gives may_leave settled empties (inside view.pair.part c)) (run settled.slots settled.pair))
 
-  -- while a new one is stored, it is the old one or the new
-  pub either_storing : Fills → (payload : List ℕ) (new : Record) → IsEncoding payload new
-      → ((slots : Slots) → IsSettledPair view.pair slots gives may_leave → LeavesOnly moment left_since from to (λ c. HoldsStored slots view.pair.into (record { number = view.pair.number + 1; payload = payload }) (inside view.pair.part c)))
-      → IsSettledConfig now gives may_leave → LeavesOnly moment left_since from to (λ c. HoldsOldOrNew now.current new (inside now.pair.part c))
-  either_storing fills payload new encodes run = subst (λ (s : State). IsSettledConfig s gives may_leave → LeavesOnly moment left_since from to (λ c. HoldsOldOrNew s.current new (inside s.pair.part c))) is
-      (λ settled. weaker moment left_since from to (λ c. HoldsStored settled.slots view.pair.into (record { number = view.pair.number + 1; payload = payload }) (inside view.pair.part c)) (λ c. HoldsOldOrNew view.current new (inside view.pair.part c))
-      (λ c. old_or_new view gives may_leave settled payload new encodes empties fills (inside view.pair.part c)) (run settled.slots settled.pair))
-
-  -- with their numbers
+  -- while a new one is stored, it is the old one or the new, with their numbers
   pub next_storing : Fills → (payload : List ℕ) (new : Record) → IsEncoding payload new
       → ((slots : Slots) → IsSettledPair view.pair slots gives may_leave → LeavesOnly moment left_since from to (λ c. HoldsStored slots view.pair.into (record { number = view.pair.number + 1; payload = payload }) (inside view.pair.part c)))
       → IsSettledConfig now gives may_leave → LeavesOnly moment left_since from to (λ c. HoldsOldOrNext now new (inside now.pair.part c))
   next_storing fills payload new encodes run = subst (λ (s : State). IsSettledConfig s gives may_leave → LeavesOnly moment left_since from to (λ c. HoldsOldOrNext s new (inside s.pair.part c))) is
       (λ settled. weaker moment left_since from to (λ c. HoldsStored settled.slots view.pair.into (record { number = view.pair.number + 1; payload = payload }) (inside view.pair.part c)) (λ c. HoldsOldOrNext view new (inside view.pair.part c))
       (λ c. old_or_next view gives may_leave settled empties fills payload new encodes (inside view.pair.part c)) (run settled.slots settled.pair))
+
+  -- so it is one of them
+  pub either_storing : Fills → (payload : List ℕ) (new : Record) → IsEncoding payload new
+      → ((slots : Slots) → IsSettledPair view.pair slots gives may_leave → LeavesOnly moment left_since from to (λ c. HoldsStored slots view.pair.into (record { number = view.pair.number + 1; payload = payload }) (inside view.pair.part c)))
+      → IsSettledConfig now gives may_leave → LeavesOnly moment left_since from to (λ c. HoldsOldOrNew now.current new (inside now.pair.part c))
+  either_storing fills payload new encodes run settled =
+      weaker moment left_since from to (λ c. HoldsOldOrNext now new (inside now.pair.part c)) (λ c. HoldsOldOrNew now.current new (inside now.pair.part c)) (λ c. without_number now new (inside now.pair.part c))
+      (next_storing fills payload new encodes run settled)
