@@ -19,7 +19,7 @@ use std::process::Abort;
 use volume::Geometry;
 
 // The sizes of a volume of 8 blocks, with room for two batches of one block.
-fn sizes(rt: &impl Abort) -> Geometry
+pub(crate) fn sizes(rt: &impl Abort) -> Geometry
     ensures { result.blocks ≡ 8 }
 {
     let geometry = Geometry::new(8, 12_327, 4_096).expect(rt, "a geometry");
@@ -28,7 +28,7 @@ fn sizes(rt: &impl Abort) -> Geometry
 }
 
 // A new disk for it.
-fn disk(rt: &impl Abort, alloc: Global, geometry: Geometry) -> MemDisk
+pub(crate) fn disk(rt: &impl Abort, alloc: Global, geometry: Geometry) -> MemDisk
     ensures { disk_size_of geometry ≤ size_of result }
 {
     new_disk(rt, alloc, disk_size(geometry))

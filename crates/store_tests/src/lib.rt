@@ -5,6 +5,8 @@
 #[cfg(test)]
 mod block_cache_tests;
 #[cfg(test)]
+mod catchup_tests;
+#[cfg(test)]
 mod comparing;
 #[cfg(test)]
 mod config_store_tests;

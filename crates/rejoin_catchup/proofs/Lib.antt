@@ -1,0 +1,6 @@
+mod Copies
+mod Courses
+pub mod InStep
+mod Marks
+mod Taking
+mod Written

@@ -1,0 +1,5 @@
+pub mod Course
+pub mod InStep
+pub mod Receiving
+pub mod Refusal
+pub mod Sending
