@@ -1,12 +1,11 @@
 -- Blocks that writes only make zeros.
-use Rattle.std.proofs.Common.{◌≡◌, ◌∙◌, ℕ, ◌+◌, ◌*◌, ◌≤◌, Bool, true, false, List, length, arith, inl, inr, subst}
+use Rattle.std.proofs.Common.{◌≡◌, ℕ, ◌+◌, ◌*◌, ◌≤◌, Bool, true, false, List, length, arith, inl, inr, subst}
 use Rattle.std.specs.Prelude.{◌&&◌, All, Contains, not}
 use Rattle.std.specs.List.{list_any}
 use Rattle.std.proofs.lemmas.Bool.{both_ways, cases_Bool}
 use Rattle.std.proofs.lemmas.Bool.Decides.{nat_tests}
 use Rattle.std.proofs.lemmas.List.Folds.{Any-from_list_any, list_any-from_Any}
 use Rattle.version_table.specs.Whole.{ends_whole, ends_whole-all, has_whole}
-use Rattle.volume.specs.Body.{is_zeros}
 use Rattle.volume.specs.Writes.{Fits, Placed, touches}
 use Rattle.chain_steps.specs.Steps.{blanks, is_written}
 

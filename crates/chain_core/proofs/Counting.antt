@@ -1,6 +1,6 @@
 -- What a group touches, counted by sets and by images.
 use Rattle.std.proofs.Common.{◌≡◌, ◌≢◌, ℕ, zero, suc, ◌+◌, ◌-◌, ◌*◌, ◌/◌, ◌<◌, ◌≤◌, Bool, false, if◌then◌else◌, true, List, [], ◌∷◌, length, get_or, refl, sym, ◌∙◌, ap, arith, inl, inr, subst}
-use Rattle.std.specs.Prelude.{All, None, Some, AllPairs, ◌&&◌, ◌↔◌, Any, Contains, filter, map, not, take}
+use Rattle.std.specs.Prelude.{All, None, Some, AllPairs, ◌↔◌, Any, Contains, filter, map, not, take}
 use Rattle.std.specs.BTreeMap.{is_at}
 use Rattle.std.specs.BTreeSet.{BTreeSet, IsOrdered, contains}
 use Rattle.std.specs.List.{list_any}

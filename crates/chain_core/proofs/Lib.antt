@@ -4,6 +4,7 @@ mod ArmedSteps
 mod Blanks
 mod Counting
 mod Grouping
+mod HeldFronts
 mod Images
 mod Ranges
 mod Settling

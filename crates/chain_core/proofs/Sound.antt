@@ -146,6 +146,27 @@ module _ (about : About) (keeps : Keeping) (node : NodeState) (is : IsSound abou
     journals = is.journals;
   }
 
+  -- it holds the front for a joiner, or doesn't
+  pub sound_holding : (holds : Bool) → IsSound about keeps (record node { holds = holds })
+  sound_holding holds = record {
+    slot = is.slot;
+    incarnation = is.incarnation;
+    front = is.front;
+    behind = is.behind;
+    ahead = is.ahead;
+    limit = is.limit;
+    blocks = is.blocks;
+    inside = is.inside;
+    some = is.some;
+    owed = is.owed;
+    asked = is.asked;
+    found = is.found;
+    under_way = λ c here. let way = is.under_way c here in record { above = way.above; known = way.known; images = way.images; room = way.room };
+    running = is.running;
+    resting = is.resting;
+    journals = is.journals;
+  }
+
   -- a front is kept
   pub sound_keeping : (found : Found) → IsFoundBy node found → IsSound about keeps (record node { found = Some found })
   sound_keeping found by = record {

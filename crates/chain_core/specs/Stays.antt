@@ -13,7 +13,7 @@ use Rattle.version_table.specs.Marks.{ReachesBlock}
 use Rattle.version_table.specs.declared.kept.Kept.{Kept}
 use Rattle.volume.specs.Writes.{IsTouched, Placed}
 use Rattle.chain_steps.specs.Node.{Commit, Delivery, NodeState, Out, Refused, Stepped, Taken, durable_of, last_of}
-use Rattle.chain_steps.specs.Steps.{CanBegin, answer_front, answer_front_by, raised, raised_front, raised_to, read_asked, read_at_once, silent, stop}
+use Rattle.chain_steps.specs.Steps.{CanBegin, answer_front, answer_front_by, hold, hold_by, looked_front, raised, raised_front, raised_to, read_asked, read_at_once, silent, stop}
 use Rattle.chain_steps.specs.declared.cause.Cause.TheVariants as causes
 use Rattle.chain_steps.specs.declared.found.Found.{Found}
 use Rattle.chain_steps.specs.declared.found.Found.TheVariants.{Raised, Looked}
@@ -30,6 +30,13 @@ pub record Stays {S : Type 0} (about : S → About) (old new : Seen S) : Type 0 
 raised_board : (front : Option ℕ) (node : NodeState) → (raised_to front node).node.board ≡ node.board
 raised_board None node = refl
 raised_board (Some front) node = elim (cases_Bool (nat_lt (last_of node) front)) [
+  | inl above ↦ rw above refl
+  | inr within ↦ rw within refl
+]
+
+held_board : (front : Option ℕ) (node : NodeState) → (hold_by front node).node.board ≡ node.board
+held_board None node = refl
+held_board (Some front) node = elim (cases_Bool (nat_lt (last_of node) front)) [
   | inl above ↦ rw above refl
   | inr within ↦ rw within refl
 ]
@@ -106,6 +113,9 @@ module _ {S : Type 0} (about : S → About) (old new : Seen S) (out : Out) where
   pub raised_stays : IsStepOrStop old new out (raised old.state) → Stays about old new
   raised_stays is = step_or_stop_stays (raised old.state) (raised_board (raised_front old.state.found) old.state) is
 
+  pub hold_stays : IsStepOrStop old new out (hold old.state) → Stays about old new
+  hold_stays is = step_or_stop_stays (hold old.state) (held_board (looked_front old.state.found) old.state) is
+
   pub kept_stays : (found : FoundFront → Found) (board : BoardId) (seat number : ℕ) → Keeps found board seat number old new → Stays about old new
   kept_stays found board seat number is = record { board = ap (λ s. s.state.board) is.node; geometry = ap (λ s. (about s.store).geometry) is.node }
 
@@ -153,3 +163,14 @@ module _ {S : Type 0} (about : S → About) (old new : Seen S) (out : Out) where
   looked_stays (inl (read, inl is)) = record { board = ap (λ n. n.board) (is.node []) ∙ answered_board [] old.state.found old.state; geometry = ap (λ a. a.geometry) read.tells }
   looked_stays (inl (read, inr is)) = record { board = ap (λ n. n.board) is.node; geometry = ap (λ a. a.geometry) read.tells }
   looked_stays (inr is) = record { board = ap (λ n. n.board) is.node; geometry = ap (λ a. a.geometry) is.failed.broken }
+
+  -- the member stopped, and gave a joiner no block
+  pub unread_stays : {premise : Type 0} {failures : S → ℕ} {keeps : S → List ℕ → Type 0} {moment : S → ℕ} {left_since : S → ℕ → List ℕ → Type 0}
+      → (HasOnlyRead premise about failures keeps moment left_since old.store new.store × IsStepTo new.state out (stop causes.Memory old.state)) ⊎ HasBrokenOff about failures old new out → Stays about old new
+  unread_stays (inl (read, is)) = record { board = ap (λ n. n.board) is.node; geometry = ap (λ a. a.geometry) read.tells }
+  unread_stays (inr is) = record { board = ap (λ n. n.board) is.node; geometry = ap (λ a. a.geometry) is.failed.broken }
+
+-- it gave one
+pub held_block_stays : {S : Type 0} (about : S → About) (old new : Seen S) {premise : Type 0} {failures : S → ℕ} {keeps : S → List ℕ → Type 0} {moment : S → ℕ} {left_since : S → ℕ → List ℕ → Type 0}
+    → new.state ≡ old.state → HasOnlyRead premise about failures keeps moment left_since old.store new.store → Stays about old new
+held_block_stays about old new same read = record { board = ap (λ n. n.board) same; geometry = ap (λ a. a.geometry) read.tells }

@@ -1,5 +1,5 @@
 //! Messages.
-ghost use Rattle.std.specs.Prelude.{◌≡◌, ◌<◌, ◌≤◌, ◌+◌, [], true, false, length, max, IfOk, IfErr, if◌then◌else◌};
+ghost use Rattle.std.specs.Prelude.{◌≡◌, ◌<◌, ◌≤◌, ◌+◌, [], true, false, length, max, IfOk, IfErr, OnErr, if◌then◌else◌};
 ghost use Rattle.gate_journal.specs.declared.batch.TheConstants.{MAX_NUMBER};
 ghost use Rattle.volume.specs.Writes.{Fits};
 ghost use Rattle.chain_steps.specs.Node.{Refused, durable_of, last_of};
@@ -198,16 +198,25 @@ impl<S: StoreLike + Drop> Node<S> {
         ensures step { IsStepOrStop self.old self.new result (know told known self.old.state) }
         ensures board { self.new.state.board ≡ self.old.state.board }
     {
+        match self.try_know(told, known) {
+            Ok(out) => out,
+            Err(_) => self.stop_by(Cause::Memory),
+        }
+    }
+
+    /// The same. Where memory runs out, nothing changes.
+    pub(crate) fn try_know(&mut self, told: u64, known: u64) -> Result<Out, AllocError>
+        requires above { self.old.state.known ≤ known }
+        requires applied { known ≤ last_of self.old.state }
+        ensures step { IfOk result (λ out. IsStep self.old self.new out (know told known self.old.state)) }
+        ensures unchanged { OnErr result (self.new ≡ self.old) }
+    {
         let due = Due::Committed(known);
-        let Ok(messages) = self.send(self.place.predecessor(), Message::Ack { front: told }) else {
-            return self.stop_by(Cause::Memory);
-        };
-        let Ok(mut replies) = Vec::with_capacity(self.alloc, self.desk.count_due(&due)) else {
-            return self.stop_by(Cause::Memory);
-        };
+        let messages = self.send(self.place.predecessor(), Message::Ack { front: told })?;
+        let mut replies = Vec::with_capacity(self.alloc, self.desk.count_due(&due))?;
         self.desk.settle(self.alloc, &due, &mut replies);
         self.known = known;
         self.found = None;
-        Out { messages, replies }
+        Ok(Out { messages, replies })
     }
 }

@@ -15,6 +15,7 @@ mod delivering;
 mod desk;
 mod fronts;
 mod groups;
+mod holding;
 mod node;
 mod out;
 mod reading;

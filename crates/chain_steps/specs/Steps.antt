@@ -231,6 +231,22 @@ answer_front_by volume (Some (Looked front)) node =
 abbrev pub answer_front : List ℕ → NodeState → Stepped
 answer_front volume node = answer_front_by volume node.found node
 
+-- The tail takes a front that it looked up as its known commit, and holds it for a joiner: its plain writes up to there are answered,
+-- and its predecessor is told.
+abbrev pub hold_at : ℕ → NodeState → Stepped
+hold_at front node = if nat_lt (last_of node) front then stop Disorder node else know front (max node.known front) (record node { holds = true })
+
+abbrev pub hold_by : Option ℕ → NodeState → Stepped
+hold_by None node = silent node
+hold_by (Some front) node = hold_at front node
+
+abbrev pub hold : NodeState → Stepped
+hold node = hold_by (looked_front node.found) node
+
+-- the block that it gives a joiner: that of the volume at its known commit
+abbrev pub held_block : List ℕ → NodeState → ℕ → List ℕ
+held_block volume node block = block_of (volume_at volume node node.known) block
+
 -- With a floor, the writes with FUA that it reaches are answered, and then the FLUSHes.
 abbrev pub answer_floor : ℕ → NodeState → Stepped
 answer_floor floor node = record {

@@ -1,13 +1,8 @@
-use Rattle.std.proofs.Common.{◌≡◌, ◌∙◌, ℕ, true, false, ap, subst, sym}
-use Rattle.std.specs.List.{list_any}
+use Rattle.std.proofs.Common.{◌≡◌, false, subst, sym}
 use Rattle.std.proofs.lemmas.Bool.{both_ways}
-use Rattle.gate_journal.specs.Image.{Image}
 use Rattle.version_table.specs.Held.{writes_upto}
 use Rattle.version_table.specs.Whole.{ends_whole}
-use Rattle.volume.specs.Writes.{touches}
-use Rattle.chain_steps.specs.Steps.{is_written}
 use Rattle.chain_core.specs.Groups.{IsBlank}
-use Rattle.chain_core.specs.Node.{size_of}
 use Rattle.chain_core.proofs.Blanks.{blank_is_whole}
 use Rattle.chain_core.proofs.Ranges.{upto_fit}
 use Rattle.chain_core.proofs.StoreReads.{first, run_first}

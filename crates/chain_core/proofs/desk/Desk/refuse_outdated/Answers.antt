@@ -1,4 +1,4 @@
-use Rattle.std.proofs.Common.{None, ◌++◌, ◌∷◌, [], ◌∙◌, ap, sym, arith}
+use Rattle.std.proofs.Common.{◌++◌, ◌∷◌, [], ◌∙◌, ap, sym, arith}
 use Rattle.std.specs.Prelude.{Some, map, filter}
 use Rattle.chain_steps.specs.Waiting.{is_outdated, reply_to}
 use Rattle.flush_barrier.specs.declared.error_code.ErrorCode.TheVariants.{Io}

@@ -1,9 +1,9 @@
-use Rattle.std.proofs.Common.{arith, inl, sym, subst, ◌≤◌}
+use Rattle.std.proofs.Common.{arith, sym, subst, ◌≤◌}
 use Rattle.std.specs.Prelude.{not}
 use Rattle.chain_steps.specs.Waiting.{is_committed}
 use Rattle.chain_steps.specs.Node.{last_of}
 use Rattle.chain_core.proofs.Sound.{sound_known}
-use Rattle.chain_core.proofs.node.Node.know.Goals as goal
+use Rattle.chain_core.proofs.node.Node.try_know.Goals as goal
 
 pub invariant_of-self : goal.invariant_of-self
 invariant_of-self g c = rw c.settle.ensures.left
@@ -12,4 +12,4 @@ invariant_of-self g c = rw c.settle.ensures.left
     (subst (λ s. c.args.known ≤ last_of s.state) (sym c.self.view_is) c.requires.applied))
 
 pub returns-clause-step : goal.returns-clause-step
-returns-clause-step g c = inl (record { node = grind (arith, c.self.view_is, c.settle.ensures.left); sent = grind (arith, c.self.view_is, c.send.ensures, c.settle.ensures.answered) })
+returns-clause-step g c = record { node = grind (arith, c.self.view_is, c.settle.ensures.left); sent = grind (arith, c.self.view_is, c.send.ensures, c.settle.ensures.answered) }
