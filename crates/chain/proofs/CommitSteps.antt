@@ -479,7 +479,7 @@ module _ {S : Type 0} (premise : Type 0) (about : S → About) (is_pending : S �
     ])
 
 -- the store alone is another
-store_alone : {S : Type 0} (about : S → About) (before after : Linked S) → before.node.state.stopped ≡ None → after ≡ record before { node = record before.node { store = after.node.store } } → about after.node.store ≡ about before.node.store
+pub store_alone : {S : Type 0} (about : S → About) (before after : Linked S) → before.node.state.stopped ≡ None → after ≡ record before { node = record before.node { store = after.node.store } } → about after.node.store ≡ about before.node.store
     → Works about before after []
 store_alone about before after runs are tells =
     let same : after.node.state ≡ before.node.state = ap (λ x. x.node.state) are in

@@ -4,7 +4,7 @@ use Rattle.std.proofs.lemmas.Bool.{cases_Bool}
 use Rattle.world_model.proofs.Counting.{maps_same}
 use Rattle.world_model.specs.Event.{ClientEvent}
 use Rattle.chain_model.proofs.Changing.{demands_of}
-use Rattle.chain_model.specs.Life.{AnswerFloor, AnswerFront, BeginCommit, BoardTells, Does, Doing, EndCommit, Era, FrontRaised, Happening, Happens, KeepRaised, LookUp, MemberDoes, MemberSubmits, MemberTakes, MemberTold, MessageTaken, RaisedKnown, RecordBegun, RecordEnded, RequestsSent, RequestsTakenUp, SessionBegins, SessionEnds, Stop, SubmitTaken}
+use Rattle.chain_model.specs.Life.{AnswerFloor, AnswerFront, BeginCommit, BoardTells, Does, Doing, EndCommit, Era, FrontHeld, FrontRaised, Happening, Happens, KeepRaised, LookUp, MemberDoes, MemberSubmits, MemberTakes, MemberTold, MessageTaken, RaisedKnown, RecordBegun, RecordEnded, RequestsSent, RequestsTakenUp, SessionBegins, SessionEnds, Stop, SubmitTaken}
 use Rattle.chain_model.specs.View.{Member, View}
 use Rattle.chain.specs.Chain.{Goes, are_inner, is_inner}
 
@@ -35,6 +35,7 @@ happens_keep size MemberSubmits v w events inner is = let no : false ≡ true = 
 happens_keep size (MemberDoes doing) v w events inner is =
     one_keeps v w is.above is.old is.new is.below (ap (λ (x : View). x.kept) is.are) is.were (ap (λ (x : View). x.members) is.are) (does_keep v doing is.old is.new events is.change)
 happens_keep size RaisedKnown v w events inner is = one_keeps v w is.above is.member _ is.below (ap (λ (x : View). x.kept) is.are) is.were (ap (λ (x : View). x.members) is.are) refl
+happens_keep size FrontHeld v w events inner is = one_keeps v w is.above is.tail _ is.below (ap (λ (x : View). x.kept) is.are) is.were (ap (λ (x : View). x.members) is.are) refl
 happens_keep size MessageTaken v w events inner is = one_keeps v w is.above is.member _ is.below (ap (λ (x : View). x.kept) is.are) is.were (ap (λ (x : View). x.members) is.are) refl
 happens_keep size SubmitTaken v w events inner is = one_keeps v w is.above is.member _ is.below (ap (λ (x : View). x.kept) is.are) is.were (ap (λ (x : View). x.members) is.are) refl
 happens_keep size FrontRaised v w events inner is = (ap (λ (x : View). x.kept) is.0.are, ap (λ (x : View). map demands_of x.members) is.0.are)

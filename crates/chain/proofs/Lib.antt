@@ -9,6 +9,8 @@ mod EndSteps
 mod FloorSteps
 mod Following
 mod FrontSteps
+mod HoldingSteps
+mod LentSteps
 mod Linkages
 mod MessageSteps
 mod MusterSteps

@@ -16,7 +16,7 @@ use Rattle.world_model.specs.Event.{ClientEvent}
 use Rattle.world_model.specs.Life.{all_events}
 use Rattle.world_model.specs.Machine.{State}
 use Rattle.chain_model.specs.Chain.{StandsFor}
-use Rattle.chain_model.specs.Life.{BoardTells, Era, FrontRaised, Happening, MemberDoes, MemberSubmits, MemberTakes, MemberTold, MessageTaken, RaisedKnown, RecordBegun, RecordEnded, RequestsSent, RequestsTakenUp, SessionBegins, SessionEnds, SubmitTaken}
+use Rattle.chain_model.specs.Life.{BoardTells, Era, FrontHeld, FrontRaised, Happening, MemberDoes, MemberSubmits, MemberTakes, MemberTold, MessageTaken, RaisedKnown, RecordBegun, RecordEnded, RequestsSent, RequestsTakenUp, SessionBegins, SessionEnds, SubmitTaken}
 use Rattle.chain_model.specs.View.{View}
 use Rattle.chain.specs.Links.{AreInside, link_at}
 use Rattle.chain.specs.LoneBoard.{Words}
@@ -108,6 +108,7 @@ is_inner (MemberTakes taking) = false
 is_inner MemberSubmits = false
 is_inner (MemberDoes doing) = true
 is_inner RaisedKnown = true
+is_inner FrontHeld = true
 is_inner MessageTaken = true
 is_inner SubmitTaken = true
 is_inner FrontRaised = true

@@ -3,6 +3,7 @@ pub mod Asking
 pub mod Chain
 pub mod Commits
 pub mod Fronts
+pub mod Holding
 pub mod Links
 pub mod LoneBoard
 pub mod Member

@@ -10,6 +10,7 @@ mod arming;
 mod chain;
 mod commits;
 mod fronts;
+mod holding;
 mod links;
 mod lone_board;
 mod member;

@@ -21,6 +21,8 @@ use Rattle.world_model.specs.Chain.{AreBefore}
 use Rattle.world_model.proofs.Counting.{all_at, all_behind, flat_same, flat_split, maps_same}
 use Rattle.world_model.proofs.DemandSteps as demands
 use Rattle.world_model.specs.Event.{ClientEvent}
+use Rattle.chain_model.specs.Holding.{Holders}
+use Rattle.chain_model.proofs.InOrder.{InOrder}
 use Rattle.chain_model.specs.Links.{Node, hops_of}
 use Rattle.world_model.specs.Machine.{Plays, State}
 use Rattle.world_model.specs.Order.{volume_after}
@@ -60,6 +62,7 @@ tells_disks size v w same backed fronts = plays_of size v (record v { told = w }
         b,
         record {
           order = subst (λ (f : ℕ). Stands f line (hops_of (net_of v.recorded v.links v.members))) (sym same) stands.order;
+          holders = subst (λ (f : ℕ). Holders f (hops_of (net_of v.recorded v.links v.members))) (sym same) stands.holders;
           volumes = subst (λ (f : ℕ). All (HasVolume size f line) v.members) (sym same) stands.volumes;
           places = stands.places;
           leavable = stands.leavable;
@@ -103,20 +106,21 @@ module _ (size : ℕ) (v : View) (above : List Member) (tail : Member) (below : 
 
   -- the order at the new front
   order_raised : (s : State) (line : List Kept) (backed : ℕ) → StandsWith size unraised s line backed → tail.node.stopped ≡ None → tail.node.turned ≡ true → tail.node.holds ≡ false → is_tail tail.node.place ≡ true
-      → (v.told.front ≤ last_of tail.node) × Stands (last_of tail.node) line (hops_of (net_of v.recorded v.links (above ++ tail ∷ below)))
+      → (v.told.front ≤ last_of tail.node) × InOrder (last_of tail.node) line (hops_of (net_of v.recorded v.links (above ++ tail ∷ below)))
   order_raised s line backed stands runs turned free ends =
       let told : IsTold v.recorded v.before tail.node = all_at (λ (x : Member). IsTold v.recorded v.before x.node) above tail below stands.places.told in
       order_raises v.recorded v.before above tail tail below stands.slots refl v.links v.links stands.places runs v.told.front line
       (works_of v.recorded v.before above tail tail below stands.slots refl v.links v.links [] [] (sends_nothing tail.node)
       (λ found. not_itself v.recorded v.before (above ++ tail ∷ below) tail.node stands.places told runs (sym (ap (λ (n : Node). n.above) (node_here above tail below stands.slots)) ∙ found)) nothing_sent)
-      stands.order refl turned free ends
+      (stands.order, stands.holders) refl turned free ends
 
   -- what the chain stands for then
   raises_on : (s : State) (line : List Kept) (backed : ℕ) → StandsWith size unraised s line backed → v.told.front ≤ last_of tail.node
-      → Stands (last_of tail.node) line (hops_of (net_of v.recorded v.links (above ++ tail ∷ below))) → Goes size raised s []
-  raises_on s line backed stands grows then = goes_on size raised s line backed (requests_of unraised line) [] (raises size backed (requests_of unraised line) (last_of tail.node) grows then.within) stands.clients
+      → InOrder (last_of tail.node) line (hops_of (net_of v.recorded v.links (above ++ tail ∷ below))) → Goes size raised s []
+  raises_on s line backed stands grows then = goes_on size raised s line backed (requests_of unraised line) [] (raises size backed (requests_of unraised line) (last_of tail.node) grows then.0.within) stands.clients
       (λ t clients. record {
-        order = then;
+        order = then.0;
+        holders = then.1;
         volumes = All-weaker (HasVolume size v.told.front line) (HasVolume size (last_of tail.node) line) (λ x is. record { committed = omega (arith, grows, is.committed); is = is.is }) (above ++ tail ∷ below) stands.volumes;
         places = stands.places;
         leavable = stands.leavable;
@@ -146,6 +150,7 @@ keeps_else size v kept events clients = plays_of size v (record v { kept = kept 
     (λ s line backed stands. goes_on size (record v { kept = kept }) s line backed (requests_of v line) events (clients line backed) stands.clients
     (λ t after. record {
       order = stands.order;
+      holders = stands.holders;
       volumes = stands.volumes;
       places = stands.places;
       leavable = stands.leavable;
@@ -196,6 +201,9 @@ module _ (size : ℕ) (v : View) (above : List Member) (m : Member) (below : Lis
   requests_taken : (line : List Kept) → requests_of taken_up line ≡ around kept_then line submits_there above below taker
   requests_taken line = requests_split kept_then line above taker below ∙ ap (λ (slots : List ℕ). around kept_then line (submitted_among v.recorded v.before v.submits slots) above below taker) same_slots
 
+  same_hops : hops_of (net_of v.recorded v.links (above ++ m ∷ below)) ≡ hops_of (net_of v.recorded v.links (above ++ taker ∷ below))
+  same_hops = sym (hops_same (net_of v.recorded v.links (above ++ m ∷ below)) (net_of v.recorded v.links (above ++ taker ∷ below)) refl refl (λ x. nodes_same above m taker below x refl refl) (λ x y. refl))
+
   places_taken : ArePlaced v.recorded v.before (above ++ m ∷ below) → ArePlaced v.recorded v.before (above ++ taker ∷ below)
   places_taken is = record {
     apart = is.apart;
@@ -229,8 +237,8 @@ module _ (size : ℕ) (v : View) (above : List Member) (m : Member) (below : Lis
 
   takes_there : (s : State) (line : List Kept) (backed : ℕ) → slice_get v.kept at ≡ Some (taken ++ kept) → StandsWith size untaken s line backed → StandsWith size taken_up s line backed
   takes_there s line backed here stands = record {
-    order = subst (λ (hops : List Hop). Stands v.told.front line hops)
-        (sym (hops_same (net_of v.recorded v.links (above ++ m ∷ below)) (net_of v.recorded v.links (above ++ taker ∷ below)) refl refl (λ x. nodes_same above m taker below x refl refl) (λ x y. refl))) stands.order;
+    order = subst (λ (hops : List Hop). Stands v.told.front line hops) same_hops stands.order;
+    holders = subst (Holders v.told.front) same_hops stands.holders;
     volumes = all_changed (HasVolume size v.told.front line) above m taker below (λ was. was) stands.volumes;
     places = places_taken stands.places;
     leavable = all_changed (λ x. is_in_some v.writing x.node.place.slot x.node.incarnation ≡ true → is_in v.recorded x.node.place.slot x.node.incarnation ≡ true) above m taker below (λ was. was) stands.leavable;

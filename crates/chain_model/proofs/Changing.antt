@@ -15,12 +15,12 @@ use Rattle.world_model.specs.Backing.{Disk, IsBacked}
 use Rattle.world_model.specs.Chain.{AreBefore, IsTokenBefore}
 use Rattle.world_model.proofs.Counting.{all_at, all_before, all_behind, all_between, flat_same, flat_split, maps_same}
 use Rattle.world_model.specs.Event.{ClientEvent}
+use Rattle.chain_model.proofs.InOrder.{InOrder}
 use Rattle.chain_model.specs.Links.{Node, hops_of}
 use Rattle.world_model.specs.Machine.{Move, Plays, RunsOn, State, shown}
 use Rattle.chain_model.specs.Replicas.{Hop}
 use Rattle.world_model.specs.Requests.{Held, Looked, Owing, Requests, Submitted}
 use Rattle.world_model.specs.Requests as requests
-use Rattle.chain_model.specs.Turning.{Stands}
 use Rattle.chain_model.specs.Chain.{AreLinked, ArePlaced, HasApplied, HasVolume, IsApplied, IsTold, LeavesRecorded, StandsFor, StandsWith}
 use Rattle.chain_model.specs.Laws.{with_members}
 use Rattle.chain_model.proofs.NetSteps.{hops_same, nodes_same}
@@ -104,7 +104,7 @@ module _ (size : ℕ) (v : View) (above : List Member) (m g : Member) (below : L
   pub record Fits (line then : List Kept) (backed now : ℕ) : Type 0 where
     pub slot : slot_of g ≡ slot_of m
     pub incarnation : g.node.incarnation ≡ m.node.incarnation
-    pub order : Stands v.told.front then (hops_of (net_of v.recorded links (above ++ g ∷ below)))
+    pub order : InOrder v.told.front then (hops_of (net_of v.recorded links (above ++ g ∷ below)))
     pub volumes : All (HasVolume size v.told.front then) (above ++ g ∷ below)
     pub told : IsTold v.recorded v.before g.node
     pub linked : AreLinked v.recorded v.before v.told.front links submits
@@ -144,7 +144,8 @@ module _ (size : ℕ) (v : View) (above : List Member) (m g : Member) (below : L
               then,
               now,
               record {
-                order = fit.order;
+                order = fit.order.0;
+                holders = fit.order.1;
                 volumes = fit.volumes;
                 places = places_changed v.recorded v.before above m g below fit.slot fit.told stands.places;
                 leavable = leaves fit.slot fit.incarnation stands.leavable;
@@ -197,8 +198,8 @@ module _ (size : ℕ) (v : View) (above : List Member) (m g : Member) (below : L
       whole s line backed now stands fit = record {
         slot = fit.slot;
         incarnation = fit.incarnation;
-        order = subst (λ (hops : List Hop). Stands v.told.front line hops)
-            (sym (hops_same (net_of v.recorded v.links (above ++ m ∷ below)) (net_of v.recorded v.links (above ++ g ∷ below)) refl refl (λ x. nodes_same above m g below x fit.slot fit.node) (λ x y. refl))) stands.order;
+        order = subst (λ (hops : List Hop). InOrder v.told.front line hops)
+            (sym (hops_same (net_of v.recorded v.links (above ++ m ∷ below)) (net_of v.recorded v.links (above ++ g ∷ below)) refl refl (λ x. nodes_same above m g below x fit.slot fit.node) (λ x y. refl))) (stands.order, stands.holders);
         volumes = all_changed (HasVolume size v.told.front line) above m g below fit.volume stands.volumes;
         told = fit.told (all_at (λ x. IsTold v.recorded v.before x.node) above m below stands.places.told);
         linked = stands.links;

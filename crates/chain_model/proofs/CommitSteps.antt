@@ -51,7 +51,7 @@ module _ (size : ℕ) (v : View) (above : List Member) (m : Member) (below : Lis
           incarnation = refl;
           order = order_commits v.recorded v.before above m done below stands.slots refl v.links v.links stands.places runs v.told.front line
               (works_of v.recorded v.before above m done below stands.slots refl v.links v.links [] [] (sends_nothing m.node) (apart_from v.recorded v.before above m done below stands.slots refl v.links v.links stands.places runs)
-              (sends_none (slot_of m) v.links)) stands.order p from upto refl;
+              (sends_none (slot_of m) v.links)) (stands.order, stands.holders) p from upto refl;
           volumes = all_changed (HasVolume size v.told.front line) above m done below
               (λ was. record { committed = omega (arith, upto, reached.known); is = volume_is size v above m below s line backed p runs stands (omega (arith, from)) (omega (arith, upto, reached.known, reached.has)) }) stands.volumes;
           told = all_at (λ x. IsTold v.recorded v.before x.node) above m below stands.places.told;

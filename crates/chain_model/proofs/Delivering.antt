@@ -9,17 +9,18 @@ use Rattle.version_table.specs.declared.kept.Kept.{Kept}
 use Rattle.chain_steps.specs.Node.{last_of}
 use Rattle.chain_steps.specs.declared.message.Envelope.{Envelope}
 use Rattle.world_model.proofs.Counting.{all_at, get_there}
+use Rattle.chain_model.proofs.InOrder.{InOrder, number_in_order, quiet_in_order}
 use Rattle.chain_model.proofs.Lanes.{numbered_at}
 use Rattle.chain_model.specs.Links.{Became, Delivers, Net, Node, Takes, Worked, Works, feed, first_of, hop_at, hops_from, hops_of, is_slot, member_of, stage_of}
 use Rattle.chain_model.proofs.LinkSteps.{deliver_shows, down_weaker, feed_nothing, feed_put, stage_turned, takes_shows}
 use Rattle.world_model.specs.Order.{AreNumberedFrom}
 use Rattle.chain_model.specs.Replicas.{Hop, Message, Now, Old, Past, Put, Replica, Turn, pass_on, puts_of, reach}
 use Rattle.chain_model.specs.Placed.{Apart}
-use Rattle.chain_model.specs.Turning.{Stands, leads, turned_of}
+use Rattle.chain_model.specs.Turning.{leads, turned_of}
 use Rattle.chain_model.proofs.TurningFollow.{puts_are_of_line}
 use Rattle.chain_model.specs.TurningLaws.{Quietly}
 use Rattle.chain_model.specs.TurningSteps.{Down, IsRunning, applied}
-use Rattle.chain_model.proofs.TurningTops.{members_agree, number_stands, quiet_stands}
+use Rattle.chain_model.proofs.TurningTops.{members_agree}
 use Rattle.chain_model.specs.Chain.{ArePlaced}
 use Rattle.chain_model.proofs.NetSteps.{Among}
 use Rattle.chain_model.proofs.Ordering.{is_node, its_place, near, was_node, within, worked}
@@ -65,17 +66,17 @@ module _ (recorded before : Record) (above : List Member) (m g : Member) (below 
   its_running : (was_net.nodes (slot_of m)).stopped ≡ false
   its_running = ap (λ (n : Node). n.stopped) was_there ∙ ap is_some runs
 
-  module _ (stands : Stands front line (hops_of was_net)) where
-    pub order_delivers : Delivers was_net is_net (slot_of m) → Stands front line (hops_of is_net)
+  module _ (stands : InOrder front line (hops_of was_net)) where
+    pub order_delivers : Delivers was_net is_net (slot_of m) → InOrder front line (hops_of is_net)
     order_delivers step =
         let (i, down) = deliver_shows was_net is_net (slot_of m) at.us at.vs step at.chain at.above_suit at.below_suit its_within its_near its_running in
-        quiet_stands front i line (hops_of was_net) (hops_of is_net) stands down
+        quiet_in_order front i line (hops_of was_net) (hops_of is_net) stands down
 
     -- a second Turn is passed over
-    pub order_passes_turn : Takes was_net is_net (slot_of m) Turn [] → node_of g.node ≡ node_of m.node → m.node.turned ≡ true → Stands front line (hops_of is_net)
+    pub order_passes_turn : Takes was_net is_net (slot_of m) Turn [] → node_of g.node ≡ node_of m.node → m.node.turned ≡ true → InOrder front line (hops_of is_net)
     order_passes_turn step same turned =
         let (i, down) = takes_shows was_net is_net (slot_of m) Turn [] at.us at.vs step at.chain at.above_suit at.below_suit its_within its_near in
-        quiet_stands front i line (hops_of was_net) (hops_of is_net) stands (down_weaker _ Quietly over i (hops_of was_net) (hops_of is_net) down)
+        quiet_in_order front i line (hops_of was_net) (hops_of is_net) stands (down_weaker _ Quietly over i (hops_of was_net) (hops_of is_net) down)
       where
         member_same : member_of is_net.epoch (is_net.nodes (slot_of m)) ≡ member_of was_net.epoch (was_net.nodes (slot_of m))
         member_same = ap (member_of recorded.epoch) (is_node recorded before above m g below slots place links new_links places runs ∙ same ∙ sym was_there)
@@ -104,10 +105,10 @@ module _ (recorded before : Record) (above : List Member) (m g : Member) (below 
         let (i, down) = takes_shows was_net is_net (slot_of m) (Put p) sends at.us at.vs step at.chain at.above_suit at.below_suit its_within its_near in
         let (h, rest, found, is, lane) = down_gets i (Put p) sends (member_of was_net.epoch (was_net.nodes (slot_of m))) (member_of is_net.epoch (is_net.nodes (slot_of m))) (hops_of was_net) (hops_of is_net) down in
         let running : IsRunning h = ap (λ (r : Replica). r.stopped) is ∙ its_running in
-        let (own, begins, long, has, close) = members_agree front i line (hops_of was_net) h stands found in
-        let ((start, more, whole), next) = puts_are_of_line front i line (hops_of was_net) h stands found running in
+        let (own, begins, long, has, close) = members_agree front i line (hops_of was_net) h stands.0 found in
+        let ((start, more, whole), next) = puts_are_of_line front i line (hops_of was_net) h stands.0 found running in
         let split : start ++ p ∷ (puts_of rest ++ more) ≡ line = sym (append_assoc start (p ∷ puts_of rest) more) ∙ ap (λ ms. (start ++ puts_of ms) ++ more) (sym lane) ∙ whole in
-        let number : p.number ≡ 1 + length start = numbered_at 1 start (puts_of rest ++ more) p (subst (AreNumberedFrom 1) (sym split) stands.numbered) in
+        let number : p.number ≡ 1 + length start = numbered_at 1 start (puts_of rest ++ more) p (subst (AreNumberedFrom 1) (sym split) stands.0.numbered) in
         let same : h.member.table.forgotten + length h.member.table.kept ≡ last_of m.node = ap (λ (r : Replica). r.table.forgotten + length r.table.kept) (is ∙ ap (member_of recorded.epoch) was_there) in
         record {
           some = omega (arith, number);
@@ -128,7 +129,7 @@ module _ (recorded before : Record) (above : List Member) (m g : Member) (below 
     head_hop = hop_at was_net None (slot_of m)
 
     pub order_numbers : (p : Kept) → p.number ≡ suc (last_of m.node) → node_of g.node ≡ record (node_of m.node) { table = record m.node.table { kept = m.node.table.kept ++ p ∷ [] } }
-        → Works was_net is_net (slot_of m) (if m.node.turned then Put p ∷ [] else []) → Stands front line (hops_of was_net) → Stands front (line ++ p ∷ []) (hops_of is_net)
+        → Works was_net is_net (slot_of m) (if m.node.turned then Put p ∷ [] else []) → InOrder front line (hops_of was_net) → InOrder front (line ++ p ∷ []) (hops_of is_net)
     order_numbers p next same works stands =
         let sends : List Message = if m.node.turned then Put p ∷ [] else [] in
         let down = worked recorded before above m g below slots place links new_links places runs sends works in
@@ -145,7 +146,7 @@ module _ (recorded before : Record) (above : List Member) (m g : Member) (below 
         ∙ ap (λ t. record head_hop { member = applied p head_hop.member } ∷ feed head_hop.member.stage (if t then Put p ∷ [] else []) (hops_from was_net (Some (slot_of m)) vs)) (sym turned)
         ∙ ap (λ (hs : List Hop). record head_hop { member = applied p head_hop.member } ∷ hs) (feed_put head_hop.member.stage p (hops_from was_net (Some (slot_of m)) vs)) in
         let reach_is : last_of m.node ≡ reach head_hop.member = ap (λ (n : Node). n.table.forgotten + length n.table.kept) (sym was_there) in
-        number_stands front p line (head_hop ∷ hops_from was_net (Some (slot_of m)) vs) (hops_of is_net) (subst (Stands front line) seen stands) (
+        number_in_order front p line (head_hop ∷ hops_from was_net (Some (slot_of m)) vs) (hops_of is_net) (subst (InOrder front line) seen stands) (
           its_running,
           ap (λ b. leads b head_hop.member.stage) linked ∙ leads_it recorded.epoch (was_net.nodes (slot_of m)).epoch (was_net.nodes (slot_of m)).turned its_within its_near,
           next ∙ ap suc reach_is,

@@ -3,10 +3,12 @@ use Rattle.std.proofs.Common.{◌≡◌, inl, inr, ℕ, zero, suc, ◌≤◌, Bo
 use Rattle.std.proofs.lemmas.List.{append-nil, length-take-le, take-append-drop}
 use Rattle.chain_model.specs.Replicas.{Hop, Replica, Now, Old, Past, Stage, lane_feeder, next_feeder, pass_on, send_again, unknown}
 use Rattle.version_table.specs.declared.kept.Kept.{Kept}
-use Rattle.chain_model.specs.Holding.{AttachStands, Attaches, IsHeld, Holders, HoldersStay, IsJoiner, JoinStands, TailHolds, is_old, joiner, with_joiner}
+use Rattle.chain_model.specs.Holding.{AttachStands, Attaches, IsHeld, Holders, HoldersStay, IsJoiner, JoinStands, TailRests, joiner, with_joiner}
+use Rattle.chain_model.specs.TurningLaws as laws
 use Rattle.chain_model.specs.TurningLaws.{Quietly}
-use Rattle.chain_model.specs.Turning.{Fed, Follows, Fronts, Leads, Made, Passes, Turns, sending, turned_of}
+use Rattle.chain_model.specs.Turning.{Begins, Fed, Follows, Fronts, Leads, Made, Passes, Turns, sending, turned_of}
 use Rattle.chain_model.specs.TurningSteps.{AllTold, Down, HeadIsTold, IsRunning, IsTold, Learns, Numbers, Raises, applied, is_untold, knowing, kept, moved, shifted, told, turned, without}
+use Rattle.chain_model.proofs.Lanes.{begins_all}
 use Rattle.chain_model.proofs.TurningLists.{follows_moved, made_reach}
 use Rattle.chain_model.proofs.TurningPlaces.{Keeps, down, moved_stays, shifted_silent, untold_silent}
 use Rattle.chain_model.proofs.TurningTops.{LeadsKeeps, down_leads, moved_leads}
@@ -18,6 +20,12 @@ Alike [] [] = Unit {0}
 Alike [] (g ∷ gs) = ⊥
 Alike (h ∷ hs) [] = ⊥
 Alike (h ∷ hs) (g ∷ gs) = (g.member ≡ h.member) × Alike hs gs
+
+alike_but_stopped : (hs gs : List Hop) → laws.Alike hs gs → Alike hs gs
+alike_but_stopped [] [] alike = tt
+alike_but_stopped [] (g ∷ gs) alike = absurd alike
+alike_but_stopped (h ∷ hs) [] alike = absurd alike
+alike_but_stopped (h ∷ hs) (g ∷ gs) (same, runs, alike) = (same, alike_but_stopped hs gs alike)
 
 alike_same : (hs : List Hop) → Alike hs hs
 alike_same [] = tt
@@ -36,13 +44,17 @@ alike_none [] [] alike none = refl
 alike_none [] (g ∷ gs) alike none = absurd alike
 alike_none (h ∷ hs) gs alike none = absurd cc
 
+-- it isn't the tail of a chain before it is told the recorded one
+abbrev EndsTold : Replica → Type 0
+EndsTold m = is_untold m.stage ≡ true → m.ends ≡ false
+
 -- what a step may do to the hop at its place
 record Same (front : ℕ) (h g : Hop) : Type 0 where
   runs : IsRunning g → IsRunning h
   holds : g.member.holds ≡ true → h.member.holds ≡ true
   known : h.member.known ≡ front → g.member.known ≡ front
   untold : is_untold h.member.stage ≡ true → is_untold g.member.stage ≡ true
-  old : is_old h.member.stage ≡ false → is_old g.member.stage ≡ false
+  ending : EndsTold h.member → EndsTold g.member
 
 same_member : (front : ℕ) (h g : Hop) → g.member ≡ h.member → Same front h g
 same_member front h g is = record {
@@ -50,18 +62,18 @@ same_member front h g is = record {
   holds = λ r. ap (λ (m : Replica). m.holds) (sym is) ∙ r;
   known = λ r. ap (λ (m : Replica). m.known) is ∙ r;
   untold = λ r. ap (λ (m : Replica). is_untold m.stage) is ∙ r;
-  old = λ r. ap (λ (m : Replica). is_old m.stage) is ∙ r;
+  ending = subst EndsTold (sym is);
 }
 
-joiner_alike : (front : ℕ) (h g : Hop) (hs gs : List Hop) → (is_old h.member.stage ≡ false → is_old g.member.stage ≡ false) → Alike hs gs → IsJoiner (h ∷ hs) → IsJoiner (g ∷ gs)
-joiner_alike front h g [] [] old alike is = old is
-joiner_alike front h g [] (x ∷ gs) old alike is = absurd alike
-joiner_alike front h g (x ∷ hs) gs old alike is = absurd is
+joiner_alike : (h g : Hop) (hs gs : List Hop) → (EndsTold h.member → EndsTold g.member) → Alike hs gs → IsJoiner (h ∷ hs) → IsJoiner (g ∷ gs)
+joiner_alike h g [] [] ending alike is = ending is
+joiner_alike h g [] (x ∷ gs) ending alike is = absurd alike
+joiner_alike h g (x ∷ hs) gs ending alike is = absurd is
 
 joiners_alike : (hs gs : List Hop) → Alike hs gs → IsJoiner hs → IsJoiner gs
 joiners_alike [] gs alike is = absurd is
 joiners_alike (h ∷ hs) [] alike is = absurd alike
-joiners_alike (h ∷ hs) (g ∷ gs) (same, alike) is = joiner_alike 0 h g hs gs (λ r. ap (λ (m : Replica). is_old m.stage) same ∙ r) alike is
+joiners_alike (h ∷ hs) (g ∷ gs) (same, alike) is = joiner_alike h g hs gs (subst EndsTold (sym same)) alike is
 
 held_same : (front : ℕ) (h g : Hop) (hs gs : List Hop) → Same front h g → (hs ≡ [] → gs ≡ []) → (IsJoiner hs → IsJoiner gs) → (IsRunning h → h.member.holds ≡ true → IsHeld front h hs)
     → IsRunning g → g.member.holds ≡ true → IsHeld front g gs
@@ -84,13 +96,13 @@ Stay front Becomes = (old new : List Hop) → Fronts front old → Becomes old n
 here : (front : ℕ) (h g : Hop) (hs gs new : List Hop) → Same front h g → Alike hs gs → new ≡ g ∷ gs → (Holders front (h ∷ hs) → Holders front new) × (IsJoiner (h ∷ hs) → IsJoiner new)
 here front h g hs gs new same alike new_is = subst (λ (l : List Hop). (Holders front (h ∷ hs) → Holders front l) × (IsJoiner (h ∷ hs) → IsJoiner l)) (sym new_is) (
   λ (held, others). (held_same front h g hs gs same (alike_none hs gs alike) (joiners_alike hs gs alike) held, holders_alike front hs gs alike others),
-  joiner_alike front h g hs gs same.old alike,
+  joiner_alike h g hs gs same.ending alike,
 )
 
-turned_untold : (s : Stage) → (is_untold s ≡ true → is_untold (turned s) ≡ true) × (is_old s ≡ false → is_old (turned s) ≡ false)
-turned_untold (Now t) = (λ r. r, λ r. r)
-turned_untold (Old t) = (λ r. r, λ r. r)
-turned_untold Past = (λ r. r, λ r. r)
+turned_untold : (s : Stage) → is_untold (turned s) ≡ is_untold s
+turned_untold (Now t) = refl
+turned_untold (Old t) = refl
+turned_untold Past = refl
 
 quiet_stay : (front : ℕ) → Stay front Quietly
 quiet_stay front [] new fronts (inl step) = absurd step
@@ -102,29 +114,29 @@ quiet_stay front (h ∷ hs) new fronts (inl (p, rest, runs, lane, has, new_is)) 
     let g : Hop = record h { lane = rest } in here front h g hs hs new (same_member front h g refl) (alike_same hs) new_is
 quiet_stay front (h ∷ hs) new fronts (inr (inl (p, rest, runs, lane, next, new_is))) =
     let g : Hop = record h { lane = rest; member = applied p h.member } in
-    here front h g hs (pass_on h.member.stage p hs) new (record { runs = λ r. r; holds = λ r. r; known = λ r. r; untold = λ r. r; old = λ r. r }) (alike_on h.member.stage p hs) new_is
+    here front h g hs (pass_on h.member.stage p hs) new (record { runs = λ r. r; holds = λ r. r; known = λ r. r; untold = λ r. r; ending = λ r. r }) (alike_on h.member.stage p hs) new_is
 quiet_stay front (h ∷ hs) new fronts (inr (inr (inl (rest, runs, lane, off, new_is)))) =
     let g : Hop = record h { lane = rest; member = record h.member { stage = turned h.member.stage } } in
     here front h g hs (send_again h.member.stage (unknown h.member) hs) new
-    (record { runs = λ r. r; holds = λ r. r; known = λ r. r; untold = (turned_untold h.member.stage).0; old = (turned_untold h.member.stage).1 }) (alike_again h.member.stage (unknown h.member) hs) new_is
+    (record { runs = λ r. r; holds = λ r. r; known = λ r. r; untold = λ r. turned_untold h.member.stage ∙ r; ending = λ told r. told (sym (turned_untold h.member.stage) ∙ r) }) (alike_again h.member.stage (unknown h.member) hs) new_is
 quiet_stay front (h ∷ hs) new fronts (inr (inr (inr (inl new_is)))) =
     let g : Hop = record h { member = record h.member { stopped = true } } in
-    here front h g hs hs new (record { runs = λ r. absurd cc; holds = λ r. r; known = λ r. r; untold = λ r. r; old = λ r. r }) (alike_same hs) new_is
+    here front h g hs hs new (record { runs = λ r. absurd cc; holds = λ r. r; known = λ r. r; untold = λ r. r; ending = λ r. r }) (alike_same hs) new_is
 quiet_stay front (h ∷ hs) new fronts (inr (inr (inr (inr (p, (above, within, new_is)))))) =
-    here front h _ hs hs new (record { runs = λ r. r; holds = λ r. r; known = λ r. r; untold = λ r. r; old = λ r. r }) (alike_same hs) new_is
+    here front h _ hs hs new (record { runs = λ r. r; holds = λ r. r; known = λ r. r; untold = λ r. r; ending = λ r. r }) (alike_same hs) new_is
 
 learn_stay : (k front : ℕ) → k ≤ front → Stay front (Learns k)
 learn_stay k front le [] new fronts step = absurd step
 learn_stay k front le (h ∷ hs) new fronts new_is =
     let g : Hop = record h { member = knowing k h.member } in
-    here front h g hs hs new (record { runs = λ r. r; holds = λ r. r; known = λ r. omega arith; untold = λ r. r; old = λ r. r }) (alike_same hs) new_is
+    here front h g hs hs new (record { runs = λ r. r; holds = λ r. r; known = λ r. omega arith; untold = λ r. r; ending = λ r. r }) (alike_same hs) new_is
 
 told_stay : (front : ℕ) → Stay front IsTold
 told_stay front [] new fronts step = absurd step
 told_stay front (h ∷ hs) new fronts (runs, untold, new_is) =
     let g : Hop = record h { lane = h.next; next = []; linked = true; member = told false hs h.member } in
     subst (λ (l : List Hop). (Holders front (h ∷ hs) → Holders front l) × (IsJoiner (h ∷ hs) → IsJoiner l)) (sym new_is)
-    (λ (held, others). (λ r is. absurd cc, others), joiner_alike front h g hs hs (λ r. refl) (alike_same hs))
+    (λ (held, others). (λ r is. absurd cc, others), joiner_alike h g hs hs (λ r is. absurd cc) (alike_same hs))
 
 -- nothing is below a joiner
 joiner_last : (h : Hop) (hs : List Hop) → IsJoiner (h ∷ hs) → hs ≡ []
@@ -166,14 +178,14 @@ raise_holders (suc i) front more a (h ∷ hs) new (stays, stages) (held, others)
     not_below zero new step = step
     not_below (suc j) new step = step
 
-    turned_sends_now : (s : Stage) → is_old s ≡ false → turned_of s ≡ true → sending s ≡ true
-    turned_sends_now (Now t) old on = on
-    turned_sends_now (Old t) old on = absurd cc
-    turned_sends_now Past old on = absurd cc
+    turned_sends_now : (s : Stage) (end : Bool) → (is_untold s ≡ true → end ≡ false) → end ≡ true → turned_of s ≡ true → sending s ≡ true
+    turned_sends_now (Now t) end told ends on = on
+    turned_sends_now (Old t) end told ends on = absurd (let never = told refl in cc)
+    turned_sends_now Past end told ends on = absurd (let never = told refl in cc)
 
     joiner_heard : (j : ℕ) (b : Stage) (hs new : List Hop) → IsJoiner hs → Turns b hs → Down j (Raises more) hs new → sending b ≡ true
     joiner_heard j b [] new joins turns step = absurd joins
-    joiner_heard zero b (x ∷ []) new joins (stays, stages) ((runs, ends, free, on), far, new_is) = stays.heard (turned_sends_now x.member.stage joins on)
+    joiner_heard zero b (x ∷ []) new joins (stays, stages) ((runs, ends, free, on), far, new_is) = stays.heard (turned_sends_now x.member.stage x.member.ends joins ends on)
     joiner_heard (suc j) b (x ∷ []) new joins turns (rest, new_is, step) = absurd (not_below j rest step)
     joiner_heard j b (x ∷ y ∷ hs) new joins turns step = absurd joins
 
@@ -181,7 +193,7 @@ number_holders : (front : ℕ) (p : Kept) (old new : List Hop) → Holders front
 number_holders front p [] new holders step = absurd step
 number_holders front p (h ∷ hs) new holders (runs, leading, next, new_is) =
     let g : Hop = record h { member = applied p h.member } in
-    (here front h g hs (pass_on h.member.stage p hs) new (record { runs = λ r. r; holds = λ r. r; known = λ r. r; untold = λ r. r; old = λ r. r }) (alike_on h.member.stage p hs) new_is).0 holders
+    (here front h g hs (pass_on h.member.stage p hs) new (record { runs = λ r. r; holds = λ r. r; known = λ r. r; untold = λ r. r; ending = λ r. r }) (alike_on h.member.stage p hs) new_is).0 holders
 
 head_told_holders : (front : ℕ) (old new : List Hop) → Holders front old → HeadIsTold old new → Holders front new
 head_told_holders front [] new holders step = absurd step
@@ -220,6 +232,7 @@ holders_stay front i line old stands holders = (
   λ p new step. number_holders front p old new holders step,
   λ new step. head_told_holders front old new holders step,
   λ all. (holders_without i front old all holders, holders_moved front old all holders),
+  λ new alike. holders_alike front old new (alike_but_stopped old new alike) holders,
 )
 
 -- ---- the tail holds
@@ -254,12 +267,12 @@ attach_stands front i line old new stands holders step =
 
 -- ---- the joiner is recorded
 
-lane_of_joiner : (s : Stage) (linked : Bool) (own above : List Kept) → Fed (lane_feeder s linked Past) own [] above
-lane_of_joiner (Now t) linked own above = refl
-lane_of_joiner (Old t) linked own above = refl
-lane_of_joiner Past linked own above = refl
+lane_of_joiner : (s : Stage) (own above : List Kept) → Begins own above → Fed (lane_feeder (shifted s) false (Old true)) own [] above
+lane_of_joiner (Now t) own above begins = (own, begins_all own, begins, record { before = own; is = append-nil own; reached = omega arith })
+lane_of_joiner (Old t) own above begins = (own, begins_all own, begins, record { before = own; is = append-nil own; reached = omega arith })
+lane_of_joiner Past own above begins = (own, begins_all own, begins, record { before = own; is = append-nil own; reached = omega arith })
 
-next_of_joiner : (s : Stage) (own above : List Kept) → Fed (next_feeder (shifted s) Past) own [] above
+next_of_joiner : (s : Stage) (own above : List Kept) → Fed (next_feeder (shifted s) (Old true)) own [] above
 next_of_joiner (Now t) own above = refl
 next_of_joiner (Old t) own above = refl
 next_of_joiner Past own above = refl
@@ -269,44 +282,42 @@ shifted_untold (Now t) = refl
 shifted_untold (Old t) = refl
 shifted_untold Past = refl
 
-joined : (front : ℕ) (above : List Kept) (a b : Stage) (hs : List Hop) → AllTold hs → TailHolds hs → Passes above a hs → Turns b hs → Fronts front hs → Holders front hs
-    → (c : Stage) → Passes above (shifted a) (with_joiner hs) × Turns c (with_joiner hs) × Fronts front (with_joiner hs) × Holders front (with_joiner hs)
-joined front above a b [] all tail passes turns fronts holders c = absurd tail
-joined front above a b (t ∷ []) (told, all) (runs, holds) (own, follows, below) (stays, stages) (knows, others) (held, rest) c =
-    let k : ℕ = t.member.known in
-    let still : k ≡ front = (held runs holds).known in
-    let far : k ≤ length own = omega (arith, knows.known, knows.has, made_reach own t.member follows.made) in
-    let size : length (take k own) ≡ k = length-take-le k own far in
-    let joins : Follows own (shifted t.member.stage) (take k own) (joiner k) = record {
-      made = record { done = take k own; own_is = append-nil (take k own); durable = size };
-      begins = (drop k own, take-append-drop k own);
-      lane = λ r. lane_of_joiner (shifted t.member.stage) false (take k own) own;
-      next = λ r. next_of_joiner t.member.stage (take k own) own;
+joined : (front : ℕ) (above : List Kept) (a b : Stage) (hs : List Hop) → AllTold hs → TailRests hs → Passes above a hs → Turns b hs → Fronts front hs → Holders front hs
+    → (c : Stage) → Passes above (shifted a) (with_joiner front hs) × Turns c (with_joiner front hs) × Fronts front (with_joiner front hs) × Holders front (with_joiner front hs)
+joined front above a b [] all rests passes turns fronts holders c = absurd rests
+joined front above a b (t ∷ []) (told, all) rests (own, follows, below) (stays, stages) (knows, others) (held, rest) c =
+    let far : front ≤ length own = omega (arith, knows.has, made_reach own t.member follows.made) in
+    let begins : Begins (take front own) own = (drop front own, take-append-drop front own) in
+    let joins : Follows own (shifted t.member.stage) (take front own) (joiner front) = record {
+      made = record { done = take front own; own_is = append-nil (take front own); durable = length-take-le front own far };
+      begins = begins;
+      lane = λ r. lane_of_joiner t.member.stage (take front own) own begins;
+      next = λ r. next_of_joiner t.member.stage (take front own) own;
     } in (
-      (own, follows_moved above a own t told follows, (take k own, joins, tt)),
+      (own, follows_moved above a own t told follows, (take front own, joins, tt)),
       (
-        record { heard = λ is. absurd (let off = shifted_silent t.member.stage in cc); last = λ r is. inl holds },
+        record { heard = λ is. absurd (let off = shifted_silent t.member.stage in cc); last = λ r is. inl (rests r) },
         (record { heard = λ is. absurd cc; last = λ r is. absurd cc }, tt),
       ),
-      (record { within = knows.within; known = knows.known; has = knows.has }, (record { within = omega arith; known = knows.known; has = omega arith }, tt)),
-      (λ r is. record { known = still; alone = inr (shifted_untold t.member.stage, refl) }, (λ r is. absurd cc, tt)),
+      (record { within = knows.within; known = knows.known; has = knows.has }, (record { within = omega arith; known = omega arith; has = omega arith }, tt)),
+      (λ r is. record { known = (held r is).known; alone = inr (shifted_untold t.member.stage, λ untold. refl) }, (λ r is. absurd cc, tt)),
     )
-joined front above a b (h ∷ g ∷ hs) (told, all) tail (own, follows, below) (stays, stages) (knows, others) (held, rest) c =
-    let (passes, turns, fronts, holders) = joined front own h.member.stage h.member.stage (g ∷ hs) all tail below stages others rest (shifted h.member.stage) in (
+joined front above a b (h ∷ g ∷ hs) (told, all) rests (own, follows, below) (stays, stages) (knows, others) (held, rest) c =
+    let (passes, turns, fronts, holders) = joined front own h.member.stage h.member.stage (g ∷ hs) all rests below stages others rest (shifted h.member.stage) in (
       (own, follows_moved above a own h told follows, passes),
-      (moved_stays b c h.linked h (g ∷ hs) (with_joiner (g ∷ hs)) stays (λ nil. absurd cc), turns),
+      (moved_stays b c h.linked h (g ∷ hs) (with_joiner front (g ∷ hs)) stays (λ nil. absurd cc), turns),
       (record { within = knows.within; known = knows.known; has = knows.has }, fronts),
-      (held_moved front h.linked h (g ∷ hs) (with_joiner (g ∷ hs)) told (λ nil. absurd cc) held, holders),
+      (held_moved front h.linked h (g ∷ hs) (with_joiner front (g ∷ hs)) told (λ nil. absurd cc) held, holders),
     )
 
-joined_leads : (line : List Kept) (hs : List Hop) → AllTold hs → Leads line hs → Leads line (with_joiner hs)
-joined_leads line [] all head = tt
-joined_leads line (t ∷ []) (told, all) head = moved_leads line t [] (joiner t.member.known ∷ []) told head
-joined_leads line (h ∷ g ∷ hs) (told, all) head = moved_leads line h (g ∷ hs) (with_joiner (g ∷ hs)) told head
+joined_leads : (front : ℕ) (line : List Kept) (hs : List Hop) → AllTold hs → Leads line hs → Leads line (with_joiner front hs)
+joined_leads front line [] all head = tt
+joined_leads front line (t ∷ []) (told, all) head = moved_leads line t [] (joiner front ∷ []) told head
+joined_leads front line (h ∷ g ∷ hs) (told, all) head = moved_leads line h (g ∷ hs) (with_joiner front (g ∷ hs)) told head
 
 pub join_stands : JoinStands
-join_stands front line hops stands holders all tail =
-    let (passes, turns, fronts, holding) = joined front line Past (Now true) hops all tail stands.passes stands.turns stands.fronts holders (Now true) in (
-      record { numbered = stands.numbered; within = stands.within; passes = passes; leads = joined_leads line hops all stands.leads; turns = turns; fronts = fronts },
+join_stands front line hops stands holders all rests =
+    let (passes, turns, fronts, holding) = joined front line Past (Now true) hops all rests stands.passes stands.turns stands.fronts holders (Now true) in (
+      record { numbered = stands.numbered; within = stands.within; passes = passes; leads = joined_leads front line hops all stands.leads; turns = turns; fronts = fronts },
       holding,
     )

@@ -3,7 +3,9 @@ pub mod BoardSteps
 pub mod Changing
 pub mod CommitSteps
 pub mod Delivering
+pub mod HeldSteps
 pub mod HoldingSteps
+pub mod InOrder
 pub mod Lanes
 pub mod LifeSteps
 pub mod LineSteps

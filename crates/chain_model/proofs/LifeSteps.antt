@@ -17,8 +17,9 @@ use Rattle.world_model.proofs.Runs.{plays_nothing, plays_then}
 use Rattle.chain_model.proofs.BoardSteps.{connects, forgets, raises_front, sends_all, takes_up, tells_disks}
 use Rattle.chain_model.specs.Chain.{StandsFor}
 use Rattle.chain_model.proofs.CommitSteps.{ends_commit}
+use Rattle.chain_model.proofs.HeldSteps.{holds_front}
 use Rattle.chain_model.specs.Laws.{KnowsRaised, with_members}
-use Rattle.chain_model.specs.Life.{Answer, AnswerFloor, AnswerFront, Ask, BeginCommit, BoardTells, Does, Doing, Drop, EndCommit, Era, FrontRaised, Happening, HappeningsAreOfOneVolume, KeepRaised, Life, LivesAreOfOneVolume, LookUp, MemberDoes, MemberSubmits, MemberTakes, MemberTold, MessageTaken, RaisedKnown, RecordBegun, RecordEnded, Refuse, RequestsSent, RequestsTakenUp, RunsEras, SessionBegins, SessionEnds, Stop, SubmitTaken, Takes, Taking, Wait}
+use Rattle.chain_model.specs.Life.{Answer, AnswerFloor, AnswerFront, Ask, BeginCommit, BoardTells, Does, Doing, Drop, EndCommit, Era, FrontHeld, FrontRaised, Happening, HappeningsAreOfOneVolume, KeepRaised, Life, LivesAreOfOneVolume, LookUp, MemberDoes, MemberSubmits, MemberTakes, MemberTold, MessageTaken, RaisedKnown, RecordBegun, RecordEnded, Refuse, RequestsSent, RequestsTakenUp, RunsEras, SessionBegins, SessionEnds, Stop, SubmitTaken, Takes, Taking, Wait}
 use Rattle.chain_model.proofs.MemberSteps.{answers, begins, keeps_raised, looks_up, pays}
 use Rattle.chain_model.proofs.MessageSteps.{takes_message}
 use Rattle.chain_model.proofs.PassingSteps.{its_raised, knows_itself, stops}
@@ -102,6 +103,9 @@ happenings size v w (MemberDoes doing) events one =
 happenings size v w RaisedKnown events is =
     from_members size v w _ (is.above ++ is.member ∷ is.below) events is.were is.are
     (knows_raised size v is.above is.member is.below is.front is.links events is.runs is.found is.more is.sent is.out)
+happenings size v w FrontHeld events is =
+    from_members size v w _ (is.above ++ is.tail ∷ is.below) events is.were is.are
+    (holds_front size v is.above is.tail is.below is.front is.links events is.runs is.found is.committed is.now is.ends is.sent is.out)
 happenings size v w MessageTaken events is =
     from_members size v w _ (is.above ++ is.member ∷ is.below) events is.were is.are
     (takes_message size v is.above is.member is.below is.from is.envelope is.stepped is.links events is.taken is.passed is.out)

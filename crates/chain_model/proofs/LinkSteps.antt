@@ -462,10 +462,16 @@ stage_shifted r e t within = elim (pick r e t) [
   | inr (inr (not_now, not_old, is)) ↦ stage_past (suc r) e t (λ (same : e ≡ suc r). omega arith) (λ (same : suc e ≡ suc r). not_now (omega arith)) ∙ ap shifted (sym is)
 ]
 
-module _ (a b : Net) (step : Records a b) where
-  member_shifted : (y : ℕ) → (a.nodes y).epoch ≤ a.epoch → member_of b.epoch (b.nodes y) ≡ record (member_of a.epoch (a.nodes y)) { stage = shifted (stage_of a.epoch (a.nodes y).epoch (a.nodes y).turned) }
-  member_shifted y within =
-      ap (member_of b.epoch) (step.nodes y) ∙ ap (λ r. member_of r (a.nodes y)) step.epoch
+-- one epoch on, without a message of that
+record IsNextEpoch (a b : Net) : Type 0 where
+  epoch : b.epoch ≡ suc a.epoch
+  links : (x y : ℕ) → b.links x y ≡ a.links x y
+  none : (x y : ℕ) → at_epoch (suc a.epoch) (a.links x y) ≡ []
+
+module _ (a b : Net) (step : IsNextEpoch a b) where
+  member_shifted : (y : ℕ) → b.nodes y ≡ a.nodes y → (a.nodes y).epoch ≤ a.epoch → member_of b.epoch (b.nodes y) ≡ record (member_of a.epoch (a.nodes y)) { stage = shifted (stage_of a.epoch (a.nodes y).epoch (a.nodes y).turned) }
+  member_shifted y same within =
+      ap (member_of b.epoch) same ∙ ap (λ r. member_of r (a.nodes y)) step.epoch
       ∙ ap (λ (x : Stage). record (member_of a.epoch (a.nodes y)) { stage = x }) (stage_shifted a.epoch (a.nodes y).epoch (a.nodes y).turned within)
 
   from_none : (o : Option ℕ) (y : ℕ) → at_epoch (suc a.epoch) (from_slot b.links o y) ≡ []
@@ -477,18 +483,18 @@ module _ (a b : Net) (step : Records a b) where
   from_same (Some x) y = step.links x y
 
   -- a running one keeps its lane, with another one before it perhaps
-  hop_moved : (prev next_prev : Option ℕ) (y : ℕ) (linked : Bool) → (a.nodes y).epoch ≡ a.epoch → is_slot (a.nodes y).above next_prev ≡ linked → hop_at b next_prev y ≡ moved linked (hop_at a prev y)
-  hop_moved prev next_prev y linked now is =
+  hop_moved : (prev next_prev : Option ℕ) (y : ℕ) (linked : Bool) → b.nodes y ≡ a.nodes y → (a.nodes y).epoch ≡ a.epoch → is_slot (a.nodes y).above next_prev ≡ linked → hop_at b next_prev y ≡ moved linked (hop_at a prev y)
+  hop_moved prev next_prev y linked same now is =
       let n : Node = a.nodes y in
       let k : Replica = record (member_of a.epoch n) { stage = shifted (stage_of a.epoch n.epoch n.turned) } in
       let make = λ (lane next : List Message) (linked : Bool) (m : Replica). let h : Hop = record { lane = lane; next = next; linked = linked; member = m } in h in
       let lane : at_epoch n.epoch (from_slot b.links n.above y) ≡ at_epoch n.epoch (from_slot a.links n.above y) = ap (at_epoch n.epoch) (from_same n.above y) in
       let next_b : (if n.epoch == b.epoch then [] else at_epoch b.epoch (from_slot b.links next_prev y)) ≡ [] =
-      cond-false (n.epoch == b.epoch) [] (at_epoch b.epoch (from_slot b.links next_prev y)) (ne_eqb n.epoch b.epoch (λ (same : n.epoch ≡ b.epoch). omega (arith, step.epoch)))
+      cond-false (n.epoch == b.epoch) [] (at_epoch b.epoch (from_slot b.links next_prev y)) (ne_eqb n.epoch b.epoch (λ (other : n.epoch ≡ b.epoch). omega (arith, step.epoch)))
       ∙ ap (λ r. at_epoch r (from_slot b.links next_prev y)) step.epoch ∙ from_none next_prev y in
       let next_a : (if n.epoch == a.epoch then [] else at_epoch a.epoch (from_slot a.links prev y)) ≡ [] = cond-true (n.epoch == a.epoch) [] (at_epoch a.epoch (from_slot a.links prev y)) (eq-eqb n.epoch a.epoch now) in
-      ap (λ (x : Node). record (hop_of b.epoch b.links next_prev y x) { member = member_of b.epoch (b.nodes y) }) (step.nodes y)
-      ∙ ap (λ (x : Replica). make (at_epoch n.epoch (from_slot b.links n.above y)) (if n.epoch == b.epoch then [] else at_epoch b.epoch (from_slot b.links next_prev y)) (is_slot n.above next_prev) x) (member_shifted y (omega arith))
+      ap (λ (x : Node). record (hop_of b.epoch b.links next_prev y x) { member = member_of b.epoch (b.nodes y) }) same
+      ∙ ap (λ (x : Replica). make (at_epoch n.epoch (from_slot b.links n.above y)) (if n.epoch == b.epoch then [] else at_epoch b.epoch (from_slot b.links next_prev y)) (is_slot n.above next_prev) x) (member_shifted y same (omega arith))
       ∙ ap (λ (l : List Message). make l (if n.epoch == b.epoch then [] else at_epoch b.epoch (from_slot b.links next_prev y)) (is_slot n.above next_prev) k) lane
       ∙ ap (λ (l : List Message). make (at_epoch n.epoch (from_slot a.links n.above y)) l (is_slot n.above next_prev) k) (next_b ∙ sym next_a)
       ∙ ap (λ (l : Bool). make (at_epoch n.epoch (from_slot a.links n.above y)) (if n.epoch == a.epoch then [] else at_epoch a.epoch (from_slot a.links prev y)) l k) is
@@ -497,73 +503,77 @@ module _ (a b : Net) (step : Records a b) where
   is_prev None = refl
   is_prev (Some x) = eq-eqb x x refl
 
-  -- below the one that left nothing else changes
-  kept_below : (prev : Option ℕ) (ys : List ℕ) → AllTold a prev ys → Alike (map kept (hops_from a prev ys)) (hops_from b prev ys)
-  kept_below prev [] all = tt
-  kept_below prev (y ∷ ys) (told, within, rest) = (
-    member_shifted y within,
-    λ runs. hop_moved prev prev y (is_slot (a.nodes y).above prev) (told runs).0 refl,
-    kept_below (Some y) ys rest,
-  )
+  module _ (nodes : (x : ℕ) → b.nodes x ≡ a.nodes x) where
+    -- below the one that left nothing else changes
+    kept_below : (prev : Option ℕ) (ys : List ℕ) → AllTold a prev ys → Alike (map kept (hops_from a prev ys)) (hops_from b prev ys)
+    kept_below prev [] all = tt
+    kept_below prev (y ∷ ys) (told, within, rest) = (
+      member_shifted y (nodes y) within,
+      λ runs. hop_moved prev prev y (is_slot (a.nodes y).above prev) (nodes y) (told runs).0 refl,
+      kept_below (Some y) ys rest,
+    )
 
-  below_left : (m : ℕ) (prev : Option ℕ) (ys : List ℕ) → prev ≢ Some m → AllTold a (Some m) ys → Alike (without zero (hop_at a prev m ∷ hops_from a (Some m) ys)) (hops_from b prev ys)
-  below_left m prev [] apart all = tt
-  below_left m prev (y ∷ ys) apart (told, within, rest) = (
-    member_shifted y within,
-    λ runs. hop_moved (Some m) prev y false (told runs).0 (ap (λ (o : Option ℕ). is_slot o prev) (told runs).1 ∙ off prev apart),
-    kept_below (Some y) ys rest,
-  )
-    where
-      off : (prev : Option ℕ) → prev ≢ Some m → is_slot (Some m) prev ≡ false
-      off None apart = refl
-      off (Some q) apart = ne_eqb m q (λ is. apart (ap Some (sym is)))
+    below_left : (m : ℕ) (prev : Option ℕ) (ys : List ℕ) → prev ≢ Some m → AllTold a (Some m) ys → Alike (without zero (hop_at a prev m ∷ hops_from a (Some m) ys)) (hops_from b prev ys)
+    below_left m prev [] apart all = tt
+    below_left m prev (y ∷ ys) apart (told, within, rest) = (
+      member_shifted y (nodes y) within,
+      λ runs. hop_moved (Some m) prev y false (nodes y) (told runs).0 (ap (λ (o : Option ℕ). is_slot o prev) (told runs).1 ∙ off prev apart),
+      kept_below (Some y) ys rest,
+    )
+      where
+        off : (prev : Option ℕ) → prev ≢ Some m → is_slot (Some m) prev ≡ false
+        off None apart = refl
+        off (Some q) apart = ne_eqb m q (λ is. apart (ap Some (sym is)))
 
-  removed : (m : ℕ) (vs : List ℕ) (prev : Option ℕ) (xs : List ℕ) → prev ≢ Some m → All (λ x. x ≢ m) xs → AllTold a prev (xs ++ m ∷ vs) → Alike (without (length xs) (hops_from a prev (xs ++ m ∷ vs))) (hops_from b prev (xs ++ vs))
-  removed m vs prev [] apart others (told, within, rest) = below_left m prev vs apart rest
-  removed m vs prev (y ∷ xs) apart others (told, within, rest) = (
-    member_shifted y within,
-    λ runs. hop_moved prev prev y (is_slot (a.nodes y).above prev) (told runs).0 refl,
-    removed m vs (Some y) xs (λ is. All-head (λ x. x ≢ m) y xs others (same_Some y m is)) (All-tail (λ x. x ≢ m) y xs others) rest,
-  )
+    removed : (m : ℕ) (vs : List ℕ) (prev : Option ℕ) (xs : List ℕ) → prev ≢ Some m → All (λ x. x ≢ m) xs → AllTold a prev (xs ++ m ∷ vs) → Alike (without (length xs) (hops_from a prev (xs ++ m ∷ vs))) (hops_from b prev (xs ++ vs))
+    removed m vs prev [] apart others (told, within, rest) = below_left m prev vs apart rest
+    removed m vs prev (y ∷ xs) apart others (told, within, rest) = (
+      member_shifted y (nodes y) within,
+      λ runs. hop_moved prev prev y (is_slot (a.nodes y).above prev) (nodes y) (told runs).0 refl,
+      removed m vs (Some y) xs (λ is. All-head (λ x. x ≢ m) y xs others (same_Some y m is)) (All-tail (λ x. x ≢ m) y xs others) rest,
+    )
 
-  -- one behind the tail was told nothing
-  fresh_hop : (t j k : ℕ) → 0 < a.epoch → IsFresh (a.nodes j) k → hop_at b (Some t) j ≡ joiner k
-  fresh_hop t j k early is =
-      let n : Node = record { epoch = 0; turned = false; above = None; below = None; stopped = false; ends = false; holds = false; table = record { forgotten = k; kept = [] }; known = k } in
-      let same : b.nodes j ≡ n = step.nodes j ∙ is in
-      let next : (if 0 == b.epoch then [] else at_epoch b.epoch (b.links t j)) ≡ [] =
-      cond-false (0 == b.epoch) [] (at_epoch b.epoch (b.links t j)) (ne_eqb 0 b.epoch (λ (is : 0 ≡ b.epoch). omega (arith, step.epoch))) ∙ ap (λ r. at_epoch r (b.links t j)) step.epoch ∙ from_none (Some t) j in
-      let stage : stage_of b.epoch 0 false ≡ Past = stage_past b.epoch 0 false (λ (is : 0 ≡ b.epoch). omega (arith, step.epoch)) (λ (is : 1 ≡ b.epoch). omega (arith, step.epoch)) in
-      let make = λ (next : List Message) (linked : Bool) (stage : Stage).
-      let h : Hop = record { lane = []; next = next; linked = linked; member = record { stage = stage; stopped = false; ends = false; holds = false; table = record { forgotten = k; kept = [] }; known = k } } in h in
-      ap (hop_of b.epoch b.links (Some t) j) same ∙ ap (λ (l : List Message). make l false (stage_of b.epoch 0 false)) next ∙ ap (make [] false) stage
+  -- one behind the tail has the epoch before, and nothing is sent to it
+  module _ (j k : ℕ) (nodes : (x : ℕ) → x ≢ j → b.nodes x ≡ a.nodes x) (fresh : IsFresh (b.nodes j) a.epoch k) where
+    fresh_hop : (t : ℕ) → hop_at b (Some t) j ≡ joiner k
+    fresh_hop t =
+        let next : (if a.epoch == b.epoch then [] else at_epoch b.epoch (b.links t j)) ≡ [] =
+        cond-false (a.epoch == b.epoch) [] (at_epoch b.epoch (b.links t j)) (ne_eqb a.epoch b.epoch (λ (is : a.epoch ≡ b.epoch). omega (arith, step.epoch))) ∙ ap (λ r. at_epoch r (b.links t j)) step.epoch ∙ from_none (Some t) j in
+        let make = λ (next : List Message) (stage : Stage).
+        let h : Hop = record { lane = []; next = next; linked = false; member = record { stage = stage; stopped = false; ends = false; holds = false; table = record { forgotten = k; kept = [] }; known = k } } in h in
+        ap (hop_of b.epoch b.links (Some t) j) fresh ∙ ap (λ (l : List Message). make l (stage_of b.epoch a.epoch true)) next ∙ ap (make []) (stage_old b.epoch a.epoch true (sym step.epoch))
 
-  joined : (t j : ℕ) (prev : Option ℕ) (xs : List ℕ) → 0 < a.epoch → IsFresh (a.nodes j) (a.nodes t).known → AllTold a prev (xs ++ t ∷ []) → Alike (with_joiner (hops_from a prev (xs ++ t ∷ []))) (hops_from b prev (xs ++ t ∷ j ∷ []))
-  joined t j prev [] early fresh (told, within, rest) =
-      let last : hop_at b (Some t) j ≡ joiner (a.nodes t).known = fresh_hop t j (a.nodes t).known early fresh in
-      (member_shifted t within, λ runs. hop_moved prev prev t (is_slot (a.nodes t).above prev) (told runs).0 refl, (ap (λ (h : Hop). h.member) last, λ runs. last, tt))
-  joined t j prev (y ∷ []) early fresh (told, within, rest) =
-      (member_shifted y within, λ runs. hop_moved prev prev y (is_slot (a.nodes y).above prev) (told runs).0 refl, joined t j (Some y) [] early fresh rest)
-  joined t j prev (y ∷ x ∷ xs) early fresh (told, within, rest) =
-      (member_shifted y within, λ runs. hop_moved prev prev y (is_slot (a.nodes y).above prev) (told runs).0 refl, joined t j (Some y) (x ∷ xs) early fresh rest)
-
-pub join_shows : JoinShows
-join_shows a b us t j step early told chain fresh = (
-  λ after.
-      subst (λ (l : List ℕ). Alike (with_joiner (hops_from a None l)) (hops_of b)) (sym chain)
-      (subst (λ (l : List ℕ). Alike (with_joiner (hops_from a None (us ++ t ∷ []))) (hops_from b None l)) (sym after) (joined a b step t j None us early fresh (subst (AllTold a None) chain told))),
-  λ same. subst (λ (l : List ℕ). Alike (map kept (hops_of a)) (hops_from b None l)) (sym same) (kept_below a b step None a.chain told),
-)
+    joined : (t : ℕ) (prev : Option ℕ) (xs : List ℕ) → All (λ x. x ≢ j) (xs ++ t ∷ []) → AllTold a prev (xs ++ t ∷ []) → Alike (with_joiner k (hops_from a prev (xs ++ t ∷ []))) (hops_from b prev (xs ++ t ∷ j ∷ []))
+    joined t prev [] others (told, within, rest) =
+        let last : hop_at b (Some t) j ≡ joiner k = fresh_hop t in
+        let same : b.nodes t ≡ a.nodes t = nodes t (All-head (λ x. x ≢ j) t [] others) in
+        (member_shifted t same within, λ runs. hop_moved prev prev t (is_slot (a.nodes t).above prev) same (told runs).0 refl, (ap (λ (h : Hop). h.member) last, λ runs. last, tt))
+    joined t prev (y ∷ []) others (told, within, rest) =
+        let same : b.nodes y ≡ a.nodes y = nodes y (All-head (λ x. x ≢ j) y (t ∷ []) others) in
+        (member_shifted y same within, λ runs. hop_moved prev prev y (is_slot (a.nodes y).above prev) same (told runs).0 refl, joined t (Some y) [] (All-tail (λ x. x ≢ j) y (t ∷ []) others) rest)
+    joined t prev (y ∷ x ∷ xs) others (told, within, rest) =
+        let same : b.nodes y ≡ a.nodes y = nodes y (All-head (λ x. x ≢ j) y (x ∷ xs ++ t ∷ []) others) in
+        (member_shifted y same within, λ runs. hop_moved prev prev y (is_slot (a.nodes y).above prev) same (told runs).0 refl, joined t (Some y) (x ∷ xs) (All-tail (λ x. x ≢ j) y (x ∷ xs ++ t ∷ []) others) rest)
 
 -- the next record of the same members
 pub same_shows : (a b : Net) → Records a b → AllTold a None a.chain → b.chain ≡ a.chain → Alike (map kept (hops_of a)) (hops_of b)
-same_shows a b step told same = subst (λ (l : List ℕ). Alike (map kept (hops_of a)) (hops_from b None l)) (sym same) (kept_below a b step None a.chain told)
+same_shows a b step told same =
+    subst (λ (l : List ℕ). Alike (map kept (hops_of a)) (hops_from b None l)) (sym same) (kept_below a b (record { epoch = step.epoch; links = step.links; none = step.none }) step.nodes None a.chain told)
+
+pub join_shows : JoinShows
+join_shows a b told = (
+  λ us t j k step fresh others before after.
+      subst (λ (l : List ℕ). Alike (with_joiner k (hops_from a None l)) (hops_of b)) (sym before)
+      (subst (λ (l : List ℕ). Alike (with_joiner k (hops_from a None (us ++ t ∷ []))) (hops_from b None l)) (sym after)
+      (joined a b (record { epoch = step.epoch; links = step.links; none = step.none }) j k step.nodes fresh t None us (subst (All (λ x. x ≢ j)) before others) (subst (AllTold a None) before told))),
+  λ step same. same_shows a b step told same,
+)
 
 pub remove_shows : RemoveShows
 remove_shows a b us vs m step told before after others =
     subst (λ (l : List ℕ). Alike (without (length us) (hops_from a None l)) (hops_of b)) (sym before)
     (subst (λ (l : List ℕ). Alike (without (length us) (hops_from a None (us ++ m ∷ vs))) (hops_from b None l)) (sym after)
-    (removed a b step m vs None us (λ is. cc) others (subst (AllTold a None) before told)))
+    (removed a b (record { epoch = step.epoch; links = step.links; none = step.none }) step.nodes m vs None us (λ is. cc) others (subst (AllTold a None) before told)))
 
 -- ---- being told
 
@@ -573,6 +583,9 @@ untold_stage r e t before = elim (pick r e t) [
   | inr (inl (old, is)) ↦ ap is_untold is
   | inr (inr (not_now, not_old, is)) ↦ ap is_untold is
 ]
+
+pub told_stage : (r e : ℕ) (t : Bool) → e ≡ r → is_untold (stage_of r e t) ≡ false
+told_stage r e t is = ap is_untold (stage_now r e t is)
 
 module _ (a b : Net) (prev_s : Option ℕ) (s : ℕ) (vs : List ℕ) (step : Learns a b prev_s s vs) where
   from_learns : (o : Option ℕ) (y : ℕ) → from_slot b.links o y ≡ from_slot a.links o y

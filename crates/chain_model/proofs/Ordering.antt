@@ -13,14 +13,14 @@ use Rattle.chain_steps.specs.Place.{Standing, is_tail, predecessor_of, successor
 use Rattle.chain_steps.specs.declared.message.Envelope.{Envelope}
 use Rattle.chain_steps.specs.declared.message.Sent.{Sent}
 use Rattle.world_model.proofs.Counting.{all_at, maps_same}
-use Rattle.chain_model.specs.Links.{Net, Node, Sends, Takes, Worked, Works, feed, hops_of, member_of, stamped}
-use Rattle.chain_model.proofs.LinkSteps.{down_weaker, feed_nothing, stage_turned, work_shows}
+use Rattle.chain_model.specs.Links.{Net, Node, Sends, Takes, Worked, Works, feed, hops_of, member_of, stage_of, stamped}
+use Rattle.chain_model.proofs.InOrder.{InOrder, attach_in_order, learn_in_order, quiet_in_order, raise_in_order}
+use Rattle.chain_model.proofs.LinkSteps.{down_weaker, feed_nothing, stage_turned, told_stage, work_shows}
 use Rattle.chain_model.specs.Replicas.{Hop, Message, Replica}
 use Rattle.chain_model.specs.Placed.{Apart, above_in}
-use Rattle.chain_model.specs.Turning.{Stands, turned_of}
+use Rattle.chain_model.specs.Turning.{turned_of}
 use Rattle.chain_model.specs.TurningLaws.{Quietly}
-use Rattle.chain_model.specs.TurningSteps.{Down, Learns, Raises, committed, knowing}
-use Rattle.chain_model.proofs.TurningTops.{learn_stands, quiet_stands, raise_stands}
+use Rattle.chain_model.specs.TurningSteps.{Down, Learns, Raises, committed, is_untold, knowing}
 use Rattle.chain_model.specs.Chain.{ArePlaced, IsTold}
 use Rattle.chain_model.specs.Laws.{HasPassed, HasSent, sent_to}
 use Rattle.chain_model.proofs.NetSteps.{Among, among, node_here, node_there, passed-append}
@@ -202,7 +202,7 @@ module _ (recorded before : Record) (above : List Member) (m g : Member) (below 
   quietly f k both same h hs new (it, is) =
       is ∙ ap (λ (r : Replica). record h { member = r } ∷ feed h.member.stage [] hs) (became f k both same h.member it) ∙ ap (λ (l : List Hop). record h { member = k h.member } ∷ l) (feed_nothing h.member.stage hs)
 
-  module _ (front : ℕ) (line : List Kept) (works : Works was_net is_net (slot_of m) []) (stands : Stands front line (hops_of was_net)) where
+  module _ (front : ℕ) (line : List Kept) (works : Works was_net is_net (slot_of m) []) (stands : InOrder front line (hops_of was_net)) where
     abbrev stop_node : Node → Node
     stop_node n = record n { stopped = true }
 
@@ -214,9 +214,9 @@ module _ (recorded before : Record) (above : List Member) (m g : Member) (below 
     to_stop same [] new step = absurd step
     to_stop same (h ∷ hs) new step = inr (inr (inr (inl (quietly stop_node stop_member (λ n. refl) same h hs new step))))
 
-    pub order_stops : node_of g.node ≡ record (node_of m.node) { stopped = true } → Stands front line (hops_of is_net)
+    pub order_stops : node_of g.node ≡ record (node_of m.node) { stopped = true } → InOrder front line (hops_of is_net)
     order_stops same =
-        quiet_stands front (length its_place.us) line (hops_of was_net) (hops_of is_net) stands
+        quiet_in_order front (length its_place.us) line (hops_of was_net) (hops_of is_net) stands
         (down_weaker _ Quietly (to_stop same) (length its_place.us) (hops_of was_net) (hops_of is_net) (worked [] works))
 
     to_learn : (j : ℕ) → node_of g.node ≡ record (node_of m.node) { known = max m.node.known j } → (old new : List Hop)
@@ -224,9 +224,9 @@ module _ (recorded before : Record) (above : List Member) (m g : Member) (below 
     to_learn j same [] new step = absurd step
     to_learn j same (h ∷ hs) new step = quietly (λ n. record n { known = max n.known j }) (knowing j) (λ n. refl) same h hs new step
 
-    pub order_learns : (j : ℕ) → j ≤ front → node_of g.node ≡ record (node_of m.node) { known = max m.node.known j } → Stands front line (hops_of is_net)
+    pub order_learns : (j : ℕ) → j ≤ front → node_of g.node ≡ record (node_of m.node) { known = max m.node.known j } → InOrder front line (hops_of is_net)
     order_learns j committed same =
-        learn_stands front (length its_place.us) j line (hops_of was_net) (hops_of is_net) stands committed
+        learn_in_order front (length its_place.us) j line (hops_of was_net) (hops_of is_net) stands committed
         (down_weaker _ (Learns j) (to_learn j same) (length its_place.us) (hops_of was_net) (hops_of is_net) (worked [] works))
 
     to_commit : (p : ℕ) → m.node.table.forgotten < p → p ≤ m.node.known → node_of g.node ≡ record (node_of m.node) { table = forgotten_to m.node.table p } → (old new : List Hop)
@@ -243,9 +243,9 @@ module _ (recorded before : Record) (above : List Member) (m g : Member) (below 
           ),
         ))))
 
-    pub order_commits : (p : ℕ) → m.node.table.forgotten < p → p ≤ m.node.known → node_of g.node ≡ record (node_of m.node) { table = forgotten_to m.node.table p } → Stands front line (hops_of is_net)
+    pub order_commits : (p : ℕ) → m.node.table.forgotten < p → p ≤ m.node.known → node_of g.node ≡ record (node_of m.node) { table = forgotten_to m.node.table p } → InOrder front line (hops_of is_net)
     order_commits p from upto same =
-        quiet_stands front (length its_place.us) line (hops_of was_net) (hops_of is_net) stands
+        quiet_in_order front (length its_place.us) line (hops_of was_net) (hops_of is_net) stands
         (down_weaker _ Quietly (to_commit p from upto same) (length its_place.us) (hops_of was_net) (hops_of is_net) (worked [] works))
 
     to_raise : node_of g.node ≡ node_of m.node → m.node.turned ≡ true → m.node.holds ≡ false → is_tail m.node.place ≡ true → (old new : List Hop)
@@ -264,7 +264,17 @@ module _ (recorded before : Record) (above : List Member) (m g : Member) (below 
           quietly (λ n. n) (λ r. r) (λ n. refl) same h hs new (it, is),
         )
 
-    pub order_raises : node_of g.node ≡ node_of m.node → m.node.turned ≡ true → m.node.holds ≡ false → is_tail m.node.place ≡ true → (front ≤ last_of m.node) × Stands (last_of m.node) line (hops_of is_net)
+    pub order_raises : node_of g.node ≡ node_of m.node → m.node.turned ≡ true → m.node.holds ≡ false → is_tail m.node.place ≡ true → (front ≤ last_of m.node) × InOrder (last_of m.node) line (hops_of is_net)
     order_raises same turned free ends =
-        raise_stands front (last_of m.node) (length its_place.us) line (hops_of was_net) (hops_of is_net) stands
+        raise_in_order front (last_of m.node) (length its_place.us) line (hops_of was_net) (hops_of is_net) stands
         (down_weaker _ (Raises (last_of m.node)) (to_raise same turned free ends) (length its_place.us) (hops_of was_net) (hops_of is_net) (worked [] works))
+
+    -- the tail of the recorded chain, which was told it, holds the front
+    pub order_holds : node_of g.node ≡ record (node_of m.node) { known = front; holds = true } → epoch_of m.node ≡ recorded.epoch → is_tail m.node.place ≡ true → InOrder front line (hops_of is_net)
+    order_holds same now ends =
+        attach_in_order front (length its_place.us) line (member_of was_net.epoch (was_net.nodes (slot_of m))) (member_of is_net.epoch (is_net.nodes (slot_of m))) (hops_of was_net) (hops_of is_net) stands
+        (ap (λ (n : Node). n.stopped) was_node ∙ ap is_some runs)
+        (ap (λ (n : Node). is_untold (stage_of recorded.epoch n.epoch n.turned)) was_node ∙ told_stage recorded.epoch (epoch_of m.node) m.node.turned now)
+        (ap (λ (n : Node). n.ends) was_node ∙ ends)
+        (ap (member_of recorded.epoch) (is_node ∙ same) ∙ ap (λ (n : Node). record (member_of recorded.epoch n) { known = front; holds = true }) (sym was_node))
+        (worked [] works)

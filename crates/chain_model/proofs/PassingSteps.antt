@@ -21,13 +21,13 @@ use Rattle.world_model.specs.Chain.{AreBefore, ArePutOut, IsBefore, IsTokenBefor
 use Rattle.world_model.proofs.Counting.{all_at, all_before, all_behind, all_between, flat_same, flat_split, maps_same}
 use Rattle.world_model.specs.Event.{ClientEvent}
 use Rattle.world_model.proofs.MemberSteps.{stays_then, tokens_left}
+use Rattle.chain_model.proofs.InOrder.{InOrder}
 use Rattle.chain_model.specs.Links.{Works, hops_of}
 use Rattle.world_model.specs.Machine.{Plays, State}
 use Rattle.world_model.specs.Requests.{Requests, Submitted}
 use Rattle.world_model.specs.Requests as requests
 use Rattle.world_model.proofs.Runs.{plays_nothing}
 use Rattle.world_model.proofs.Standing.{Shows}
-use Rattle.chain_model.specs.Turning.{Stands}
 use Rattle.chain_model.proofs.Answering.{answers_committed, applied_left, refuses_those}
 use Rattle.chain_model.specs.Chain.{AreLinked, HasApplied, HasVolume, IsTold, StandsFor, StandsWith}
 use Rattle.chain_model.proofs.Changing.{Fits, all_changed, are, changes, requests_split, were}
@@ -54,7 +54,7 @@ module _ (size : ℕ) (v : View) (above : List Member) (m g : Member) (below : L
   pub record FitsMost (line : List Kept) (backed : ℕ) : Type 0 where
     pub slot : slot_of g ≡ slot_of m
     pub incarnation : g.node.incarnation ≡ m.node.incarnation
-    pub order : Stands v.told.front line (hops_of (net_of v.recorded links (above ++ g ∷ below)))
+    pub order : InOrder v.told.front line (hops_of (net_of v.recorded links (above ++ g ∷ below)))
     pub volume : HasVolume size v.told.front line m → HasVolume size v.told.front line g
     pub told : IsTold v.recorded v.before g.node
     pub linked : AreLinked v.recorded v.before v.told.front links submits
@@ -105,7 +105,7 @@ its_raised size v above m below s line backed stands =
 -- the order with the new links, and what they carry, are all that is to be shown
 pub links_change : (size : ℕ) (v : View) (above : List Member) (m : Member) (below : List Member) (links : ℕ → ℕ → List Envelope)
     → ((s : State) (line : List Kept) (backed : ℕ) → StandsWith size (with_members v (above ++ m ∷ below)) s line backed
-    → Stands v.told.front line (hops_of (net_of v.recorded links (above ++ m ∷ below))) × AreLinked v.recorded v.before v.told.front links v.submits)
+    → InOrder v.told.front line (hops_of (net_of v.recorded links (above ++ m ∷ below))) × AreLinked v.recorded v.before v.told.front links v.submits)
     → Plays size (StandsFor size (with_members v (above ++ m ∷ below))) (StandsFor size (record v { members = above ++ m ∷ below; links = links })) []
 links_change size v above m below links shown = changes size v above m m below links v.submits []
     (λ s line backed stands.
@@ -147,7 +147,7 @@ module _ (size : ℕ) (v : View) (above : List Member) (m : Member) (below : Lis
           order = order_stops v.recorded v.before above m (record m { node = (stop cause m.node).node }) below stands.slots refl v.links v.links stands.places runs v.told.front line
               (works_of v.recorded v.before above m (record m { node = (stop cause m.node).node }) below stands.slots refl v.links v.links [] [] (sends_nothing m.node)
               (apart_from v.recorded v.before above m (record m { node = (stop cause m.node).node }) below stands.slots refl v.links v.links stands.places runs) (sends_none (slot_of m) v.links))
-              stands.order refl;
+              (stands.order, stands.holders) refl;
           volume = λ is. is;
           told = (let is = its_told s line backed stands in record { within = is.within; now = is.now; old = is.old; near = λ no. absurd cc; there = λ no. absurd cc; itself = λ no. absurd cc });
           linked = stands.links;
@@ -201,7 +201,7 @@ module _ (size : ℕ) (v : View) (above : List Member) (m : Member) (below : Lis
     knows_by s line backed stands works linked = record {
       slot = refl;
       incarnation = refl;
-      order = order_learns v.recorded v.before above m (record m { node = (know told known m.node).node }) below stands.slots refl v.links links stands.places runs v.told.front line works stands.order known committed
+      order = order_learns v.recorded v.before above m (record m { node = (know told known m.node).node }) below stands.slots refl v.links links stands.places runs v.told.front line works (stands.order, stands.holders) known committed
           (ap (λ k. record (node_of m.node) { known = k }) more);
       volume = λ is. is;
       told = its_told s line backed stands;

@@ -26,12 +26,12 @@ use Rattle.world_model.specs.Chain.{ArePutOut}
 use Rattle.world_model.proofs.Counting.{all_at}
 use Rattle.world_model.specs.Event.{ClientEvent}
 use Rattle.world_model.proofs.MemberSteps.{learns_number, stays_then, tickets_learned, tokens_left}
+use Rattle.chain_model.proofs.InOrder.{InOrder}
 use Rattle.chain_model.specs.Links.{Net, Node, Takes, hops_of, sent_again, stamped}
 use Rattle.chain_model.proofs.LinkSteps.{drop_shows}
 use Rattle.world_model.specs.Machine.{Plays, State}
 use Rattle.chain_model.specs.Replicas as replicas
 use Rattle.world_model.proofs.Standing.{shows_stay}
-use Rattle.chain_model.specs.Turning.{Stands}
 use Rattle.chain_model.proofs.Answering.{applied_left, refuses_those}
 use Rattle.chain_model.specs.Chain.{ArePlaced, Belongs, HasApplied, IsAbove, IsApplied, IsTold, StandsFor, StandsWith}
 use Rattle.chain_model.proofs.Changing.{are, changes, were}
@@ -212,7 +212,7 @@ module _ (size : ℕ) (v : View) (above : List Member) (m : Member) (below : Lis
 
     pub drops_old : Plays size (StandsFor size (with_members v (above ++ m ∷ below))) (StandsFor size (record v { members = above ++ m ∷ below; links = links })) []
     drops_old = links_change size v above m below links (λ s line backed stands. (
-      subst (Stands v.told.front line) (sym (order_drops s line backed stands)) stands.order,
+      subst (InOrder v.told.front line) (sym (order_drops s line backed stands)) (stands.order, stands.holders),
       linked_passed v.recorded v.before v.told.front from (slot_of m) envelope [] v.links links v.submits has (λ to. All-nil (IsProper v.recorded v.before v.told.front (slot_of m) to)) stands.links,
     ))
 
@@ -258,7 +258,7 @@ module _ (size : ℕ) (v : View) (above : List Member) (m : Member) (below : Lis
       passes_put has_it has = links_change size v above m below links (λ s line backed stands.
           let step = takes m refl [] [] (sends_nothing m.node) (replicas.Put entry) passed has s line backed stands (above_it [] has s line backed stands) in
           let was = was_there m refl s line backed stands in (
-            order_delivers v.recorded v.before above m m below stands.slots refl v.links links stands.places runs v.told.front line stands.order
+            order_delivers v.recorded v.before above m m below stands.slots refl v.links links stands.places runs v.told.front line (stands.order, stands.holders)
                 (inl (record { number = n; write = write; origin = origin }, step, subst (λ (x : Node). n ≤ x.table.forgotten + length x.table.kept) (sym was) has_it, is_there m refl s line backed stands ∙ sym was)),
             linked_passed v.recorded v.before v.told.front from (slot_of m) envelope [] v.links links v.submits has (λ to. All-nil (IsProper v.recorded v.before v.told.front (slot_of m) to)) stands.links,
           ))
@@ -273,13 +273,13 @@ module _ (size : ℕ) (v : View) (above : List Member) (m : Member) (below : Lis
           let step = takes g refl (apply n origin write m.node).out.messages sends (sends_put n origin write m.node) (replicas.Put entry) passed has s line backed stands
           (above_it (apply n origin write m.node).out.messages has s line backed stands) in
           let was = was_there g refl s line backed stands in
-          let fact = put_is v.recorded v.before above m g below stands.slots refl v.links links stands.places runs v.told.front line stands.order entry sends step in (
+          let fact = put_is v.recorded v.before above m g below stands.slots refl v.links links stands.places runs v.told.front line (stands.order, stands.holders) entry sends step in (
             line,
             backed,
             fits_most size v above m g below links v.submits [] s line backed stands (record {
               slot = refl;
               incarnation = refl;
-              order = order_delivers v.recorded v.before above m g below stands.slots refl v.links links stands.places runs v.told.front line stands.order
+              order = order_delivers v.recorded v.before above m g below stands.slots refl v.links links stands.places runs v.told.front line (stands.order, stands.holders)
                   (inr (inl (
                     record { number = n; write = write; origin = origin },
                     subst (λ (x : Node). Takes (net_of v.recorded v.links (above ++ m ∷ below)) (net_of v.recorded links (above ++ g ∷ below)) (slot_of m) (replicas.Put (record { number = n; write = write; origin = origin }))
@@ -307,7 +307,7 @@ module _ (size : ℕ) (v : View) (above : List Member) (m : Member) (below : Lis
           → (s : State) → StandsFor size (with_members v (above ++ m ∷ below)) s → n ≤ suc (last_of m.node)
       not_further g place sent sends down has s (line, backed, stands) =
           let step = takes g place sent sends down (replicas.Put entry) passed has s line backed stands (above_it sent has s line backed stands) in
-          (put_is v.recorded v.before above m g below stands.slots place v.links links stands.places runs v.told.front line stands.order entry sends step).near_it
+          (put_is v.recorded v.before above m g below stands.slots place v.links links stands.places runs v.told.front line (stands.order, stands.holders) entry sends step).near_it
 
     -- ---- a Turn
 
@@ -325,7 +325,7 @@ module _ (size : ℕ) (v : View) (above : List Member) (m : Member) (below : Lis
       pub passes_turn : m.node.turned ≡ true → HasPassed from (slot_of m) envelope [] v.links links
           → Plays size (StandsFor size (with_members v (above ++ m ∷ below))) (StandsFor size (record v { members = above ++ m ∷ below; links = links })) []
       passes_turn turned has = links_change size v above m below links (λ s line backed stands. (
-        order_passes_turn v.recorded v.before above m m below stands.slots refl v.links links stands.places runs v.told.front line stands.order
+        order_passes_turn v.recorded v.before above m m below stands.slots refl v.links links stands.places runs v.told.front line (stands.order, stands.holders)
             (takes m refl [] [] (sends_nothing m.node) replicas.Turn turn_passed has s line backed stands (turn_above [] has s line backed stands)) refl turned,
         linked_passed v.recorded v.before v.told.front from (slot_of m) envelope [] v.links links v.submits has (λ to. All-nil (IsProper v.recorded v.before v.told.front (slot_of m) to)) stands.links,
       ))
@@ -343,7 +343,7 @@ module _ (size : ℕ) (v : View) (above : List Member) (m : Member) (below : Lis
             fits_most size v above m g below links v.submits events s line backed stands (record {
               slot = refl;
               incarnation = refl;
-              order = order_delivers v.recorded v.before above m g below stands.slots refl v.links links stands.places runs v.told.front line stands.order
+              order = order_delivers v.recorded v.before above m g below stands.slots refl v.links links stands.places runs v.told.front line (stands.order, stands.holders)
                   (inr (inr (
                     subst (λ (x : Node). Takes (net_of v.recorded v.links (above ++ m ∷ below)) (net_of v.recorded links (above ++ g ∷ below)) (slot_of m) replicas.Turn (sent_again x)) (sym was) step,
                     ap (λ (x : Node). x.turned) was ∙ unturned,

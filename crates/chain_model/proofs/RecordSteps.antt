@@ -2,7 +2,7 @@
 use Rattle.std.proofs.Common.{if◌then◌else◌, ◌≡◌, ◌≢◌, inl, inr, ℕ, suc, ◌==◌, ◌≤◌, Bool, true, false, ◌||◌, is_some, Option, None, Some, List, [], ◌∷◌, ◌++◌, get_or, length, map, option_map, refl, sym, ◌∙◌, ap, subst, arith}
 use Rattle.std.specs.Prelude.{All}
 use Rattle.std.specs.List.{Contains}
-use Rattle.std.proofs.lemmas.Bool.{cases_Bool, cases_eq, cond-false, cond-true, eq-eqb, ne_eqb}
+use Rattle.std.proofs.lemmas.Bool.{cases_Bool, cases_eq, cond-false, cond-true, ne_eqb}
 use Rattle.std.proofs.lemmas.List.{append_assoc, map-append}
 use Rattle.std.proofs.lemmas.List.Elements.{All-cons, All-contains, All-contains_itself, All-head, All-tail, All-weaker, Contains-append_right}
 use Rattle.std.proofs.lemmas.Option.{same_Some}
@@ -21,19 +21,17 @@ use Rattle.chain_steps.specs.declared.message.Message.TheVariants as messages
 use Rattle.world_model.specs.Backing.{Disk, IsBacked, IsMustered, IsOnDisk, Muster}
 use Rattle.world_model.specs.Chain.{IsBefore}
 use Rattle.world_model.proofs.Counting.{all_at, all_before, all_behind, all_without}
-use Rattle.chain_model.specs.Links.{AllTold, Net, Node, Records, Stamped, at_epoch, hops_from, hops_of, stage_of, stamped}
-use Rattle.chain_model.proofs.LinkSteps.{remove_shows, same_shows}
+use Rattle.chain_model.specs.Links.{AllTold, Net, Node, Records, Stamped, at_epoch, hops_from, hops_of, stamped}
+use Rattle.chain_model.proofs.InOrder.{InOrder, alike_in_order, record_in_order}
+use Rattle.chain_model.proofs.LinkSteps.{remove_shows, same_shows, told_stage}
 use Rattle.world_model.specs.Machine.{State}
 use Rattle.chain_model.specs.Placed.{Apart, Close}
 use Rattle.chain_model.proofs.PlacedSteps.{records_are_close}
 use Rattle.chain_model.specs.Replicas.{Now, Old, Past}
 use Rattle.chain_model.specs.Replicas as replicas
 use Rattle.world_model.specs.Requests.{Requests}
-use Rattle.chain_model.specs.Turning.{Stands}
-use Rattle.chain_model.proofs.TurningFollow.{alike_stands}
 use Rattle.chain_model.specs.TurningSteps.{is_untold}
 use Rattle.chain_model.specs.TurningSteps as turning
-use Rattle.chain_model.proofs.TurningTops.{record_stands}
 use Rattle.chain_model.specs.Chain.{AreLinked, ArePlaced, Belongs, BelongsToHead, IsAbove, IsTold, StandsWith}
 use Rattle.chain_model.proofs.Changing.{plays_of}
 use Rattle.chain_model.specs.Laws.{BeginsRecord, EndsRecord, IsNext, IsWithout}
@@ -222,6 +220,7 @@ begins_record size v next is writing = plays_of size v (record v { writing = Som
         let disks : disks_of v.recorded v.writing v.members ≡ disks_of v.recorded (Some next) v.members = ap (λ (o : Option Record). disks_of v.recorded o v.members) writing ∙ sym (disks_written v.recorded next was v.members) in
         record {
           order = stands.order;
+          holders = stands.holders;
           volumes = stands.volumes;
           places = stands.places;
           leavable = λ k d lt. was (get_or v.members k d).node.place.slot (get_or v.members k d).node.incarnation;
@@ -287,9 +286,6 @@ module _ (recorded before : Record) (links : ℕ → ℕ → List Envelope) (mem
   all_told = told_from (chain_of recorded) refl
 
 -- so it is seen
-told_stage : (r e : ℕ) (t : Bool) → e ≡ r → is_untold (stage_of r e t) ≡ false
-told_stage r e t is = ap is_untold (cond-true (e == r) (Now t) (if suc e == r then Old t else Past) (eq-eqb e r is))
-
 hops_told : (w : Net) (prev : Option ℕ) (ys : List ℕ) → AllTold w prev ys → turning.AllTold (hops_from w prev ys)
 hops_told w prev [] all = tt
 hops_told w prev (y ∷ ys) (told, within, rest) = (λ runs. told_stage w.epoch (w.nodes y).epoch (w.nodes y).turned (told runs).0, hops_told w (Some y) ys rest)
@@ -373,7 +369,7 @@ module _ (v : View) (next : Record) (is : IsNext v next) (places : ArePlaced v.r
   abbrev new : Net
   new = net_of next v.links v.members
 
-  order_then : (line : List Kept) → AreLinked v.recorded v.before v.told.front v.links v.submits → Stands v.told.front line (hops_of old) → Stands v.told.front line (hops_of new)
+  order_then : (line : List Kept) → AreLinked v.recorded v.before v.told.front v.links v.submits → InOrder v.told.front line (hops_of old) → InOrder v.told.front line (hops_of new)
   order_then line linked stands =
       let records : Records old new = record {
         epoch = is.epoch;
@@ -391,9 +387,9 @@ module _ (v : View) (next : Record) (is : IsNext v next) (places : ArePlaced v.r
             let chain : chain_of v.recorded ≡ us ++ m ∷ vs = ap slots out.were ∙ map-append (λ (x : entries.Member). x.slot) out.before (out.removed ∷ out.behind) in
             let rest : chain_of next ≡ us ++ vs = ap slots out.are ∙ map-append (λ (x : entries.Member). x.slot) out.before out.behind in
             let others : All (λ k. k ≢ m) us = all_before (λ k. k ≢ m) us vs (left_out us vs m (subst Apart chain places.apart)) in
-            alike_stands v.told.front line (turning.without (length us) (hops_of old)) (hops_of new) (record_stands v.told.front (length us) line (hops_of old) stands stages).0
+            alike_in_order v.told.front line (turning.without (length us) (hops_of old)) (hops_of new) (record_in_order v.told.front (length us) line (hops_of old) stands stages).0
             (remove_shows old new us vs m records told chain rest others)
-        | inr same ↦ alike_stands v.told.front line (map turning.kept (hops_of old)) (hops_of new) (record_stands v.told.front 0 line (hops_of old) stands stages).1 (same_shows old new records told (ap slots same))
+        | inr same ↦ alike_in_order v.told.front line (map turning.kept (hops_of old)) (hops_of new) (record_in_order v.told.front 0 line (hops_of old) stands stages).1 (same_shows old new records told (ap slots same))
       ]
 
 -- ---- it is recorded
@@ -407,8 +403,10 @@ ends_record size v next is writing all = plays_of size v (record v { recorded = 
         let r : Requests = requests_of v line in
         let disks : List Disk = disks_of v.recorded (Some next) v.members in
         let within : (from to : ℕ) → All (λ e. e.epoch ≤ v.recorded.epoch) (v.submits from to) = λ from to k d lt. (stands.links.submits_of from to k d lt).0 in
+        let order = order_then v next is stands.places all line stands.links (stands.order, stands.holders) in
         record {
-          order = order_then v next is stands.places all line stands.links stands.order;
+          order = order.0;
+          holders = order.1;
           volumes = stands.volumes;
           places = placed_then v next is stands.places all;
           leavable = λ k d lt none. absurd cc;

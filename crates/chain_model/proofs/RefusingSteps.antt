@@ -4,6 +4,7 @@ use Rattle.std.specs.Prelude.{All, Any, Contains, filter, nat_le, nat_lt}
 use Rattle.std.proofs.lemmas.Bool.{cases_Bool, cond-false, cond-true, true≢false}
 use Rattle.std.proofs.lemmas.Bool.Decides.{nat_tests}
 use Rattle.std.proofs.lemmas.List.Elements.{All-append, All-cons, All-contains_itself, All-filter, All-head, All-map, All-nil, All-tail, All-weaker, filter_passes}
+use Rattle.board.specs.Seats.{FoundFront}
 use Rattle.configurations.specs.Record.{Record}
 use Rattle.flush_barrier.specs.Reply.{GivenReply}
 use Rattle.flush_barrier.specs.declared.error_code.ErrorCode.TheVariants.{Io, NoMemory}
@@ -11,10 +12,11 @@ use Rattle.version_table.specs.declared.kept.Origin.{Origin}
 use Rattle.volume.specs.Writes.{Placed}
 use Rattle.chain_steps.specs.Node.{NodeState, Refused, Stepped, Taken, epoch_of, is_stopped, last_of}
 use Rattle.chain_steps.specs.Place.{head_of, incarnation_in, is_head, is_of}
-use Rattle.chain_steps.specs.Steps.{ack, answer_at, answer_floor, apply, asked_bytes, deliver, is_full, know, number, number_from, origin_of, placed, put, silent, starts, stop, submit, take_message, take_turn, told, turn, volume_at}
+use Rattle.chain_steps.specs.Steps.{ack, answer_at, answer_floor, apply, asked_bytes, deliver, hold, is_full, know, number, number_from, origin_of, placed, put, silent, starts, stop, submit, take_message, take_turn, told, turn, volume_at}
 use Rattle.chain_steps.specs.Waiting.{debt_of, is_committed, is_outdated, is_paid_flush, is_paid_write, is_read, reply_to, reply_with}
 use Rattle.chain_steps.specs.declared.cause.Cause.{Cause}
 use Rattle.chain_steps.specs.declared.cause.Cause.TheVariants.{Disorder}
+use Rattle.chain_steps.specs.declared.found.Found.TheVariants.{Looked}
 use Rattle.chain_steps.specs.declared.message.Envelope.{Envelope}
 use Rattle.chain_steps.specs.declared.message.Message.{Message}
 use Rattle.chain_steps.specs.declared.message.Message.TheVariants as messages
@@ -26,8 +28,9 @@ use Rattle.world_model.specs.Machine.{State}
 use Rattle.world_model.specs.Requests.{Held, sent_event}
 use Rattle.chain_model.specs.Chain.{AreLinked, Belongs, BelongsToHead, IsForHead, IsTold, StandsFor}
 use Rattle.chain_model.proofs.Changing.{all_changed}
+use Rattle.chain_model.proofs.HeldSteps.{each_held}
 use Rattle.chain_model.specs.Laws.{HasPassed, HasTaken, with_members}
-use Rattle.chain_model.specs.Life.{Answer, AnswerFloor, AnswerFront, Ask, BeginCommit, BoardTells, Does, Doing, Drop, EndCommit, FrontRaised, KeepRaised, LookUp, MemberDoes, MemberSubmits, MemberTakes, MemberTold, MessageTaken, RaisedKnown, RecordBegun, RecordEnded, Refuse, RequestsSent, RequestsTakenUp, SessionBegins, SessionEnds, Stop, SubmitTaken, Takes, Taking, Wait}
+use Rattle.chain_model.specs.Life.{Answer, AnswerFloor, AnswerFront, Ask, BeginCommit, BoardTells, Does, Doing, Drop, EndCommit, FrontHeld, FrontRaised, KeepRaised, LookUp, MemberDoes, MemberSubmits, MemberTakes, MemberTold, MessageTaken, RaisedKnown, RecordBegun, RecordEnded, Refuse, RequestsSent, RequestsTakenUp, SessionBegins, SessionEnds, Stop, SubmitTaken, Takes, Taking, Wait}
 use Rattle.chain_model.proofs.Linking.{IsProperSubmit, first_proper}
 use Rattle.chain_model.proofs.MemberSteps.{reach}
 use Rattle.chain_model.proofs.MessageSteps.{same_step, taken_step}
@@ -231,6 +234,12 @@ module _ (v w : View) (above : List Member) (m : Member) (below : List Member) (
     astray = λ runs now ticket write is no. stop_excused Disorder;
   }) stepped taken are) out
 
+  held : (front : FoundFront) (events : List ClientEvent) → m.node.found ≡ Some (Looked front) → w.members ≡ above ++ record m { node = (hold m.node).node } ∷ below
+      → ArePutOut (hold m.node).out.replies events → All (HasPlea v w) events
+  held front events found are out = all_put_out (HasPlea v w) (hold m.node).out.replies events (each_held IsExcused m.node front found (λ far. stop_excused Disorder)
+      (λ are. all_done v w above m (record m { node = (know front.number (max m.node.known front.number) (record m.node { holds = true })).node }) below were are (reply_to None) (λ t. tt)
+      (filter (is_committed (max m.node.known front.number)) m.node.waiting)) are) out
+
   told_of : (chain : Record) (stepped : Stepped) (events : List ClientEvent) → told chain m.node ≡ Taken stepped → w.members ≡ above ++ record m { node = stepped.node } ∷ below
       → ArePutOut stepped.out.replies events → All (HasPlea v w) events
   told_of chain stepped events taken are out = all_put_out (HasPlea v w) stepped.out.replies events
@@ -244,6 +253,7 @@ refusals_have_pleas size v w MemberSubmits events (is, shows) = none_put_out (Ha
 refusals_have_pleas size v w (MemberDoes doing) events one = does v w one.above one.old one.new one.below one.were (ap (λ (x : View). x.members) one.are) doing events one.change
 refusals_have_pleas size v w RaisedKnown events is =
     knows v w is.above is.member (record is.member { node = (know is.front.number is.front.number is.member.node).node }) is.below is.were (ap (λ (x : View). x.members) is.are) is.front.number is.front.number events is.out
+refusals_have_pleas size v w FrontHeld events is = held v w is.above is.tail is.below is.were is.front events is.found (ap (λ (x : View). x.members) is.are) is.out
 refusals_have_pleas size v w MessageTaken events is = delivered v w is.above is.member is.below is.were is.from is.envelope is.stepped events is.taken (ap (λ (x : View). x.members) is.are) is.out
 refusals_have_pleas size v w SubmitTaken events is = delivered v w is.above is.member is.below is.were is.from is.envelope is.stepped events is.taken (ap (λ (x : View). x.members) is.are) is.out
 refusals_have_pleas size v w FrontRaised events (is, shows) = none_put_out (HasPlea v w) events shows
@@ -362,6 +372,13 @@ stops_have_causes size v w s (MemberDoes doing) events stands one =
     one_goes v one.above one.old one.new one.below w one.were (ap (λ (x : View). x.members) one.are) (done_goes v one.above one.old one.new one.below doing events one.change)
 stops_have_causes size v w s RaisedKnown events stands is =
     same_goes v is.above is.member (record is.member { node = (know is.front.number is.front.number is.member.node).node }) is.below w is.were (ap (λ (x : View). x.members) is.are) refl
+stops_have_causes size v w s FrontHeld events stands is =
+    one_goes v is.above is.tail (record is.tail { node = (hold is.tail.node).node }) is.below w is.were (ap (λ (x : View). x.members) is.are)
+    (each_held (λ (x : Stepped). is.tail.node.stopped ≢ Some Disorder → x.node.stopped ≢ Some Disorder) is.tail.node is.front is.found
+    (λ far.
+    let (line, backed, whole) = standing size v (is.above ++ is.tail ∷ is.below) s is.were stands in
+    let reached = reach size v is.above is.tail is.below s line backed is.runs whole in absurd (omega (arith, reached.has, is.committed)))
+    (λ other. other))
 stops_have_causes size v w s MessageTaken events stands is =
     one_goes v is.above is.member (record is.member { node = is.stepped.node }) is.below w is.were (ap (λ (x : View). x.members) is.are)
     (on_link size v is.above is.member is.below is.from is.envelope s (standing size v (is.above ++ is.member ∷ is.below) s is.were stands) is.links is.stepped is.taken is.passed)

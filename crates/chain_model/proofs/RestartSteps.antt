@@ -21,6 +21,7 @@ use Rattle.chain_steps.specs.declared.message.Envelope.{Envelope}
 use Rattle.world_model.specs.Backing.{Disk, IsMustered}
 use Rattle.world_model.specs.Chain.{AreBefore, IsBefore, IsTokenBefore, looked_by, owing_at, raised_by}
 use Rattle.world_model.proofs.Counting.{count-cons, one_if, one_if-same}
+use Rattle.chain_model.proofs.InOrder.{InOrder, start_in_order}
 use Rattle.chain_model.specs.Links.{Net, Node, at_epoch, first_of, from_slot, hop_at, hop_of, hops_from, hops_of, is_end, is_slot}
 use Rattle.world_model.specs.Machine.{Restart, State, Waits, after, start}
 use Rattle.world_model.specs.Order.{AreNumberedFrom, volume_after}
@@ -30,8 +31,6 @@ use Rattle.world_model.specs.Requests.{Bound, Entry, Held, IsBound, IsFresh, IsS
 use Rattle.world_model.specs.Requests as requests
 use Rattle.world_model.proofs.Standing.{no_map}
 use Rattle.world_model.proofs.TokenSteps.{restarts, starts}
-use Rattle.chain_model.specs.Turning.{Stands}
-use Rattle.chain_model.proofs.TurningFollow.{start_stands}
 use Rattle.chain_model.specs.TurningLaws.{fresh, started}
 use Rattle.chain_model.proofs.BoardSteps.{is_on_each_disk, reach_recorded, volume_recorded}
 use Rattle.chain_model.specs.Chain.{ArePlaced, Belongs, BelongsToHead, HasApplied, HasVolume, IsApplied, IsTold, LeavesRecorded, StandsFor}
@@ -260,12 +259,12 @@ module _ (r before : Record) (front : ℕ) (volume : List ℕ) (ms : List Member
   }
 
   -- each has the whole line on its disk
-  ordered_idle : (line : List Kept) (links : ℕ → ℕ → List Envelope) → ((from to : ℕ) → links from to ≡ []) → front ≡ length line → AreNumberedFrom 1 line → Stands front line (hops_of (net_of r links ms))
+  ordered_idle : (line : List Kept) (links : ℕ → ℕ → List Envelope) → ((from to : ℕ) → links from to ≡ []) → front ≡ length line → AreNumberedFrom 1 line → InOrder front line (hops_of (net_of r links ms))
   ordered_idle line links none long numbered =
       let seen : hops_of (net_of r links ms) ≡ started front (length ms) =
       ap (hops_from (net_of r links ms) None) chain_is ∙ hops_all r front volume links none ms chain_apart ms chain_is idle (stand_there [] ms slots) in
-      subst (λ (hops : List Hop). Stands front line hops) (sym seen)
-      (subst (λ (n : ℕ). Stands n line (started n (length ms))) (sym long) (start_stands (length ms) line numbered))
+      subst (λ (hops : List Hop). InOrder front line hops) (sym seen)
+      (subst (λ (n : ℕ). InOrder n line (started n (length ms))) (sym long) (start_in_order (length ms) line numbered))
 
 -- ---- what a beginning chain stands for
 
@@ -316,8 +315,8 @@ module _ (size front : ℕ) (volume : List ℕ) (v : View) (line : List Kept) (i
     line,
     front,
     record {
-      order = subst (λ (f : ℕ). Stands f line (hops_of (net_of v.recorded v.links v.members))) (sym is.told)
-          (ordered_idle v.recorded v.before front volume v.members is.before_is is.recorded_are is.slots is.idle line v.links is.no_links long numbered);
+      order = ordered.0;
+      holders = ordered.1;
       volumes = λ i d lt. volume_there (get_or v.members i d) (is.idle i d lt);
       places = placed_idle v.recorded v.before front volume v.members is.before_is is.recorded_are is.slots is.idle;
       leavable = subst (λ (w : Option Record). LeavesRecorded v.recorded w v.members) (sym is.not_writing) (λ i d lt none. absurd cc);
@@ -344,6 +343,10 @@ module _ (size front : ℕ) (volume : List ℕ) (v : View) (line : List Kept) (i
     },
   )
     where
+      ordered : InOrder v.told.front line (hops_of (net_of v.recorded v.links v.members))
+      ordered = subst (λ (f : ℕ). InOrder f line (hops_of (net_of v.recorded v.links v.members))) (sym is.told)
+          (ordered_idle v.recorded v.before front volume v.members is.before_is is.recorded_are is.slots is.idle line v.links is.no_links long numbered)
+
       volume_there : (m : Member) → IsIdle v.recorded front volume m → HasVolume size v.told.front line m
       volume_there m idle =
           let whole : take m.node.table.forgotten line ≡ line = ap (λ (t : Table). take t.forgotten line) idle.table ∙ take_all front line (omega (arith, long)) in

@@ -30,7 +30,7 @@ use Rattle.chain_model.specs.Replicas.{Hop}
 use Rattle.world_model.specs.Requests.{Held, IsNew, IsOfKind, IsUnused, Owing, Requests, Submitted, origin_of, ticket_of}
 use Rattle.world_model.specs.Requests as requests
 use Rattle.world_model.proofs.Standing.{Stays, shows_stay}
-use Rattle.chain_model.specs.Turning.{Stands}
+use Rattle.chain_model.proofs.InOrder.{InOrder}
 use Rattle.chain_model.specs.Chain.{HasApplied, HasVolume, IsApplied, IsTold, StandsWith}
 use Rattle.chain_model.proofs.Changing.{Fits, all_changed, are, changes, requests_split, were}
 use Rattle.chain_model.specs.Laws.{HasSent, SubmitsWrite, sent_to, with_members}
@@ -297,8 +297,8 @@ module _ (size : ℕ) (v : View) (above : List Member) (m : Member) (below : Lis
     fits = record {
       slot = refl;
       incarnation = refl;
-      order = subst (λ (hops : List Hop). Stands v.told.front line hops)
-          (sym (hops_same (net_of v.recorded v.links (above ++ m ∷ below)) (net_of v.recorded v.links (above ++ submitting ∷ below)) refl refl (λ x. nodes_same above m submitting below x refl refl) (λ x y. refl))) stands.order;
+      order = subst (λ (hops : List Hop). InOrder v.told.front line hops)
+          (sym (hops_same (net_of v.recorded v.links (above ++ m ∷ below)) (net_of v.recorded v.links (above ++ submitting ∷ below)) refl refl (λ x. nodes_same above m submitting below x refl refl) (λ x y. refl))) (stands.order, stands.holders);
       volumes = all_changed (HasVolume size v.told.front line) above m submitting below (λ is. is) stands.volumes;
       told = told;
       linked = linked_submitted v.recorded v.before v.told.front (slot_of m) (submit token write m.node).out.messages v.links v.submits submits has

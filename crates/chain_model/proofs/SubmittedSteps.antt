@@ -19,6 +19,7 @@ use Rattle.world_model.specs.Chain.{AreBefore, ArePutOut, IsBefore, IsTokenBefor
 use Rattle.world_model.proofs.Counting.{all_at, all_between, all_without, contains_there, flat_same, get_there, maps_same}
 use Rattle.world_model.specs.Backing.{Disk, IsBacked}
 use Rattle.world_model.specs.Event.{ClientEvent}
+use Rattle.chain_model.proofs.InOrder.{InOrder}
 use Rattle.chain_model.proofs.Lanes.{numbered_at}
 use Rattle.chain_model.specs.Links.{Node, hops_of}
 use Rattle.world_model.specs.Machine.{Plays, State}
@@ -29,7 +30,6 @@ use Rattle.world_model.specs.Requests.{Requests, Submitted}
 use Rattle.world_model.specs.Requests as requests
 use Rattle.world_model.proofs.Standing.{Stays, shows_stay}
 use Rattle.world_model.proofs.TokenSteps.{numbers}
-use Rattle.chain_model.specs.Turning.{Stands}
 use Rattle.chain_model.specs.Chain.{ArePlaced, BelongsToHead, HasApplied, HasVolume, IsForHead, IsTold, StandsFor, StandsWith}
 use Rattle.chain_model.proofs.Changing.{all_changed, are, around, changes, requests_split, were}
 use Rattle.chain_model.proofs.Delivering.{order_numbers}
@@ -81,7 +81,7 @@ module _ (size : ℕ) (v : View) (above : List Member) (m : Member) (below : Lis
         fits_most size v above m m below links submits [] s line backed stands (record {
           slot = refl;
           incarnation = refl;
-          order = subst (Stands v.told.front line) (sym (hops_same (net_of v.recorded v.links (above ++ m ∷ below)) (net_of v.recorded links (above ++ m ∷ below)) refl refl (λ x. refl) (λ x y. ap passed_on (unsent x y)))) stands.order;
+          order = subst (InOrder v.told.front line) (sym (hops_same (net_of v.recorded v.links (above ++ m ∷ below)) (net_of v.recorded links (above ++ m ∷ below)) refl refl (λ x. refl) (λ x y. ap passed_on (unsent x y)))) (stands.order, stands.holders);
           volume = λ is. is;
           told = its_told s line backed stands;
           linked = linked_taken v.recorded v.before v.told.front from (slot_of m) envelope links v.submits submits gone
@@ -171,14 +171,14 @@ module _ (size : ℕ) (v : View) (above : List Member) (m : Member) (below : Lis
         let part = parts s line backed stands in
         let longer : List Kept = line ++ entry ∷ [] in
         let (vs, chain) = first_member v.recorded v.before v.links above m below stands.places runs head in
-        let order : Stands v.told.front longer (hops_of (net_of v.recorded links (above ++ numbering ∷ below))) =
+        let order : InOrder v.told.front longer (hops_of (net_of v.recorded links (above ++ numbering ∷ below))) =
         order_numbers v.recorded v.before above m numbering below stands.slots refl v.links links stands.places runs v.told.front line vs chain
         (ap (λ (n : Node). n.above) (was_node v.recorded v.before above m numbering below stands.slots refl v.links links stands.places runs) ∙ none_before m.node.place.chain (place_in m.node.place.chain m.node.place.slot) head)
         entry (omega arith) refl
         (works_of v.recorded v.before above m numbering below stands.slots refl v.links links (apply (last_of m.node + 1) (origin_of from incarnation ticket) write m.node).out.messages
         (if m.node.turned then replicas.Put entry ∷ [] else []) (sends_put (last_of m.node + 1) (origin_of from incarnation ticket) write m.node)
-        (apart_from v.recorded v.before above m numbering below stands.slots refl v.links links stands.places runs) has) stands.order in
-        let far : last_of m.node + 1 ≡ 1 + length line = numbered_at 1 line [] entry order.numbered in (
+        (apart_from v.recorded v.before above m numbering below stands.slots refl v.links links stands.places runs) has) (stands.order, stands.holders) in
+        let far : last_of m.node + 1 ≡ 1 + length line = numbered_at 1 line [] entry order.0.numbered in (
           longer,
           backed,
           record {

@@ -24,6 +24,7 @@ use Rattle.world_model.specs.Chain.{AreBefore, ArePutOut, IsBefore, IsTokenBefor
 use Rattle.world_model.proofs.Counting.{all_at, all_before, all_between, flat_same, maps_same}
 use Rattle.world_model.specs.Event.{ClientEvent}
 use Rattle.world_model.proofs.MemberSteps.{drops_found, stays_then, tokens_left}
+use Rattle.chain_model.proofs.InOrder.{InOrder, head_told_in_order, told_in_order}
 use Rattle.chain_model.proofs.LinkSteps.{head_learn_shows, learn_shows}
 use Rattle.chain_model.specs.Links.{Learns, Net, Node, Works, first_of, hops_of, is_end, sent_again}
 use Rattle.world_model.specs.Machine.{Plays, State}
@@ -34,7 +35,6 @@ use Rattle.world_model.specs.Requests as requests
 use Rattle.world_model.proofs.Standing.{Stays, shows_stay}
 use Rattle.chain_model.specs.Turning.{Begins, Stands}
 use Rattle.chain_model.specs.TurningSteps.{HeadIsTold}
-use Rattle.chain_model.proofs.TurningTops.{head_told_stands, told_stands}
 use Rattle.chain_model.proofs.Answering.{applied_left, refuses_those}
 use Rattle.chain_model.specs.Chain.{ArePlaced, HasApplied, HasVolume, IsApplied, IsTold, StandsFor, StandsWith}
 use Rattle.chain_model.proofs.Changing.{all_changed, are, around, changes, places_changed, requests_split, were}
@@ -124,10 +124,10 @@ module _ (size : ℕ) (v : View) (above : List Member) (m : Member) (below : Lis
     -- ---- one that isn't the head
 
     order_told : is_head (record { slot = m.node.place.slot; chain = v.recorded }) ≡ false → ((x y : ℕ) → links x y ≡ v.links x y)
-        → Stands v.told.front line (hops_of (net_of v.recorded links (above ++ record m { node = placed v.recorded m.node } ∷ below)))
+        → InOrder v.told.front line (hops_of (net_of v.recorded links (above ++ record m { node = placed v.recorded m.node } ∷ below)))
     order_told other same = by its_place.us its_place.chain
       where
-        by : (us : List ℕ) → chain_of v.recorded ≡ us ++ slot_of m ∷ its_place.vs → Stands v.told.front line (hops_of (net_of v.recorded links (above ++ record m { node = placed v.recorded m.node } ∷ below)))
+        by : (us : List ℕ) → chain_of v.recorded ≡ us ++ slot_of m ∷ its_place.vs → InOrder v.told.front line (hops_of (net_of v.recorded links (above ++ record m { node = placed v.recorded m.node } ∷ below)))
         by [] first =
             let head = head_is_head v.recorded (slot_of m) (chain_head v.recorded.members first) in
             let no : true ≡ false = sym head ∙ other in absurd cc
@@ -141,7 +141,7 @@ module _ (size : ℕ) (v : View) (above : List Member) (m : Member) (below : Lis
             let (up, down, ends) = placed_behind v.recorded us p (slot_of m) its_place.vs stands.places.apart whole in
             let split_other : (us ++ p ∷ []) ++ slot_of m ∷ its_place.vs ≡ us ++ p ∷ slot_of m ∷ its_place.vs = append_assoc us (p ∷ []) (slot_of m ∷ its_place.vs) in
             let others = others_of (us ++ p ∷ []) (slot_of m) its_place.vs (subst Apart (whole ∙ sym split_other) stands.places.apart) in
-            told_stands v.told.front (length us) line (hops_of was_net) (hops_of (net_of v.recorded links (above ++ record m { node = placed v.recorded m.node } ∷ below))) stands.order
+            told_in_order v.told.front (length us) line (hops_of was_net) (hops_of (net_of v.recorded links (above ++ record m { node = placed v.recorded m.node } ∷ below))) (stands.order, stands.holders)
             (learn_shows was_net (net_of v.recorded links (above ++ record m { node = placed v.recorded m.node } ∷ below)) us its_place.vs p (slot_of m) (learns (Some p) its_place.vs up down ends links same) whole
             (subst (All (λ y. y ≢ slot_of m)) (append_assoc us (p ∷ []) its_place.vs) others))
 
@@ -154,7 +154,7 @@ module _ (size : ℕ) (v : View) (above : List Member) (m : Member) (below : Lis
     b = net_of v.recorded links (above ++ record m { node = (turn (placed v.recorded m.node)).node } ∷ below)
 
     order_head : is_head (record { slot = m.node.place.slot; chain = v.recorded }) ≡ true → HasSent (slot_of m) (turn (placed v.recorded m.node)).out.messages v.links links
-        → (shorter : List Kept) × Begins shorter line × Stands v.told.front shorter (hops_of (net_of v.recorded links (above ++ record m { node = (turn (placed v.recorded m.node)).node } ∷ below)))
+        → (shorter : List Kept) × Begins shorter line × InOrder v.told.front shorter (hops_of (net_of v.recorded links (above ++ record m { node = (turn (placed v.recorded m.node)).node } ∷ below)))
     order_head head has = by its_place.us its_place.chain
       where
         was : was_net.nodes (slot_of m) ≡ node_of m.node
@@ -165,7 +165,7 @@ module _ (size : ℕ) (v : View) (above : List Member) (m : Member) (below : Lis
         first (y ∷ ys) x xs is = ap first_of is
 
         by : (us : List ℕ) → chain_of v.recorded ≡ us ++ slot_of m ∷ its_place.vs
-            → (shorter : List Kept) × Begins shorter line × Stands v.told.front shorter (hops_of (net_of v.recorded links (above ++ record m { node = (turn (placed v.recorded m.node)).node } ∷ below)))
+            → (shorter : List Kept) × Begins shorter line × InOrder v.told.front shorter (hops_of (net_of v.recorded links (above ++ record m { node = (turn (placed v.recorded m.node)).node } ∷ below)))
         by (x ∷ xs) chain =
             let here : Some x ≡ Some (slot_of m) = sym (first v.recorded.members x (xs ++ slot_of m ∷ its_place.vs) chain) ∙ is_head_first v.recorded (slot_of m) head in
             let (others, rest) = subst Apart chain stands.places.apart in
@@ -181,7 +181,7 @@ module _ (size : ℕ) (v : View) (above : List Member) (m : Member) (below : Lis
             head_learn_shows was_net b c (slot_of m) its_place.vs (learns None its_place.vs up down ends v.links (λ x y. refl)) chain (others_of [] (slot_of m) its_place.vs (subst Apart chain stands.places.apart)) its_place.below_suit
             (subst (λ (n : Node). Works c b (slot_of m) (sent_again n)) (sym was) works)
             (node_here above (record m { node = (turn (placed v.recorded m.node)).node }) below slots_last ∙ ap (λ (n : Node). record n { turned = true }) (sym there)) in
-            head_told_stands v.told.front line (hops_of was_net) (hops_of b) stands.order told_so
+            head_told_in_order v.told.front line (hops_of was_net) (hops_of b) (stands.order, stands.holders) told_so
 
 -- ---- what is told of each member
 
@@ -239,7 +239,7 @@ module _ (size : ℕ) (v : View) (above : List Member) (m : Member) (below : Lis
   nothing_new has out =
       subst (Plays size (StandsFor size (with_members v (above ++ m ∷ below))) (StandsFor size (record v { members = above ++ m ∷ below; links = links }))) (sym out)
       (links_change size v above m below links (λ s line backed stands. (
-        subst (Stands v.told.front line) (sym (hops_same (net_of v.recorded v.links (above ++ m ∷ below)) (net_of v.recorded links (above ++ m ∷ below)) refl refl (λ x. refl) (λ x y. ap passed_on (same_links has x y)))) stands.order,
+        subst (InOrder v.told.front line) (sym (hops_same (net_of v.recorded v.links (above ++ m ∷ below)) (net_of v.recorded links (above ++ m ∷ below)) refl refl (λ x. refl) (λ x y. ap passed_on (same_links has x y)))) (stands.order, stands.holders),
         linked_sent v.recorded v.before v.told.front (slot_of m) [] v.links links v.submits has (λ to. All-nil (IsProper v.recorded v.before v.told.front (slot_of m) to)) stands.links,
       )))
 
@@ -280,7 +280,7 @@ module _ (size : ℕ) (v : View) (above : List Member) (m : Member) (below : Lis
         let places_last = places_changed v.recorded v.before above m g below refl told_it stands.places in
         let slots_last = subst (AllPairs (λ slot other. slot ≢ other)) (sym (maps_same slot_of above m g below refl)) stands.slots in
         let (rest, whole) = begins in
-        let within_new : All (IsWithin (length shorter)) (above ++ g ∷ below) = within_line v.recorded v.before links (above ++ g ∷ below) v.told.front shorter places_last slots_last order in
+        let within_new : All (IsWithin (length shorter)) (above ++ g ∷ below) = within_line v.recorded v.before links (above ++ g ∷ below) v.told.front shorter places_last slots_last order.0 in
         let within_old : All (IsWithin (length shorter)) (above ++ m ∷ below) = all_changed (IsWithin (length shorter)) above g m below (λ was. was) within_new in (
           shorter,
           backed,
@@ -288,7 +288,7 @@ module _ (size : ℕ) (v : View) (above : List Member) (m : Member) (below : Lis
             slot = refl;
             incarnation = refl;
             order = order;
-            volumes = All-weaker (HasVolume size v.told.front line) (HasVolume size v.told.front shorter) (λ x is. shorter_volume line shorter rest whole order.within x is) (above ++ g ∷ below)
+            volumes = All-weaker (HasVolume size v.told.front line) (HasVolume size v.told.front shorter) (λ x is. shorter_volume line shorter rest whole order.0.within x is) (above ++ g ∷ below)
                 (all_changed (HasVolume size v.told.front line) above m g below (λ is. is) stands.volumes);
             told = told_it;
             linked = linked_sent v.recorded v.before v.told.front (slot_of m) (turn (placed v.recorded m.node)).out.messages v.links links v.submits has
@@ -303,7 +303,7 @@ module _ (size : ℕ) (v : View) (above : List Member) (m : Member) (below : Lis
             tickets = subst (All (AreBefore (are size v above m g below links v.submits events shorter))) (sym (maps_same next_of above m g below refl))
                 (All-weaker (AreBefore (were size v above m g below links v.submits events line)) (AreBefore (are size v above m g below links v.submits events shorter)) (tickets_then line shorter rest whole) (map next_of (above ++ m ∷ below))
                 (subst (λ (r : Requests). All (AreBefore r) (map next_of (above ++ m ∷ below))) (requests_split v line above m below) stands.tickets));
-            clients = refused line shorter backed begins order.within (all_both (length shorter) (above ++ m ∷ below) stands.numbers within_old);
+            clients = refused line shorter backed begins order.0.within (all_both (length shorter) (above ++ m ∷ below) stands.numbers within_old);
           },
         ))
       where

@@ -14,6 +14,7 @@ use Rattle.chain_steps.specs.declared.waiting.Waiting.{Waiting}
 use Rattle.chain_steps.specs.declared.waiting.Waiting.TheVariants as tokens
 use Rattle.world_model.specs.Backing.{IsBacked}
 use Rattle.world_model.specs.Chain.{AreBefore}
+use Rattle.chain_model.specs.Holding.{Holders}
 use Rattle.chain_model.specs.Links.{hops_of}
 use Rattle.world_model.specs.Machine.{State}
 use Rattle.world_model.specs.Order.{volume_after}
@@ -112,10 +113,11 @@ HasApplied m = HaveApplied (last_of m.node) m.node.stopped m.node.waiting
 -- ---- together
 
 -- With this line, of which the first `backed` writes are on each disk that a stop may leave recorded: the members of the recorded
--- chain have it in order; they and the links know of no later record; the board tells of the disks what is so; and what requests
--- have left stands for the state.
+-- chain have it in order, and the front stays while a tail holds it; they and the links know of no later record; the board tells of
+-- the disks what is so; and what requests have left stands for the state.
 pub record StandsWith (size : ℕ) (v : View) (s : State) (line : List Kept) (backed : ℕ) : Type 0 where
   pub order : Stands v.told.front line (hops_of (net_of v.recorded v.links v.members))
+  pub holders : Holders v.told.front (hops_of (net_of v.recorded v.links v.members))
   pub volumes : All (HasVolume size v.told.front line) v.members
   pub places : ArePlaced v.recorded v.before v.members
   pub leavable : LeavesRecorded v.recorded v.writing v.members

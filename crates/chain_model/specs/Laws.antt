@@ -11,7 +11,7 @@ use Rattle.flush_barrier.specs.declared.error_code.ErrorCode.{ErrorCode}
 use Rattle.version_table.specs.Held.{IsClean, writes_upto}
 use Rattle.volume.specs.Writes.{Fits, Placed, patched, volume_of}
 use Rattle.chain_steps.specs.Node.{Commit, Stepped, Taken, epoch_of, last_of}
-use Rattle.chain_steps.specs.Steps.{answer_at, answer_floor, deliver, ended, flush, know, read_asked, stop, submit, told}
+use Rattle.chain_steps.specs.Steps.{answer_at, answer_floor, deliver, ended, flush, hold, know, read_asked, stop, submit, told}
 use Rattle.chain_steps.specs.Place.{is_tail}
 use Rattle.chain_steps.specs.Waiting.{debt_of, waits_for}
 use Rattle.chain_steps.specs.declared.cause.Cause.{Cause}
@@ -149,6 +149,18 @@ abbrev pub AnswersFront : Type 0
 AnswersFront = (size : ℕ) (v : View) (above : List Member) (m : Member) (below : List Member) (front : FoundFront) (events : List ClientEvent) → m.node.stopped ≡ None → m.node.found ≡ Some (Looked front)
     → front.number ≤ last_of m.node → ArePutOut (answer_at m.volume front.number m.node).out.replies events
     → Becomes size v above m (record m { node = (answer_at m.volume front.number m.node).node }) below events
+
+-- The tail of the recorded chain takes the committed front, which it has looked up, as its known commit, and holds it for a joiner.
+abbrev pub HoldsFront : Type 0
+HoldsFront = (size : ℕ) (v : View) (above : List Member) (m : Member) (below : List Member) (front : FoundFront) (links : ℕ → ℕ → List Envelope) (events : List ClientEvent) → m.node.stopped ≡ None
+    → m.node.found ≡ Some (Looked front) → front.number ≡ v.told.front → epoch_of m.node ≡ v.recorded.epoch → is_tail m.node.place ≡ true → HasSent (slot_of m) (hold m.node).out.messages v.links links
+    → ArePutOut (hold m.node).out.replies events
+    → Plays size (StandsFor size (with_members v (above ++ m ∷ below))) (StandsFor size (record v { members = above ++ record m { node = (hold m.node).node } ∷ below; links = links })) events
+
+-- The front stays at what a running member knows while that holds.
+abbrev pub HeldStays : Type 0
+HeldStays = (size : ℕ) (v : View) (above : List Member) (m : Member) (below : List Member) (s : State) → StandsFor size (with_members v (above ++ m ∷ below)) s → m.node.stopped ≡ None → m.node.holds ≡ true
+    → m.node.known ≡ v.told.front
 
 -- With a floor that the disks have which a stop may leave recorded, its writes with FUA are answered, and then its FLUSHes.
 abbrev pub AnswersFloor : Type 0

@@ -10,7 +10,7 @@ use Rattle.version_table.specs.Held.{IsClean, writes_upto}
 use Rattle.volume.specs.Writes.{Fits, Placed, patched, volume_of}
 use Rattle.chain_steps.specs.Node.{Commit, NodeState, Stepped, Taken, epoch_of, last_of}
 use Rattle.chain_steps.specs.Place.{is_tail}
-use Rattle.chain_steps.specs.Steps.{answer_at, answer_floor, deliver, ended, flush, know, read_asked, stop, submit, told}
+use Rattle.chain_steps.specs.Steps.{answer_at, answer_floor, deliver, ended, flush, hold, know, read_asked, stop, submit, told}
 use Rattle.chain_steps.specs.Waiting.{debt_of, waits_for}
 use Rattle.chain_steps.specs.declared.cause.Cause.{Cause}
 use Rattle.chain_steps.specs.declared.cause.Cause.TheVariants.{Disorder}
@@ -85,6 +85,7 @@ pub data Happening : Type 0 where
   MemberSubmits : Happening
   MemberDoes : (doing : Doing) → Happening
   RaisedKnown : Happening
+  FrontHeld : Happening
   MessageTaken : Happening
   SubmitTaken : Happening
   FrontRaised : Happening
@@ -149,6 +150,23 @@ pub record IsKnown (v w : View) (events : List ClientEvent) : Type 0 where
   pub sent : HasSent (slot_of member) (know front.number front.number member.node).out.messages v.links links
   pub out : ArePutOut (know front.number front.number member.node).out.replies events
   pub are : w ≡ record v { members = above ++ record member { node = (know front.number front.number member.node).node } ∷ below; links = links }
+
+-- the tail of the recorded chain takes the committed front as its known commit, holds it, and tells the one before it
+pub record IsFrontHeld (v w : View) (events : List ClientEvent) : Type 0 where
+  pub above : List Member
+  pub tail : Member
+  pub below : List Member
+  pub front : FoundFront
+  pub links : ℕ → ℕ → List Envelope
+  pub were : v.members ≡ above ++ tail ∷ below
+  pub runs : tail.node.stopped ≡ None
+  pub found : tail.node.found ≡ Some (Looked front)
+  pub committed : front.number ≡ v.told.front
+  pub now : epoch_of tail.node ≡ v.recorded.epoch
+  pub ends : is_tail tail.node.place ≡ true
+  pub sent : HasSent (slot_of tail) (hold tail.node).out.messages v.links links
+  pub out : ArePutOut (hold tail.node).out.replies events
+  pub are : w ≡ record v { members = above ++ record tail { node = (hold tail.node).node } ∷ below; links = links }
 
 -- a member takes the first message of a chain link
 pub record IsMessageTaken (v w : View) (events : List ClientEvent) : Type 0 where
@@ -257,6 +275,7 @@ Happens size (MemberTakes taking) v w events = OneBecomes (IsTaken size taking e
 Happens size MemberSubmits v w events = IsSubmitted v w × (events ≡ [])
 Happens size (MemberDoes doing) v w events = OneBecomes (λ m g. Does v doing m g events) v w
 Happens size RaisedKnown v w events = IsKnown v w events
+Happens size FrontHeld v w events = IsFrontHeld v w events
 Happens size MessageTaken v w events = IsMessageTaken v w events
 Happens size SubmitTaken v w events = IsSubmitTaken v w events
 Happens size FrontRaised v w events = IsRaised v w × (events ≡ [])

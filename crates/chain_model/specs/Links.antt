@@ -210,14 +210,22 @@ abbrev pub RemoveShows : Type 0
 RemoveShows = (a b : Net) (us vs : List ℕ) (m : ℕ) → Records a b → AllTold a None a.chain → a.chain ≡ us ++ m ∷ vs → b.chain ≡ us ++ vs → All (λ x. x ≢ m) us
     → Alike (without (length us) (hops_of a)) (hops_of b)
 
--- a member with a volume of so many writes, which was told nothing yet
-abbrev pub IsFresh : Node → ℕ → Type 0
-IsFresh n k = n ≡ record { epoch = 0; turned = false; above = None; below = None; stopped = false; ends = false; holds = false; table = record { forgotten = k; kept = [] }; known = k }
+-- a member with a volume of so many writes, of this epoch and turned, without a place in the chain of that
+abbrev pub IsFresh : Node → ℕ → ℕ → Type 0
+IsFresh n epoch k = n ≡ record { epoch = epoch; turned = true; above = None; below = None; stopped = false; ends = false; holds = false; table = record { forgotten = k; kept = [] }; known = k }
 
--- with this one behind the tail, or with the same members
+-- the next record, with another member at this slot; no message was sent in its epoch
+pub record Joins (a b : Net) (j : ℕ) : Type 0 where
+  pub epoch : b.epoch ≡ suc a.epoch
+  pub nodes : (x : ℕ) → x ≢ j → b.nodes x ≡ a.nodes x
+  pub links : (x y : ℕ) → b.links x y ≡ a.links x y
+  pub none : (x y : ℕ) → at_epoch (suc a.epoch) (a.links x y) ≡ []
+
+-- with that one behind the tail, or with the same members
 abbrev pub JoinShows : Type 0
-JoinShows = (a b : Net) (us : List ℕ) (t j : ℕ) → Records a b → 0 < a.epoch → AllTold a None a.chain → a.chain ≡ us ++ t ∷ [] → IsFresh (a.nodes j) (a.nodes t).known →
-    (b.chain ≡ us ++ t ∷ j ∷ [] → Alike (with_joiner (hops_of a)) (hops_of b)) × (b.chain ≡ a.chain → Alike (map kept (hops_of a)) (hops_of b))
+JoinShows = (a b : Net) → AllTold a None a.chain →
+    ((us : List ℕ) (t j k : ℕ) → Joins a b j → IsFresh (b.nodes j) a.epoch k → All (λ x. x ≢ j) a.chain → a.chain ≡ us ++ t ∷ [] → b.chain ≡ us ++ t ∷ j ∷ [] → Alike (with_joiner k (hops_of a)) (hops_of b))
+    × (Records a b → b.chain ≡ a.chain → Alike (map kept (hops_of a)) (hops_of b))
 
 -- the member at `s` learns the recorded chain, in which it stands below `prev` and above these; nothing is sent
 pub record Learns (a b : Net) (prev : Option ℕ) (s : ℕ) (vs : List ℕ) : Type 0 where

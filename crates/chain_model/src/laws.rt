@@ -1,6 +1,6 @@
 //! That each kind of step of a chain whose record changes is of the one volume. The functions do nothing.
 
-ghost use Rattle.chain_model.specs.Laws.{AnswersFloor, AnswersFront, AsksFront, BeginsCommit, BeginsRecord, Connects, DropsDemand, EndsCommit, EndsRecord, FirstChain, Forgets, IsOnEachDisk, KeepsRaised, KnowsRaised, LooksUp, RaisesFront, ReadsClean, RefusesDemand, RestartsChain, SendsAll, Stops, SubmitsWrite, TakesFlush, TakesMessage, TakesSubmit, TakesUp, TellsDisks, TellsMember};
+ghost use Rattle.chain_model.specs.Laws.{AnswersFloor, AnswersFront, AsksFront, BeginsCommit, BeginsRecord, Connects, DropsDemand, EndsCommit, EndsRecord, FirstChain, Forgets, HeldStays, HoldsFront, IsOnEachDisk, KeepsRaised, KnowsRaised, LooksUp, RaisesFront, ReadsClean, RefusesDemand, RestartsChain, SendsAll, Stops, SubmitsWrite, TakesFlush, TakesMessage, TakesSubmit, TakesUp, TellsDisks, TellsMember};
 ghost use Rattle.chain_model.specs.Life.{HappeningsAreOfOneVolume, LivesAreOfOneVolume};
 ghost use Rattle.chain_model.specs.Refusing.{RefusalsHavePleas, StopsHaveCauses};
 
@@ -20,13 +20,15 @@ pub fn messages_are_of_one_volume()
     ensures numbers { TakesSubmit }
 {}
 
-/// The tail raises the front; what a member knows with that, and what it answers with a front or a floor.
+/// The tail raises the front, or holds it; what a member knows with that, and what it answers with a front or a floor.
 pub fn fronts_are_of_one_volume()
     ensures raises { RaisesFront }
     ensures keeps { KeepsRaised }
     ensures knows { KnowsRaised }
     ensures looks { LooksUp }
     ensures answers { AnswersFront }
+    ensures holds { HoldsFront }
+    ensures held { HeldStays }
     ensures floors { AnswersFloor }
 {}
 

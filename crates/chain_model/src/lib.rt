@@ -3,10 +3,10 @@
 //!
 //! Seen of a chain are its board, the recorded chain, the one before it and the record that is being written, members
 //! at slots, links between slots whose messages have epochs, and what sessions keep (`specs/View.antt`). Its contract
-//! for the layers above: whatever happens in such a chain, one thing after another, with members removed and with cuts
-//! in between, clients see one volume; after each cut it goes on with all that is owed; and a request is refused with
-//! EIO only for a reason. Beneath that is the order of its writes, while some members were told the next record and
-//! others not; a tail that holds the front, and a member that joins, are in that too.
+//! for the layers above: whatever happens in such a chain, one thing after another, with members removed, with a tail
+//! that holds the front, and with cuts in between, clients see one volume; after each cut it goes on with all that is
+//! owed; and a request is refused with EIO only for a reason. Beneath that is the order of its writes, while some
+//! members were told the next record and others not; a member that joins is in that too.
 //!
 //! Left to others: a program whose calls are such happenings; who removes a member, and when; and that any step is
 //! taken at all.

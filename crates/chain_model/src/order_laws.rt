@@ -27,7 +27,7 @@ pub fn changes_keep_order()
     ensures told { ToldStands }
 {}
 
-/// The tail holds, and a joiner is recorded behind it, with all that is taken.
+/// The tail holds, and a joiner is recorded behind it, with all that is committed.
 pub fn joining_keeps_order()
     ensures holders { HoldersStay }
     ensures attach { AttachStands }

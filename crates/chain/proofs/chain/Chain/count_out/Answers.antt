@@ -1,8 +1,7 @@
-use Rattle.std.proofs.Common.{◌≡◌, ◌∙◌, refl, ap, subst, sym}
+use Rattle.std.proofs.Common.{◌≡◌, ◌∙◌, refl, ap, sym}
 use Rattle.std.specs.Prelude.{None}
 use Rattle.chain_steps.specs.Place.{incarnation_in}
 use Rattle.chain.specs.Chain.{Chained}
-use Rattle.chain.specs.LoneBoard.{counted_out}
 use Rattle.chain.proofs.Following.{is_none}
 use Rattle.chain.proofs.RecordingSteps.{counts_out_goes}
 use Rattle.chain.proofs.chain.Chain.count_out.Given.{Over}

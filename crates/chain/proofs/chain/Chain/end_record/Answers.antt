@@ -3,7 +3,7 @@ use Rattle.std.specs.Prelude.{None, Option, Some}
 use Rattle.std.proofs.lemmas.Option.{same_Some}
 use Rattle.configurations.specs.Record.{Record}
 use Rattle.chain.specs.Chain.{Chained}
-use Rattle.chain.specs.Recording.{AllTold, IsNextOf, MayEnd}
+use Rattle.chain.specs.Recording.{IsNextOf, MayEnd}
 use Rattle.chain.proofs.RecordingSteps.{ends_goes}
 use Rattle.chain.proofs.chain.Chain.end_record.Given.{Over}
 use Rattle.chain.proofs.chain.Chain.end_record.Goals as goal

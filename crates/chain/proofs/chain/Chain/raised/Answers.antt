@@ -3,7 +3,8 @@ use Rattle.std.specs.Prelude.{IfSome, None, Option, Some}
 use Rattle.std.specs.Option.{unwrap_or}
 use Rattle.chain_steps.specs.Place.{predecessor_of}
 use Rattle.chain.specs.Chain.{Chained}
-use Rattle.chain.proofs.RaisedSteps.{IsLent, formed_known, formed_same, has_known, known_goes, lent_by, rests_then}
+use Rattle.chain.proofs.LentSteps.{IsLent, formed_same, lent_by, rests_then}
+use Rattle.chain.proofs.RaisedSteps.{formed_known, has_known, known_goes}
 use Rattle.chain.proofs.FloorSteps.{either, none_then, some_then, stands_now}
 use Rattle.chain.proofs.Stepping.{read_at}
 use Rattle.chain.proofs.chain.Chain.raised.Goals as goal
@@ -27,7 +28,7 @@ pub invariant_of-self : goal.invariant_of-self
 invariant_of-self g c =
     let here = read_at _ _ c.args.at _ c.self.view_is c.requires c.index_mut.ensures.value in
     either c.raised-replies.result _ _ _ c.raised-replies.ensures.known c.raised-replies.ensures.idle
-    (λ replies did. formed_known (old_of g c) c.args.at _ _ here _ _ _ (lent g c) _ replies.items did c.self.invariant)
+    (λ replies did. formed_known (old_of g c) c.args.at _ _ here _ _ _ (lent g c) replies.items did _ c.self.invariant)
     (λ idle. formed_same (old_of g c) c.args.at _ _ here _ _ _ (lent g c) _ idle.1 idle.2 c.self.invariant)
 
 pub returns-clause-known : goal.returns-clause-known
@@ -52,5 +53,5 @@ pub returns-clause-one_volume : goal.returns-clause-one_volume
 returns-clause-one_volume g c = λ premise. some_then c.raised-replies.result _ _ (pair_some c.raised-replies.result _ _ c.raised-replies.ensures.known c.raised-replies.ensures.above)
     (λ replies (did, above) v s events shows stands put_out. rw (← c.self.view_is)
     (let here = read_at _ _ c.args.at _ c.self.view_is c.requires c.index_mut.ensures.value in
-    known_goes (old_of g c) c.args.at _ _ here _ _ _ (lent g c) g.S.StoreLike.about g.S.StoreLike.keeps g.S.StoreLike.may_leave_now replies.items did c.self.invariant.all_links above v s events
+    known_goes (old_of g c) c.args.at _ _ here _ _ _ (lent g c) replies.items did g.S.StoreLike.about g.S.StoreLike.keeps g.S.StoreLike.may_leave_now c.self.invariant.all_links above v s events
     (rw c.self.view_is shows) (stands_now _ _ v s c.self.view_is stands) put_out))
