@@ -12,11 +12,11 @@ use Rattle.gate_journal.specs.Pair.{last_number, newest}
 use Rattle.local_store.specs.Meaning.{Meaning, Means}
 use Rattle.life.specs.Begun.{MeansStill}
 use Rattle.life.specs.Managed.{IsLast, Managed, StandsAs, StandsOn, config_part}
-use Rattle.life.specs.Recovered.{HasMember, IsAtItsEnd, IsStranger, MayReturn, RecordsStill, Recovers, alone_behind}
+use Rattle.life.specs.Recovered.{HasMember, IsAtItsEnd, IsStranger, MayReturn, RecordsStill, Recovers, alone_behind, recorded_as}
 use Rattle.life.proofs.Starting.{IsStore, about_of_store, keeps_volume, leaves_now}
 
 -- a record of a member alone has it
-alone_has : (r : Record) (meaning : Meaning) → HasMember (alone_behind r meaning) meaning
+alone_has : (r : Record) (meaning : Meaning) → HasMember (alone_behind r (recorded_as meaning)) meaning
 alone_has r meaning = rw (eq-eqb meaning.slot meaning.slot refl) (eq-eqb meaning.incarnation meaning.incarnation refl)
 
 -- a disk that was cut again, and has nothing armed any more
@@ -52,14 +52,14 @@ module _ (disk back cut after config config_back config_cut config_after : MemDi
 
   -- and on the other stands what stood there, or the record of this member alone
   abbrev StandsAgain : Type 0
-  StandsAgain = StandsAs (given_of config_after) r number ⊎ ((meaning : Meaning) × Means meaning (given_of disk) × HasMember r meaning × StandsAs (given_of config_after) (alone_behind r meaning) (number + 1))
+  StandsAgain = StandsAs (given_of config_after) r number ⊎ ((meaning : Meaning) × Means meaning (given_of disk) × HasMember r meaning × StandsAs (given_of config_after) (alone_behind r (recorded_as meaning)) (number + 1))
 
   stands_again : StandsAgain
   stands_again = records r number stands_as only_config (given_of config_after) (given_left config_back config_cut config_after is_config)
 
   record_again : StandsAgain → (now : Record) × StandsOn (given_of config_after) now
   record_again (inl stands) = (r, numbered_holds stands)
-  record_again (inr (meaning, means, has, stands)) = (alone_behind r meaning, numbered_holds stands)
+  record_again (inr (meaning, means, has, stands)) = (alone_behind r (recorded_as meaning), numbered_holds stands)
 
   pub returns_again : MayReturn after config_after
   returns_again =
@@ -78,12 +78,16 @@ module _ (disk back cut after config config_back config_cut config_after : MemDi
 
   -- ---- it goes on
 
+  -- with the epoch that follows the record which stands there
+  abbrev IsNext : Managed IsStore → Type 0
+  IsNext new = (x : Record) → StandsOn (given_of config_after) x → new.world.chain.recorded.epoch ≡ x.epoch + 1
+
   -- the disk means what the first one meant
   meant : (meaning : Meaning) → Means meaning (given_of after) → Means meaning (given_of disk)
   meant meaning means = subst (λ (m : Meaning). Means m (given_of disk)) (one_meaning returns.member.meaning meaning (given_of after) means_again means) returns.member.means
 
-  goes_on : StandsAgain → (new : Managed IsStore) → Recovers about_of_store keeps_volume leaves_now after config_after new → Recovers about_of_store keeps_volume leaves_now disk config new
-  goes_on (inl stands) new found =
+  goes_on : StandsAgain → (new : Managed IsStore) → IsNext new → Recovers about_of_store keeps_volume leaves_now after config_after new → Recovers about_of_store keeps_volume leaves_now disk config new
+  goes_on (inl stands) new next found =
       let same : r ≡ found.recorded = one_record r found.recorded (inside config_part (given_of config_after)) (numbered_holds stands) found.stands in
       record {
         recorded = found.recorded;
@@ -97,8 +101,8 @@ module _ (disk back cut after config config_back config_cut config_after : MemDi
         begins = found.begins;
         rests = found.rests;
       }
-  goes_on (inr (meaning, means, has, stands)) new found =
-      let same : alone_behind r meaning ≡ found.recorded = one_record (alone_behind r meaning) found.recorded (inside config_part (given_of config_after)) (numbered_holds stands) found.stands in
+  goes_on (inr (meaning, means, has, stands)) new next found =
+      let same : alone_behind r (recorded_as meaning) ≡ found.recorded = one_record (alone_behind r (recorded_as meaning)) found.recorded (inside config_part (given_of config_after)) (numbered_holds stands) found.stands in
       let own : meaning ≡ found.meaning = one_meaning meaning found.meaning (given_of disk) means (meant found.meaning found.means) in
       record {
         recorded = r;
@@ -106,15 +110,15 @@ module _ (disk back cut after config config_back config_cut config_after : MemDi
         stands = returns.stands;
         means = meant found.meaning found.means;
         has = subst (HasMember r) own has;
-        later = omega (arith, found.later, ap (λ (x : Record). x.epoch) same);
+        later = inr (omega (arith, next found.recorded found.stands, ap (λ (x : Record). x.epoch) same));
         alone = found.alone;
         member = found.member;
         begins = found.begins;
         rests = found.rests;
       }
 
-  pub recovers_again : (new : Managed IsStore) → Recovers about_of_store keeps_volume leaves_now after config_after new → Recovers about_of_store keeps_volume leaves_now disk config new
-  recovers_again new found = goes_on stands_again new found
+  pub recovers_again : (new : Managed IsStore) → IsNext new → Recovers about_of_store keeps_volume leaves_now after config_after new → Recovers about_of_store keeps_volume leaves_now disk config new
+  recovers_again new next found = goes_on stands_again new next found
 
   -- ---- or it doesn't
 
@@ -123,9 +127,9 @@ module _ (disk back cut after config config_back config_cut config_after : MemDi
       let same : r ≡ found.recorded = one_record r found.recorded (inside config_part (given_of config_after)) (numbered_holds stands) found.stands in
       record { recorded = found.recorded; meaning = found.meaning; stands = subst (StandsOn (given_of config)) same returns.stands; means = meant found.meaning found.means; out = found.out }
   strange (inr (meaning, means, has, stands)) found =
-      let same : alone_behind r meaning ≡ found.recorded = one_record (alone_behind r meaning) found.recorded (inside config_part (given_of config_after)) (numbered_holds stands) found.stands in
+      let same : alone_behind r (recorded_as meaning) ≡ found.recorded = one_record (alone_behind r (recorded_as meaning)) found.recorded (inside config_part (given_of config_after)) (numbered_holds stands) found.stands in
       let own : meaning ≡ found.meaning = one_meaning meaning found.meaning (given_of disk) means (meant found.meaning found.means) in
-      let is_there : is_in found.recorded found.meaning.slot found.meaning.incarnation ≡ true = subst (λ (x : Record). HasMember x found.meaning) same (subst (λ (m : Meaning). HasMember (alone_behind r meaning) m) own (alone_has r meaning)) in
+      let is_there : is_in found.recorded found.meaning.slot found.meaning.incarnation ≡ true = subst (λ (x : Record). HasMember x found.meaning) same (subst (λ (m : Meaning). HasMember (alone_behind r (recorded_as meaning)) m) own (alone_has r meaning)) in
       let clash : false ≡ true = sym found.out ∙ is_there in absurd (cc)
 
   pub strange_again : IsStranger after config_after → IsStranger disk config
@@ -142,8 +146,8 @@ module _ (disk back cut after config config_back config_cut config_after : MemDi
         last = elim last.last [ inl epoch ↦ inl (omega (arith, epoch, ap (λ (x : Record). x.epoch) same)) | inr greatest ↦ inr (omega (arith, greatest, same_number)) ];
       }
   ended (inr (meaning, means, has, stands)) last =
-      let same : alone_behind r meaning ≡ last.found = one_record (alone_behind r meaning) last.found (inside config_part (given_of config_after)) (numbered_holds stands) (numbered_holds last.stands) in
-      let same_number : number + 1 ≡ last.number = one_number (alone_behind r meaning) last.found (number + 1) last.number (inside config_part (given_of config_after)) stands last.stands in
+      let same : alone_behind r (recorded_as meaning) ≡ last.found = one_record (alone_behind r (recorded_as meaning)) last.found (inside config_part (given_of config_after)) (numbered_holds stands) (numbered_holds last.stands) in
+      let same_number : number + 1 ≡ last.number = one_number (alone_behind r (recorded_as meaning)) last.found (number + 1) last.number (inside config_part (given_of config_after)) stands last.stands in
       record {
         recorded = r;
         number = number;

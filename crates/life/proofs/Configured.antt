@@ -1,6 +1,8 @@
 -- What the manager and the deeds of an era leave of members' disks, and of the configuration's. Lemmas.
-use Rattle.std.proofs.Common.{◌≡◌, ℕ, ◌≤◌, Bool, true, false, List, [], ◌∷◌, map, refl, ap, sym, subst, ◌∙◌, inl, inr}
-use Rattle.std.specs.Prelude.{◌⊎◌, Option, None, Some, Result, Ok, Err}
+use Rattle.std.proofs.Common.{◌≡◌, ℕ, zero, suc, ◌≤◌, Bool, true, false, List, [], ◌∷◌, ◌++◌, map, refl, ap, sym, subst, ◌∙◌, inl, inr}
+use Rattle.std.specs.Prelude.{◌⊎◌, Option, None, Some, Result, Ok, Err, slice_get}
+use Rattle.configurations.specs.Record.{Record}
+use Rattle.configurations.specs.declared.member.Member.{Member}
 use Rattle.configurations.specs.Store.{HoldsRecord, IsSettledConfig, settled_leaves}
 use Rattle.configurations.specs.Store as configs
 use Rattle.configurations.specs.declared.refusal.Refusal as config
@@ -18,7 +20,7 @@ use Rattle.manager.specs.declared.refusal.Refusal as manager
 use Rattle.std.proofs.lemmas.Option.{same_Some}
 use Rattle.local_store.specs.About.{About}
 use Rattle.chain.specs.Chain.{Chained}
-use Rattle.chain.specs.Recording.{HaltsAt, IsToldAt}
+use Rattle.chain.specs.Recording.{HaltsAt, IsNextOf, IsToldAt}
 use Rattle.chain_steps.specs.Steps.{stop}
 use Rattle.chain_steps.specs.declared.cause.Cause.TheVariants.{Memory}
 use Rattle.std.specs.declared.alloc.AllocError.{AllocError}
@@ -27,7 +29,7 @@ use Rattle.world.specs.World.{Seen}
 use Rattle.world.specs.declared.told.Told.{Told}
 use Rattle.life.specs.Calls.{BeginsRecord, CountsSlotOut, EndsRecord, IsSame, Removes, TellsRecord}
 use Rattle.life.specs.Does.{DoesDeed, Manages}
-use Rattle.life.specs.Managed.{AreInStep, IsAtRest, IsConfigured, Managed, config_part}
+use Rattle.life.specs.Managed.{AreInStep, IsAtRest, IsConfigured, Managed, MayStand, config_part}
 use Rattle.life.specs.Plays.{DeedsLead}
 use Rattle.life.specs.declared.answer.Answer.{Answer}
 use Rattle.life.specs.declared.era.Deed.{Deed}
@@ -187,8 +189,61 @@ module _ {S : Type 0} (about : S → About) where
   slot_stays slot told old new (inr (inl (at, refusal, there, moves, whole, none))) = stay_same about old.chain new.chain moves.did.same
   slot_stays slot told old new (inr (inr (nobody, same, whole, none))) = stay_same about old.chain new.chain (ap (λ w. w.chain) same)
 
+  -- ---- whom a stop may leave recorded
+
+  -- they are all among the members of this record
+  abbrev pub AreAmong : Record → Chained S → Type 0
+  AreAmong first c = (r : Record) → MayStand c r → (seat : ℕ) (m : Member) → slice_get r.members seat ≡ Some m → (k : ℕ) × (slice_get first.members k ≡ Some m)
+
+  -- the chain's records stay
+  among_still : (first : Record) (old new : Chained S) → new.recorded ≡ old.recorded → new.writing ≡ old.writing → AreAmong first old → AreAmong first new
+  among_still first old new recorded writing among r (inl is) = among r (inl (is ∙ recorded))
+  among_still first old new recorded writing among r (inr is) = among r (inr (sym writing ∙ is))
+
+  -- who is left when one is taken out was there
+  left_there : (before behind : List Member) (removed m : Member) (seat : ℕ) → slice_get (before ++ behind) seat ≡ Some m → (k : ℕ) × (slice_get (before ++ removed ∷ behind) k ≡ Some m)
+  left_there [] behind removed m seat here = (suc seat, here)
+  left_there (x ∷ before) behind removed m zero here = (0, here)
+  left_there (x ∷ before) behind removed m (suc k) here = let (at, there) = left_there before behind removed m k here in (suc at, there)
+
+  next_among : (first : Record) (old : Chained S) (next : Record) → IsNextOf old next → AreAmong first old → (seat : ℕ) (m : Member) → slice_get next.members seat ≡ Some m → (k : ℕ) × (slice_get first.members k ≡ Some m)
+  next_among first old next follows among seat m here = elim follows.members [
+    | inl without ↦
+        let (k, there) = left_there without.before without.behind without.removed m seat (ap (λ (ms : List Member). slice_get ms seat) (sym without.are) ∙ here) in
+        among old.recorded (inl refl) k m (ap (λ (ms : List Member). slice_get ms k) without.were ∙ there)
+    | inr same ↦ among old.recorded (inl refl) seat m (ap (λ (ms : List Member). slice_get ms seat) (sym same) ∙ here)
+  ]
+
+  begins_among : (first : Record) (given : Result Bool AllocError) (old new : Managed S) → BeginsRecord given old new → AreAmong first old.world.chain → AreAmong first new.world.chain
+  begins_among first (Ok true) old new is among = λ r stands.
+      let did = is.begun refl in
+      let chain = did.moves.did.1 in
+      elim stands [
+        | inl recorded ↦ among r (inl (recorded ∙ ap (λ c. c.recorded) chain))
+        | inr written ↦
+            let same : did.next ≡ r = same_Some did.next r (sym (ap (λ c. c.writing) chain) ∙ written) in
+            λ seat m here. next_among first old.world.chain did.next did.moves.did.0.0 among seat m (ap (λ (x : Record). slice_get x.members seat) same ∙ here)
+      ]
+  begins_among first (Ok false) old new is among = among_still first old.world.chain new.world.chain (ap (λ w. w.chain.recorded) (is.idle refl).1.0) (ap (λ w. w.chain.writing) (is.idle refl).1.0) among
+  begins_among first (Err e) old new is among = among_still first old.world.chain new.world.chain (ap (λ w. w.chain.recorded) is.err.0) (ap (λ w. w.chain.writing) is.err.0) among
+
+  ends_among : (first : Record) (given : Result Bool config.Refusal) (old new : Managed S) → EndsRecord given old new → AreAmong first old.world.chain → AreAmong first new.world.chain
+  ends_among first (Ok true) old new is among = λ r stands.
+      let moved = (is.ended refl).moves.did.1 in
+      elim stands [
+        | inl recorded ↦ among r (inr (moved.begun ∙ ap Some (sym (recorded ∙ ap (λ c. c.recorded) moved.are))))
+        | inr written ↦ let clash : None ≡ Some r = sym (ap (λ c. c.writing) moved.are) ∙ written in absurd (cc)
+      ]
+  ends_among first (Ok false) old new is among = among_still first old.world.chain new.world.chain (ap (λ w. w.chain.recorded) (is.idle refl).1.0) (ap (λ w. w.chain.writing) (is.idle refl).1.0) among
+  ends_among first (Err e) old new is among = among_still first old.world.chain new.world.chain (ap (λ w. w.chain.recorded) is.world) (ap (λ w. w.chain.writing) is.world) among
+
+  counts_among : (first : Record) (done : Bool) (old new : Managed S) → CountsSlotOut done old new → AreAmong first old.world.chain → AreAmong first new.world.chain
+  counts_among first true old new is among = let chain = (is.out refl).moves.did.1 in among_still first old.world.chain new.world.chain (ap (λ c. c.recorded) chain) (ap (λ c. c.writing) chain) among
+  counts_among first false old new is among = among_still first old.world.chain new.world.chain (ap (λ w. w.chain.recorded) (is.idle refl).1.0) (ap (λ w. w.chain.writing) (is.idle refl).1.0) among
+
   -- what of a chain the configuration's disk stands to, and its members' disks
   pub record Keep (old new : Managed S) : Type 0 where
+    pub among : (first : Record) → AreAmong first old.world.chain → AreAmong first new.world.chain
     pub own : KeepOwn about old.world.chain new.world.chain
     pub configured : IsConfigured old → IsConfigured new
     pub in_step : AreInStep old → AreInStep new
@@ -196,6 +251,7 @@ module _ {S : Type 0} (about : S → About) where
   -- where the world's chain stays, but for what members do, and the configuration's disk
   keep_so : (old new : Managed S) → StayOwn about old.world.chain new.world.chain → new.management ≡ old.management → Keep old new
   keep_so old new stay same = record {
+    among = λ first. among_still first old.world.chain new.world.chain stay.recorded stay.writing;
     own = they_keep about old.world.chain new.world.chain stay;
     configured = λ was. same_chain old new was stay.recorded stay.writing (ap (λ m. m.config) same) (ap (λ m. m.disk) same);
     in_step = still_in_step old new stay.recorded stay.writing (ap (λ m. m.manager) same);
@@ -226,6 +282,7 @@ module _ {S : Type 0} (about : S → About) where
   tells_keep (Some told) old new is =
       let stay = slot_stays is.told.slot told old.world new.world is.told.tells in
       record {
+        among = λ first. among_still first old.world.chain new.world.chain stay.recorded stay.writing;
         own = they_keep about old.world.chain new.world.chain stay;
         configured = λ was. same_chain old new was stay.recorded stay.writing (ap (λ m. m.config) is.told.are) (ap (λ m. m.disk) is.told.are);
         in_step = tells_in_step (Some told) old new is stay.recorded stay.writing;
@@ -234,13 +291,14 @@ module _ {S : Type 0} (about : S → About) where
 
   manages_keep : (act : ManagerAct) (answer : Answer) (old new : Managed S) → Manages act answer old new → Keep old new
   manages_keep (manages.Remove slot) answer old new (given, tells, did) = record {
+    among = λ first. among_still first old.world.chain new.world.chain (ap (λ w. w.chain.recorded) did.world) (ap (λ w. w.chain.writing) did.world);
     own = own_as old.world.chain new.world.chain old.world.chain (ap (λ w. w.chain) did.world) refl refl;
     configured = removes_configured slot given old new did;
     in_step = removes_in_step slot given old new did;
   }
-  manages_keep manages.BeginRecord answer old new (given, tells, did) = record { own = begins_own given old new did; configured = begins_configured given old new did; in_step = begins_in_step given old new did }
-  manages_keep manages.EndRecord answer old new (given, tells, did) = record { own = ends_own given old new did; configured = ends_configured given old new did; in_step = ends_in_step given old new did }
-  manages_keep manages.CountOut answer old new (done, tells, did) = record { own = counts_own done old new did; configured = counts_configured done old new did; in_step = counts_in_step done old new did }
+  manages_keep manages.BeginRecord answer old new (given, tells, did) = record { among = λ first. begins_among first given old new did; own = begins_own given old new did; configured = begins_configured given old new did; in_step = begins_in_step given old new did }
+  manages_keep manages.EndRecord answer old new (given, tells, did) = record { among = λ first. ends_among first given old new did; own = ends_own given old new did; configured = ends_configured given old new did; in_step = ends_in_step given old new did }
+  manages_keep manages.CountOut answer old new (done, tells, did) = record { among = λ first. counts_among first done old new did; own = counts_own done old new did; configured = counts_configured done old new did; in_step = counts_in_step done old new did }
   manages_keep manages.Tell answer old new (given, tells, did) = tells_keep given old new did
 
   -- ---- deeds
@@ -254,6 +312,7 @@ module _ {S : Type 0} (about : S → About) where
         keep_so old new (at_place about premise keeps is_pending may_leave_now moment left_since failures at answer old.world new.world _ is
         (λ (given, tells, did). stay_changed about at old.world.chain new.world.chain _ did.armed.did (λ m n so. ap own so.stays.tells))) same
     deed_keeps (deeds.ArmConfig event) answer old new (given, tells, is) = record {
+      among = λ first. among_still first old.world.chain new.world.chain (ap (λ w. w.chain.recorded) is.world) (ap (λ w. w.chain.writing) is.world);
       own = own_as old.world.chain new.world.chain old.world.chain (ap (λ w. w.chain) is.world) refl refl;
       configured = λ was. record {
         part = ap (λ (s : configs.State). s.pair.part) is.config ∙ was.part;
@@ -273,6 +332,7 @@ module _ {S : Type 0} (about : S → About) where
     pub deeds_keep : (deeds : List Deed) (answers : List Answer) (old new : Managed S) → DeedsLead premise about keeps is_pending may_leave_now moment left_since failures disk deeds answers old new
         → Keep old new
     deeds_keep [] [] old new same = record {
+      among = λ first. among_still first old.world.chain new.world.chain (ap (λ w. w.world.chain.recorded) same) (ap (λ w. w.world.chain.writing) same);
       own = own_as old.world.chain new.world.chain old.world.chain (ap (λ w. w.world.chain) same) refl refl;
       configured = λ was. subst IsConfigured (sym same) was;
       in_step = λ was. subst AreInStep (sym same) was;
@@ -283,6 +343,7 @@ module _ {S : Type 0} (about : S → About) where
         let one = deed_keeps d a old mid did in
         let more = deeds_keep deeds answers mid new later in
         record {
+          among = λ first among. more.among first (one.among first among);
           own = keep_then about old.world.chain mid.world.chain new.world.chain one.own more.own;
           configured = λ was. more.configured (one.configured was);
           in_step = λ was. more.in_step (one.in_step was);

@@ -1,32 +1,33 @@
 -- What an era leaves, and what may come of it. Lemmas.
-use Rattle.std.proofs.Common.{◌≡◌, ℕ, ◌≤◌, false, List, refl, sym, subst, ◌∙◌, inl, inr, arith}
-use Rattle.std.specs.Prelude.{◌⊎◌, IfSome, None, Option, Some, slice_get}
+use Rattle.std.proofs.Common.{◌≡◌, ℕ, ◌≤◌, Bool, true, false, List, refl, ap, sym, subst, ◌∙◌, inl, inr, arith}
+use Rattle.std.specs.Prelude.{Some, slice_get}
 use Rattle.chain.specs.Chain.{Chained}
 use Rattle.chain.specs.Member.{Linked}
+use Rattle.chain.proofs.Cells.{zip_at}
+use Rattle.world_model.proofs.Counting.{get_left}
 use Rattle.chain_model.specs.View.{View, is_in}
 use Rattle.configurations.specs.Record.{Record}
 use Rattle.configurations.specs.Store.{HoldsRecord}
-use Rattle.configurations.specs.declared.refusal.Refusal.TheVariants.{NotNext}
-use Rattle.disk_model.specs.Disk.{Only}
-use Rattle.disk_model.specs.Memory.{given_of, may_be_left, size_of}
+use Rattle.disk_model.specs.Memory.{given_of, size_of}
 use Rattle.disk_model.specs.Part.{inside}
 use Rattle.disk_model.specs.declared.content.Cut.{Cut}
 use Rattle.disk_model.specs.declared.memory.MemDisk.{MemDisk}
 use Rattle.local_store.specs.Meaning.{Meaning, Means}
 use Rattle.world.specs.Management.{HoldsOne}
 use Rattle.world.specs.World.{Shows}
-use Rattle.life.specs.Begun.{AreOnDisks, IsCutFrom}
+use Rattle.life.specs.Begun.{AreOnDisks, IsOfMember}
 use Rattle.life.specs.Headline.{EndsAtReturn, EndsWith}
 use Rattle.life.specs.Managed.{IsConfigured, Managed, StandsOn, config_part}
-use Rattle.life.specs.Plays.{AreCut, IsLeftRecorded}
-use Rattle.life.specs.Recovered.{IsAtItsEnd, IsStranger, MayReturn}
-use Rattle.life.specs.Refusal.{IsOfMemory}
+use Rattle.life.specs.Plays.{AreCut, IsCutAt, IsLeftRecorded}
+use Rattle.life.specs.Recovered.{AreStrangers, HasChain, IsNoChoice, IsNoReturn, IsSeenAs, IsSeenIf, comes_back, recorded_as}
+use Rattle.recovery.specs.declared.returned.Returned.{Returned}
+use Rattle.recovery.specs.declared.returned.Returned.TheVariants.{Opened, Unopened}
 use Rattle.life.specs.declared.answer.Answer.{Answer}
 use Rattle.life.specs.declared.era.Era.{Era}
 use Rattle.life.specs.declared.refusal.Refusal.{Refusal}
-use Rattle.life.specs.declared.refusal.Refusal.TheVariants.{Config, NotInChain}
-use Rattle.life.proofs.Beside.{zip_nobody, zip_there}
-use Rattle.life.proofs.Returning.{cut_of_member, if_some}
+use Rattle.life.specs.declared.managed.SlotDisk.{SlotDisk}
+use Rattle.life.proofs.Chosen.{among_record, seen_of_disk}
+use Rattle.life.proofs.Returning.{cut_of_member}
 use Rattle.life.proofs.Starting.{IsStore, LeadOnDisks, about_of_store, disk_in, failures_in, keeps_volume, leaves_now, left_in, moment_in, pends_in}
 
 -- ---- the record that was left
@@ -45,38 +46,40 @@ left_as c config one holds r stands =
 
 -- ---- the disk that returns
 
-module _ (mid : Managed IsStore) (v : View) (cut : Cut) (disks : List MemDisk) (config : MemDisk) (shows : Shows about_of_store keeps_volume leaves_now mid.world v) (on : AreOnDisks about_of_store mid.world)
-    (configured : IsConfigured mid) (cuts : AreCut leaves_now disk_in cut mid disks config) where
+module _ (mid : Managed IsStore) (v : View) (cut : Cut) (disks : List (SlotDisk MemDisk)) (config : MemDisk) (shows : Shows about_of_store keeps_volume leaves_now mid.world v) (on : AreOnDisks about_of_store mid.world)
+    (configured : IsConfigured mid) (cuts : AreCut about_of_store leaves_now disk_in cut mid disks config) where
   -- the configuration's disk has one of the chain's records
   pub holds_one : HoldsOne mid.world.chain (inside config_part (given_of config))
   holds_one = configured.left (given_of config) cuts.config_is.left
 
-  -- whichever disk returns is a member's, and a record stands
-  pub may_return : (at : ℕ) → 8192 ≤ size_of mid.management.disk → IfSome (slice_get disks at) (λ disk. MayReturn disk config × Only (given_of disk) (may_be_left disk))
-  may_return at long = if_some (slice_get disks at) (λ disk. MayReturn disk config × Only (given_of disk) (may_be_left disk)) (λ disk there.
-      let (m, here, own) = zip_there (λ m disk. IsCutFrom leaves_now disk_in cut m.node.store disk) mid.world.chain.members disks at disk cuts.members there in
-      let (r, left) = left_recorded mid.world.chain config holds_one in (
-        record {
-          member = (cut_of_member mid.world v at m disk shows here cut own on).0;
-          recorded = r;
-          stands = left.stands;
-          long = omega (arith, long, cuts.config_is.left.size);
-        },
-        own.only,
-      ))
+  -- a record stands on it
+  pub has_chain : 8192 ≤ size_of mid.management.disk → HasChain config
+  has_chain long =
+      let (r, left) = left_recorded mid.world.chain config holds_one in
+      record { recorded = r; stands = left.stands; long = omega (arith, long, cuts.config_is.left.size) }
 
-  -- a stranger is nobody of the record that was left
-  nobody_there : ((one other : Meaning) (bytes : List ℕ) → Means one bytes → Means other bytes → one ≡ other) → (at : ℕ) (disk : MemDisk) → slice_get disks at ≡ Some disk → (stranger : IsStranger disk config)
-      → IfSome (slice_get mid.world.chain.members at) (λ m. is_in stranger.recorded (about_of_store m.node.store).slot (about_of_store m.node.store).incarnation ≡ false)
-  nobody_there one at disk there stranger = if_some (slice_get mid.world.chain.members at) (λ m. is_in stranger.recorded (about_of_store m.node.store).slot (about_of_store m.node.store).incarnation ≡ false) (λ m here.
-      let (n, its, own) = zip_there (λ m disk. IsCutFrom leaves_now disk_in cut m.node.store disk) mid.world.chain.members disks at disk cuts.members there in
-      let same : n ≡ m = let some : Some n ≡ Some m = sym its ∙ here in cc some in
-      let (is, geometry, slot, incarnation) = cut_of_member mid.world v at n disk shows its cut own on in
-      let means : stranger.meaning ≡ is.meaning = one stranger.meaning is.meaning (given_of disk) stranger.means is.means in
-      subst (λ (l : Linked IsStore). is_in stranger.recorded (about_of_store l.node.store).slot (about_of_store l.node.store).incarnation ≡ false) same
-      (subst (λ i. is_in stranger.recorded (about_of_store n.node.store).slot i ≡ false) incarnation
-      (subst (λ s. is_in stranger.recorded s is.meaning.incarnation ≡ false) slot
-      (subst (λ (x : Meaning). is_in stranger.recorded x.slot x.incarnation ≡ false) means stranger.out))))
+  -- a member whose disk returns is none of a record of which nobody returns
+  nobody_there : ((one other : Meaning) (bytes : List ℕ) → Means one bytes → Means other bytes → one ≡ other) → (returned : List ℕ) (strangers : AreStrangers returned disks config) → (at : ℕ) (m : Linked IsStore)
+      → slice_get mid.world.chain.members at ≡ Some m → comes_back returned at ≡ true → is_in strangers.recorded (about_of_store m.node.store).slot (about_of_store m.node.store).incarnation ≡ false
+  nobody_there one returned strangers at m here returns =
+      let (left, there, is) = zip_at (λ (x : Linked IsStore) d. IsCutAt about_of_store leaves_now disk_in cut x.node.store d) mid.world.chain.members cuts.of_members at m cuts.members_cut here in
+      let (own, geometry, slot, incarnation) = cut_of_member mid.world v at m left.disk shows here cut is.0 on in
+      let (s, seen, so) = seen_of_disk returned at disks strangers.seen left strangers.are_seen (ap (λ (ds : List (SlotDisk MemDisk)). slice_get ds at) cuts.are ∙ get_left cuts.of_members cuts.outside at left there) in
+      by left.disk s seen (subst (λ b. IsSeenIf b left.disk s) returns so) own slot incarnation
+    where
+      no : (b : Bool) → (b ≡ true → ⊥) → b ≡ false
+      no true never = absurd (never refl)
+      no false never = refl
+
+      by : (disk : MemDisk) (s : Returned) → slice_get strangers.seen at ≡ Some s → IsSeenAs disk s → (own : IsOfMember disk) → own.meaning.slot ≡ (about_of_store m.node.store).slot → own.meaning.incarnation ≡ (about_of_store m.node.store).incarnation
+          → is_in strangers.recorded (about_of_store m.node.store).slot (about_of_store m.node.store).incarnation ≡ false
+      by disk Unopened seen none own slot incarnation = absurd (none own)
+      by disk (Opened member front) seen (is, same, fronts) own slot incarnation = no (is_in strangers.recorded (about_of_store m.node.store).slot (about_of_store m.node.store).incarnation) (λ there.
+          let meant : is.meaning ≡ own.meaning = one is.meaning own.meaning (given_of disk) is.means own.means in
+          let (seat, stands) = among_record strangers.recorded (about_of_store m.node.store).slot (about_of_store m.node.store).incarnation there in
+          let is_it : member ≡ record { slot = (about_of_store m.node.store).slot; incarnation = (about_of_store m.node.store).incarnation } =
+          same ∙ ap recorded_as meant ∙ ap (λ n. record { slot = n; incarnation = own.meaning.incarnation }) slot ∙ ap (λ n. record { slot = (about_of_store m.node.store).slot; incarnation = n }) incarnation in
+          strangers.none at seat front (record { member = member; opened = seen; recorded = stands ∙ ap Some (sym is_it) }))
 
   -- ---- why an era isn't followed by another
 
@@ -93,32 +96,29 @@ module _ (mid : Managed IsStore) (v : View) (cut : Cut) (disks : List MemDisk) (
       disks = disks;
       config = config;
       played = played;
-      cut = subst (λ k. AreCut leaves_now disk_in k mid disks config) (sym same) cuts;
+      cut = subst (λ k. AreCut about_of_store leaves_now disk_in k mid disks config) (sym same) cuts;
       recorded = left;
     }
 
     abbrev pub EndsSo : Refusal → Type 0
     EndsSo = EndsAtReturn (Unit {0}) about_of_store keeps_volume pends_in leaves_now moment_in left_in failures_in disk_in era old
 
-    -- by what came of the disk at the place
-    ends_by : (o : Option MemDisk) → slice_get disks era.returned ≡ o → IfSome o (λ disk. IsStranger disk config) → (refusal : Refusal) → refusal ≡ NotInChain → EndsSo refusal
-    ends_by None none is refusal not =
+    choice_ends : (refusal : Refusal) → IsNoChoice era.returned.items disks config refusal → EndsSo refusal
+    choice_ends refusal (inl memory) = inl memory
+    choice_ends refusal (inr (inl (none, nothing))) =
         let (r, left) = left_recorded mid.world.chain config holds_one in
-        let gone = zip_nobody (λ m disk. IsCutFrom leaves_now disk_in cut m.node.store disk) mid.world.chain.members disks era.returned cuts.members none in
-        inr (inl (not, record { recorded = r; ends = ends_with r left; nobody = subst (λ o. IfSome o (λ (m : Linked IsStore). is_in r (about_of_store m.node.store).slot (about_of_store m.node.store).incarnation ≡ false)) (sym gone) tt }))
-    ends_by (Some disk) there stranger refusal not = inr (inl (
+        inr (inl (none, record { recorded = r; ends = ends_with r left; nothing = nothing }))
+    choice_ends refusal (inr (inr (not, strangers))) = inr (inr (inl (
       not,
       record {
-        recorded = stranger.recorded;
-        ends = ends_with stranger.recorded (left_as mid.world.chain config one_record holds_one stranger.recorded stranger.stands);
-        nobody = nobody_there one_meaning era.returned disk there stranger;
+        recorded = strangers.recorded;
+        ends = ends_with strangers.recorded (left_as mid.world.chain config one_record holds_one strangers.recorded strangers.there.stands);
+        nobody = nobody_there one_meaning era.returned.items strangers;
       },
-    ))
+    )))
 
-    pub era_ends : (refusal : Refusal)
-        → IsOfMemory refusal ⊎ (((refusal ≡ NotInChain) × IfSome (slice_get disks era.returned) (λ disk. IsStranger disk config)) ⊎ ((refusal ≡ Config NotNext) × IsAtItsEnd config)) → EndsSo refusal
-    era_ends refusal (inl memory) = inl memory
-    era_ends refusal (inr (inl (not, stranger))) = ends_by (slice_get disks era.returned) refl stranger refusal not
-    era_ends refusal (inr (inr (none, end))) =
+    pub era_ends : (refusal : Refusal) → IsNoReturn era.returned.items disks config refusal → EndsSo refusal
+    era_ends refusal (inl choice) = choice_ends refusal choice
+    era_ends refusal (inr (none, end)) =
         let (r, left) = left_recorded mid.world.chain config holds_one in
-        inr (inr (none, record { recorded = r; ends = ends_with r left; none = end }))
+        inr (inr (inr (none, record { recorded = r; ends = ends_with r left; none = end })))

@@ -2,7 +2,6 @@
 use Rattle.std.proofs.Common.{◌≡◌, ℕ, List, [], ◌∷◌, ◌++◌, map, refl, ap, sym, subst, ◌∙◌}
 use Rattle.std.specs.Prelude.{◌*◌, All, Some, slice_get, zip}
 use Rattle.std.specs.List.{range_with_len}
-use Rattle.std.proofs.lemmas.Option.{get_or_from_slice_get}
 use Rattle.disk_model.specs.Memory.{given_of}
 use Rattle.disk_model.specs.declared.memory.MemDisk.{MemDisk}
 use Rattle.flush_barrier.specs.declared.session_id.SessionId.{SessionId}
@@ -22,24 +21,18 @@ use Rattle.clients.specs.Clients.{AreSessions}
 use Rattle.configurations.specs.Record.{Record}
 use Rattle.clients.specs.Laws.{FirstHasNone, OutputsAreLawful}
 use Rattle.world.specs.World.{IsJoined, Seen}
-use Rattle.life.specs.Begun.{BeginsWith, IsCutFrom, export_of, first_about, stores_of}
+use Rattle.life.specs.Begun.{BeginsWith, export_of, first_about, stores_of}
 use Rattle.life.specs.Headline.{AreRefusedSo, EraLeads, ErasLead, HasDisk, HasWhatIsOwed, IsOneLife, first_record}
 use Rattle.life.specs.Lived.{AreOfOneVolume, IsFresh}
-use Rattle.life.specs.Managed.{AreInStep, IsAtRest, IsConfigured, Managed, MayStand}
+use Rattle.life.specs.Managed.{AreInStep, IsAtRest, IsConfigured, Managed, MayStand, NoImpostor}
 use Rattle.life.specs.Plays.{DeedsLead, GoesOnFrom}
 use Rattle.life.specs.declared.answer.Answer.{Answer}
 use Rattle.life.specs.declared.era.Answers.{Answers}
 use Rattle.life.specs.declared.era.Era.{Era}
-use Rattle.life.proofs.Beside.{zip_there}
 use Rattle.life.proofs.Lives.{each_disk, era_lawful, exported_as, in_own, may_be_in, recovers}
 use Rattle.life.proofs.Passing.{goes_plays}
 use Rattle.life.proofs.Pleas.{refused_so}
-use Rattle.life.proofs.Places.{all_at}
-use Rattle.life.proofs.Stops.{there_at}
-
--- what is so of each that is at a place is so of all
-all_from : {A : Type 0} (Q : A → Type 0) (xs : List A) → ((at : ℕ) (x : A) → slice_get xs at ≡ Some x → Q x) → All Q xs
-all_from Q xs each = λ k d within. let (x, here) = there_at xs k within in subst Q (sym (get_or_from_slice_get xs k x d here)) (each k x here)
+use Rattle.life.proofs.Places.{all_at, all_from}
 
 module _ {S : Type 0} (premise : Type 0) (about : S → About) (keeps : S → List ℕ → Type 0) (is_pending : S → ℕ → Type 0) (may_leave_now : S → List ℕ → Type 0) (moment : S → ℕ)
     (left_since : S → ℕ → List ℕ → Type 0) (failures : S → ℕ) (disk : S → MemDisk) where
@@ -63,9 +56,10 @@ module _ {S : Type 0} (premise : Type 0) (about : S → About) (keeps : S → Li
       → All (HasOwnDisk about) mid.world.chain.members → IsConfigured mid → AreInStep mid
       → DeedsLead premise about keeps is_pending may_leave_now moment left_since failures disk era.deeds.items answers old mid
       → AreOfOneVolume about keeps may_leave_now (zip era.deeds.items answers) dropped old.world mid.world
-      → GoesOnFrom about keeps may_leave_now disk era mid new
+      → (goes : GoesOnFrom about keeps may_leave_now disk era mid new) → (m : Linked S) × (slice_get mid.world.chain.members goes.from.place ≡ Some m) × may_leave_now m.node.store (given_of goes.from.source.disk)
+      → mid.outside ≡ old.outside → NoImpostor mid
       → (export : Export) (s : State) → Fresh export old.world s → (t : State) × Leads export era answers old s new t × Fresh export new.world t
-  era_leads happenings pleas causes restarts each_has first lawful one_meaning era answers dropped old mid new joined joined_then are owners configured in_step played pass goes export s fresh =
+  era_leads happenings pleas causes restarts each_has first lawful one_meaning era answers dropped old mid new joined joined_then are owners configured in_step played pass goes (m, here, left) outside none export s fresh =
       let size : export.size ≡ bytes_of old.world.chain = ap (λ e. e.size) (sym fresh.has) ∙ joined.size in
       let stands = subst (λ n. StandsFor n fresh.view s) size fresh.stands in
       let turn = pass fresh.view s fresh.shows stands in
@@ -75,10 +69,9 @@ module _ {S : Type 0} (premise : Type 0) (about : S → About) (keeps : S → Li
       let stands_then = subst (λ n. StandsFor n one.w plays.1) (sym stays) plays.4 in
       let exported : mid.world.sessions.export ≡ export = one.remain.export ∙ fresh.has in
       let again : export_of mid.world.chain.geometry ≡ export = exported_as about keeps may_leave_now mid.world joined_then ∙ exported in
-      let (m, here, cut) = zip_there (λ m left. IsCutFrom may_leave_now disk era.cut m.node.store left) mid.world.chain.members goes.disks era.returned goes.returns goes.cut.members goes.there in
-      let found = goes.recovers in
-      let (may, later) = recovers about keeps may_leave_now restarts mid.world one.w plays.1 era.returned m (given_of goes.returns) found.meaning new.world one_meaning one.shows stands_then here
-      found.recorded goes.recorded.either found.has (all_at (HasOwnDisk about) mid.world.chain.members era.returned m owners here) cut.left found.means (ap export_of goes.sizes) found.begins in (
+      let found = goes.from.recovers in
+      let (may, later) = recovers about keeps may_leave_now restarts mid.world one.w plays.1 goes.from.place m (given_of goes.from.source.disk) found.meaning new.world one_meaning one.shows stands_then here
+      found.recorded goes.recorded.either found.has (all_at (HasOwnDisk about) mid.world.chain.members goes.from.place m owners here) left found.means (ap export_of goes.sizes) found.begins in (
         after plays.1 (Restart found.meaning.front),
         record {
           end = mid;
@@ -97,6 +90,8 @@ module _ {S : Type 0} (premise : Type 0) (about : S → About) (keeps : S → Li
               (all_from (HasOwed (bytes_of mid.world.chain) plays.1 mid.world) mid.world.chain.members
               (λ at x there r stood has bytes left. each_disk about keeps may_leave_now each_has mid.world one.w plays.1 one.shows stands_then at x there
               (may_be_in mid.world.chain x r stood (in_own about r x (all_at (HasOwnDisk about) mid.world.chain.members at x owners there) has)) bytes left));
+          outside = outside;
+          no_impostor = none;
           goes_on = goes;
           may = may;
           restarts = refl;
@@ -126,15 +121,16 @@ module _ {S : Type 0} (premise : Type 0) (about : S → About) (keeps : S → Li
   }
 
   pub one_life : (geometry : Geometry) (members : ℕ) (eras : List Era) (answers : List Answers) (first w : Managed S) (t : State) → map about (stores_of first.world) ≡ map (first_about geometry) (range_with_len 0 members)
-      → BeginsWith about keeps may_leave_now geometry 0 (volume_of (4096 * geometry.blocks) []) first.world → first.world.chain.recorded ≡ first_record members → IsAtRest first
+      → BeginsWith about keeps may_leave_now geometry 0 (volume_of (4096 * geometry.blocks) []) first.world → first.world.chain.recorded ≡ first_record members → IsAtRest first → first.outside ≡ []
       → Lead (export_of geometry) eras answers first start w t → Fresh (export_of geometry) w.world t
       → IsOneLife premise about keeps is_pending may_leave_now moment left_since failures disk geometry members eras answers w
-  one_life geometry members eras answers first w t slots begins recorded rests leads fresh = record {
+  one_life geometry members eras answers first w t slots begins recorded rests nobody leads fresh = record {
     first = first;
     slots = slots;
     begins = begins;
     recorded = recorded;
     rests = rests;
+    nobody_outside = nobody;
     end = t;
     leads = leads;
     view = fresh.view;

@@ -1,7 +1,7 @@
 -- The first record of stores on new disks: lemmas.
-use Rattle.std.proofs.Common.{◌≡◌, ℕ, List, [], ◌∷◌, map, refl, ap, subst, sym, ◌∙◌}
-use Rattle.std.specs.Prelude.{IfSome, Option, Some}
+use Rattle.std.proofs.Common.{◌≡◌, ℕ, List, map, ap, sym, ◌∙◌}
 use Rattle.std.specs.List.{range_with_len}
+use Rattle.std.proofs.lemmas.Simd.{map-map}
 use Rattle.chain.specs.Opening.{recorded_in}
 use Rattle.configurations.specs.Record.{Record}
 use Rattle.configurations.specs.declared.member.Member.{Member}
@@ -9,11 +9,6 @@ use Rattle.local_store.specs.About.{About}
 use Rattle.volume.specs.declared.geometry.Geometry.{Geometry}
 use Rattle.life.specs.Begun.{first_about}
 use Rattle.life.specs.Headline.{first_record}
-
--- mapped twice is mapped once
-mapped_twice : {A B C : Type 0} (g : B → C) (f : A → B) (xs : List A) → map g (map f xs) ≡ map (λ x. g (f x)) xs
-mapped_twice g f [] = refl
-mapped_twice g f (x ∷ xs) = ap (λ l. g (f x) ∷ l) (mapped_twice g f xs)
 
 -- the member of a store that tells this
 abbrev member_in : About → Member
@@ -24,8 +19,4 @@ pub first_recorded : {S : Type 0} (about : S → About) (geometry : Geometry) (n
     → (epoch : ℕ) (r : Record) → epoch ≡ 1 → r ≡ record { epoch = epoch; members = map (recorded_in about) stores } → r ≡ first_record n
 first_recorded about geometry n stores are epoch r one is =
     is ∙ ap (λ (e : ℕ). record { epoch = e; members = map (recorded_in about) stores }) one
-    ∙ ap (λ (ms : List Member). record { epoch = 1; members = ms }) (sym (mapped_twice member_in about stores) ∙ ap (map member_in) are ∙ mapped_twice member_in (first_about geometry) (range_with_len 0 n))
-
--- what is so of what was found
-pub found_so : {A : Type 0} (P : A → Type 0) (given : Option A) (x : A) → given ≡ Some x → IfSome given P → P x
-found_so {A = A} P given x is so = subst (λ (o : Option A). IfSome o P) is so
+    ∙ ap (λ (ms : List Member). record { epoch = 1; members = ms }) (sym (map-map member_in about stores) ∙ ap (map member_in) are ∙ map-map member_in (first_about geometry) (range_with_len 0 n))

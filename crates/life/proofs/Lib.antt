@@ -1,13 +1,17 @@
 mod Again
+mod Anew
 mod Answering
 mod Beside
+mod Chosen
 mod Configured
 mod Ending
 mod Eras
 mod Founding
+mod Impostors
 mod InStep
 mod Leading
 mod Lives
+mod Looking
 mod Orders
 mod Owners
 pub mod Passing
@@ -15,5 +19,6 @@ mod Places
 mod Pleas
 mod Recovery
 pub mod Returning
+mod Several
 pub mod Starting
 mod Stops

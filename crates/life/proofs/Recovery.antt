@@ -27,10 +27,10 @@ use Rattle.local_store.specs.declared.refusal.Refusal.TheVariants as stores
 use Rattle.chain.specs.Opening.{recorded_in}
 use Rattle.life.specs.Begun.{AreOfMember, MeansStill}
 use Rattle.life.specs.Managed.{IsLast, StandsAs, config_part}
-use Rattle.life.specs.Recovered.{HasMember, IsUnwritten, MayReturn, RecordsStill, alone_behind, one_behind}
+use Rattle.life.specs.Recovered.{HasMember, IsUnwritten, MayReturn, RecordsStill, alone_behind, recorded_as}
 use Rattle.life.specs.Refusal.{IsOfCalm, IsOfRecord, IsOfRecovering, IsOfReopening, IsOfReturning}
 use Rattle.life.specs.declared.refusal.Refusal.{Refusal}
-use Rattle.life.specs.declared.refusal.Refusal.TheVariants.{Config, Memory, NotInChain, Store}
+use Rattle.life.specs.declared.refusal.Refusal.TheVariants.{Config, Memory, NoneReturned, NotInChain, Store}
 use Rattle.life.proofs.Returning.{migrated_as}
 use Rattle.life.proofs.Configured.{left_by_run}
 use Rattle.life.proofs.Starting.{IsStore, about_of_store}
@@ -54,7 +54,7 @@ stands_either store old new made next part same run bytes left =
     (subst (λ (p : Part). HoldsOldOrNext store made (inside p bytes)) part (left_by_run old new (λ c. HoldsOldOrNext store made (inside store.pair.part c)) run bytes left))
 
 -- the record of a store's member alone with the next epoch follows
-pub follows : {S : Type 0} (about : S → About) (found next : Record) (store : S) (epoch : ℕ) → next ≡ record { epoch = epoch; members = recorded_in about store ∷ [] } → epoch ≡ found.epoch + 1 → next ≡ one_behind about found store
+pub follows : {S : Type 0} (about : S → About) (found next : Record) (store : S) (epoch : ℕ) → next ≡ record { epoch = epoch; members = recorded_in about store ∷ [] } → epoch ≡ found.epoch + 1 → next ≡ alone_behind found (recorded_in about store)
 follows about found next store epoch is more = is ∙ ap (λ (e : ℕ). record { epoch = e; members = recorded_in about store ∷ [] }) more
 
 -- ---- why a recovery is refused
@@ -131,19 +131,19 @@ read_records disk config back nothing = λ r number stands only c left. inl (sub
 
 -- the record and the number that stood, or the next of the disk's member alone
 abbrev StandsStill : MemDisk → List ℕ → Record → ℕ → Type 0
-StandsStill disk c r n = StandsAs c r n ⊎ ((m : Meaning) × Means m (given_of disk) × HasMember r m × StandsAs c (alone_behind r m) (n + 1))
+StandsStill disk c r n = StandsAs c r n ⊎ ((m : Meaning) × Means m (given_of disk) × HasMember r m × StandsAs c (alone_behind r (recorded_as m)) (n + 1))
 
 -- of one that holds the record that stood or the next, one of them
 pub either_records : (disk config back : MemDisk) (found : State) (meaning : Meaning) → ((some other : Record) (bytes : List ℕ) → HoldsRecord some bytes → HoldsRecord other bytes → some ≡ other)
     → ((some other : Record) (number another : ℕ) (bytes : List ℕ) → HoldsNumbered some number bytes → HoldsNumbered other another bytes → number ≡ another)
     → StandsAs (given_of config) found.current found.pair.number → Means meaning (given_of disk) → HasMember found.current meaning
-    → ((c : List ℕ) → may_be_left back c → HoldsOldOrNext found (alone_behind found.current meaning) (inside config_part c)) → RecordsStill disk config back
+    → ((c : List ℕ) → may_be_left back c → HoldsOldOrNext found (alone_behind found.current (recorded_as meaning)) (inside config_part c)) → RecordsStill disk config back
 either_records disk config back found meaning one one_number was means has each = λ r number stands only c left.
     let same : found.current ≡ r = one found.current r (inside config_part (given_of config)) (numbered_holds was) (numbered_holds stands) in
     let same_number : found.pair.number ≡ number = one_number found.current r found.pair.number number (inside config_part (given_of config)) was stands in
     subst (λ (n : ℕ). StandsStill disk c r n) same_number (subst (λ (x : Record). StandsStill disk c x found.pair.number) same (so c (each c left)))
   where
-    so : (c : List ℕ) → HoldsOldOrNext found (alone_behind found.current meaning) (inside config_part c) → StandsStill disk c found.current found.pair.number
+    so : (c : List ℕ) → HoldsOldOrNext found (alone_behind found.current (recorded_as meaning)) (inside config_part c) → StandsStill disk c found.current found.pair.number
     so c (inl old) = inl old
     so c (inr new) = inr (meaning, means, has, new)
 
@@ -156,7 +156,7 @@ same_member ready store about =
 
 -- so its record is the one that was written
 pub told_alone : (found : Record) (ready store : IsStore) (epoch : ℕ) (chain : Record) → chain ≡ record { epoch = epoch; members = recorded_in about_of_store ready ∷ [] } → epoch ≡ found.epoch + 1
-    → (about_of_store ready ≡ about_of_store store) ⊎ (about_of_store ready ≡ migrated (about_of_store store)) → chain ≡ one_behind about_of_store found store
+    → (about_of_store ready ≡ about_of_store store) ⊎ (about_of_store ready ≡ migrated (about_of_store store)) → chain ≡ alone_behind found (recorded_in about_of_store store)
 told_alone found ready store epoch chain is more about = follows about_of_store found chain ready epoch is more ∙ ap (λ (m : Member). record { epoch = found.epoch + 1; members = m ∷ [] }) (same_member ready store about)
 
 -- and so it is the member's whose disk meant this
@@ -197,6 +197,7 @@ device_reopens stores.Backwards is = absurd is
 -- the refusal by the record, if it is one
 abbrev told_config : Refusal → Option config_refusal.Refusal
 told_config Memory = None
+told_config NoneReturned = None
 told_config NotInChain = None
 told_config (Store refusal) = None
 told_config (Config refusal) = Some refusal

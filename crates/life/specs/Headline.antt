@@ -7,7 +7,7 @@
 -- everything stops, the configuration's disk has the recorded chain or the one that was being written, and the disk of each member of
 -- either has what is owed, whatever is left of them (HasWhatIsOwed); and the chain goes on from one of these, as the machine does, at its
 -- front (GoesOnFrom).
-use Rattle.std.specs.Prelude.{◌≡◌, ◌≢◌, ◌⊎◌, ℕ, ◌*◌, ◌≤◌, false, true, Some, All, IfSome, List, [], ◌∷◌, ◌++◌, length, map, slice_get, take, zip}
+use Rattle.std.specs.Prelude.{◌≡◌, ◌≢◌, ◌⊎◌, ℕ, ◌*◌, ◌≤◌, false, true, Some, All, List, [], ◌∷◌, ◌++◌, length, map, slice_get, take, zip}
 use Rattle.std.specs.List.{flat_map, range_with_len}
 use Rattle.configurations.specs.Record.{Record}
 use Rattle.configurations.specs.declared.refusal.Refusal.TheVariants.{NotNext}
@@ -28,6 +28,7 @@ use Rattle.volume.specs.declared.geometry.Geometry.{Geometry}
 use Rattle.chain_model.specs.Chain.{StandsFor}
 use Rattle.chain_model.specs.Life.{Happening, Happens}
 use Rattle.chain_model.specs.View.{View, is_in}
+use Rattle.chain.specs.Member.{Linked}
 use Rattle.world_model.specs.Event.{ClientEvent}
 use Rattle.world_model.specs.Life.{all_events}
 use Rattle.world_model.specs.Machine.{May, Move, Restart, RunsOn, State, after, machine_volume, shown, start}
@@ -36,8 +37,8 @@ use Rattle.world.specs.Management.{HoldsOne}
 use Rattle.world.specs.World.{Seen, Shows, sent_in}
 use Rattle.life.specs.Begun.{BeginsWith, export_of, first_about, stores_of}
 use Rattle.life.specs.Played.{fed_by, handed_by}
-use Rattle.life.specs.Managed.{AreInStep, IsAtRest, Managed, MayStand, config_part}
-use Rattle.life.specs.Recovered.{IsAtItsEnd}
+use Rattle.life.specs.Managed.{AreInStep, IsAtRest, Managed, MayStand, NoImpostor, config_part}
+use Rattle.life.specs.Recovered.{IsAtItsEnd, NoneReturns, comes_back}
 use Rattle.life.specs.Plays.{AreCut, DeedsLead, GoesOnFrom, IsLeftRecorded}
 use Rattle.life.specs.Refusal.{IsOfMemory}
 use Rattle.life.specs.declared.answer.Answer.{Answer}
@@ -45,7 +46,8 @@ use Rattle.life.specs.declared.era.Answers.{Answers}
 use Rattle.life.specs.declared.era.Deed.{Deed}
 use Rattle.life.specs.declared.era.Era.{Era}
 use Rattle.life.specs.declared.refusal.Refusal.{Refusal}
-use Rattle.life.specs.declared.refusal.Refusal.TheVariants.{Config, NotInChain}
+use Rattle.life.specs.declared.managed.SlotDisk.{SlotDisk}
+use Rattle.life.specs.declared.refusal.Refusal.TheVariants.{Config, NoneReturned, NotInChain}
 
 -- ---- bytes
 
@@ -149,10 +151,13 @@ module _ {S : Type 0} (premise : Type 0) (about : S → About) (keeps : S → Li
     -- and of the disk of a member of either what is owed
     pub disks : All (λ m. (r : Record) → MayStand end.world.chain r → HasDisk r (about m.node.store) → (bytes : List ℕ) → may_leave_now m.node.store bytes
         → HasWhatIsOwed export.size state (about m.node.store) bytes) end.world.chain.members
-    -- the chain goes on from a disk, and the machine from its front
+    -- and no disk outside is that of a member of either
+    pub outside : end.outside ≡ old.outside
+    pub no_impostor : NoImpostor end
+    -- of the disks that return the chain goes on from the source, and the machine from its front
     pub goes_on : GoesOnFrom about keeps may_leave_now disk era end new
-    pub may : May state (Restart goes_on.recovers.meaning.front)
-    pub restarts : t ≡ after state (Restart goes_on.recovers.meaning.front)
+    pub may : May state (Restart goes_on.from.recovers.meaning.front)
+    pub restarts : t ≡ after state (Restart goes_on.from.recovers.meaning.front)
 
   -- one era after another
   abbrev pub ErasLead : Export → List Era → List Answers → Managed S → State → Managed S → State → Type 0
@@ -170,6 +175,7 @@ module _ {S : Type 0} (premise : Type 0) (about : S → About) (keeps : S → Li
     pub begins : BeginsWith about keeps may_leave_now geometry 0 (volume_of (4096 * geometry.blocks) []) first.world
     pub recorded : first.world.chain.recorded ≡ first_record members
     pub rests : IsAtRest first
+    pub nobody_outside : first.outside ≡ []
     pub end : State
     pub leads : ErasLead (export_of geometry) eras answers first start new end
     pub view : View
@@ -182,17 +188,23 @@ module _ {S : Type 0} (premise : Type 0) (about : S → About) (keeps : S → Li
   pub record EndsWith (era : Era) (old : Managed S) (r : Record) : Type 0 where
     pub answers : List Answer
     pub end : Managed S
-    pub disks : List MemDisk
+    pub disks : List (SlotDisk MemDisk)
     pub config : MemDisk
     pub played : DeedsLead premise about keeps is_pending may_leave_now moment left_since failures disk era.deeds.items answers old end
-    pub cut : AreCut may_leave_now disk era.cut end disks config
+    pub cut : AreCut about may_leave_now disk era.cut end disks config
     pub recorded : IsLeftRecorded end.world.chain config r
 
-  -- At the place whose disk was to return is none of a member of the chain that was left recorded.
+  -- No disk was to return.
+  pub record ReturnsNothing (era : Era) (old : Managed S) : Type 0 where
+    pub recorded : Record
+    pub ends : EndsWith era old recorded
+    pub nothing : NoneReturns era.returned.items (length ends.disks)
+
+  -- Of the members whose disks were to return none is of the chain that was left recorded.
   pub record ReturnsNobody (era : Era) (old : Managed S) : Type 0 where
     pub recorded : Record
     pub ends : EndsWith era old recorded
-    pub nobody : IfSome (slice_get ends.end.world.chain.members era.returned) (λ m. is_in recorded (about m.node.store).slot (about m.node.store).incarnation ≡ false)
+    pub nobody : (at : ℕ) (m : Linked S) → slice_get ends.end.world.chain.members at ≡ Some m → comes_back era.returned.items at ≡ true → is_in recorded (about m.node.store).slot (about m.node.store).incarnation ≡ false
 
   -- No two records can follow the one that was left: a recovery that was broken off may have written one.
   pub record HasNoNext (era : Era) (old : Managed S) : Type 0 where
@@ -200,9 +212,10 @@ module _ {S : Type 0} (premise : Type 0) (about : S → About) (keeps : S → Li
     pub ends : EndsWith era old recorded
     pub none : IsAtItsEnd ends.config
 
-  -- why an era isn't followed by another: memory ran out; or nobody returned, or no record can follow
+  -- why an era isn't followed by another: memory ran out; or nothing returned, or nobody, or no record can follow
   abbrev pub EndsAtReturn : Era → Managed S → Refusal → Type 0
-  EndsAtReturn era old refusal = IsOfMemory refusal ⊎ (((refusal ≡ NotInChain) × ReturnsNobody era old) ⊎ ((refusal ≡ Config NotNext) × HasNoNext era old))
+  EndsAtReturn era old refusal =
+      IsOfMemory refusal ⊎ (((refusal ≡ NoneReturned) × ReturnsNothing era old) ⊎ (((refusal ≡ NotInChain) × ReturnsNobody era old) ⊎ ((refusal ≡ Config NotNext) × HasNoNext era old)))
 
   -- Some era of the life ended so.
   pub record BreaksAt (geometry : Geometry) (members : ℕ) (eras : List Era) (refusal : Refusal) : Type 0 where

@@ -1,5 +1,5 @@
 -- A world with its manager, and the disk on which the chain's record stands.
-use Rattle.std.specs.Prelude.{◌≡◌, ◌⊎◌, ℕ, ◌≤◌, true, false, None, Some, List, [], replicate}
+use Rattle.std.specs.Prelude.{◌≡◌, ◌⊎◌, ℕ, ◌≤◌, true, false, None, Some, All, List, [], replicate, slice_get}
 use Rattle.configurations.specs.Record.{Record}
 use Rattle.configurations.specs.Store.{HoldsNumbered, HoldsRecord, IsSettledConfig}
 use Rattle.disk_model.specs.Memory.{given_of, may_be_left}
@@ -8,16 +8,19 @@ use Rattle.disk_model.specs.declared.memory.MemDisk.{MemDisk}
 use Rattle.disk_model.specs.declared.part.Part.{Part}
 use Rattle.gate_journal.specs.declared.batch.TheConstants.{MAX_NUMBER}
 use Rattle.home_blocks.specs.Places.{superblock_fits}
+use Rattle.local_store.specs.Meaning.{Meaning, Means}
 use Rattle.manager.specs.Manager as managers
 use Rattle.manager.specs.Orders.{is_record}
 use Rattle.chain.specs.Chain.{Chained}
 use Rattle.world.specs.Management.{HoldsOne, Managing}
 use Rattle.world.specs.World.{Seen}
+use Rattle.life.specs.declared.managed.SlotDisk.{SlotDisk}
 
--- a world, and its manager with the configuration's disk
+-- a world, its manager with the configuration's disk, and the disks outside the chain
 pub record ManagedOver (S D : Type 0) : Type 0 where
   pub world : Seen S
   pub management : Managing D
+  pub outside : List (SlotDisk D)
 
 -- where this is in memory
 abbrev pub Managed : Type 0 → Type 0
@@ -40,6 +43,14 @@ StandsAs bytes r number = HoldsNumbered r number (inside config_part bytes)
 -- a stop may leave this record: the recorded chain's, or the one that is being written
 abbrev pub MayStand : {S : Type 0} → Chained S → Record → Type 0
 MayStand c r = (r ≡ c.recorded) ⊎ (c.writing ≡ Some r)
+
+-- the record has the member of this slot and incarnation
+abbrev pub IsAmong : Record → ℕ → ℕ → Type 0
+IsAmong r slot incarnation = (seat : ℕ) × (slice_get r.members seat ≡ Some (record { slot = slot; incarnation = incarnation }))
+
+-- Whatever a stop may leave of a disk outside, it isn't that of a member of a record that a stop may leave.
+abbrev pub NoImpostor : {S : Type 0} → Managed S → Type 0
+NoImpostor w = All (λ d. (bytes : List ℕ) → may_be_left d.disk bytes → (meaning : Meaning) → Means meaning bytes → (r : Record) → MayStand w.world.chain r → IsAmong r meaning.slot meaning.incarnation → ⊥) w.outside
 
 -- no record can follow the one on the disk of these bytes: its epoch is the greatest, or the number of its store is
 pub record IsLast (bytes : List ℕ) : Type 0 where

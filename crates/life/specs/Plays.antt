@@ -1,5 +1,5 @@
 -- How an era is played: each deed does what it names, one after another, and then the chain goes on from one disk.
-use Rattle.std.specs.Prelude.{◌≡◌, ◌⊎◌, ℕ, true, Some, List, [], ◌∷◌, length, slice_get}
+use Rattle.std.specs.Prelude.{◌≡◌, ◌⊎◌, ℕ, true, Some, List, [], ◌∷◌, ◌++◌, length, slice_get}
 use Rattle.std.specs.List.{AllZip}
 use Rattle.chain.specs.Chain.{Chained}
 use Rattle.configurations.specs.Record.{Record}
@@ -11,10 +11,11 @@ use Rattle.world.specs.World.{Seen}
 use Rattle.life.specs.Begun.{IsCut, IsCutFrom, stores_of}
 use Rattle.life.specs.Does.{DoesDeed}
 use Rattle.life.specs.Managed.{Managed, MayStand, StandsOn}
-use Rattle.life.specs.Recovered.{Recovers}
+use Rattle.life.specs.Recovered.{RecoversFrom}
 use Rattle.life.specs.declared.answer.Answer.{Answer}
 use Rattle.life.specs.declared.era.Deed.{Deed}
 use Rattle.life.specs.declared.era.Era.{Era}
+use Rattle.life.specs.declared.managed.SlotDisk.{SlotDisk}
 
 -- a device call met its stop: the disk of a member has stopped
 pub record MemberMetStop {S : Type 0} (disk : S → MemDisk) (w : Seen S) : Type 0 where
@@ -38,9 +39,21 @@ module _ {S : Type 0} (premise : Type 0) (about : S → About) (keeps : S → Li
   DeedsLead (deed ∷ deeds) (answer ∷ answers) old new =
       (mid : Managed S) × DoesDeed premise about keeps is_pending may_leave_now moment left_since failures disk deed answer old mid × (HasMetStop disk mid → ⊥) × DeedsLead deeds answers mid new
 
--- Everything stopped, and each disk was cut as the era says.
-pub record AreCut {S : Type 0} (may_leave_now : S → List ℕ → Type 0) (disk : S → MemDisk) (cut : Cut) (old : Managed S) (disks : List MemDisk) (config : MemDisk) : Type 0 where
-  pub members : AllZip (λ m left. IsCutFrom may_leave_now disk cut m.node.store left) old.world.chain.members disks
+-- the disk of a store was cut, and is its slot's
+abbrev pub IsCutAt : {S : Type 0} → (S → About) → (S → List ℕ → Type 0) → (S → MemDisk) → Cut → S → SlotDisk MemDisk → Type 0
+IsCutAt about may_leave_now disk cut store left = IsCutFrom may_leave_now disk cut store left.disk × (left.slot ≡ (about store).slot)
+
+-- one outside was
+abbrev pub IsCutOutside : Cut → SlotDisk MemDisk → SlotDisk MemDisk → Type 0
+IsCutOutside cut was left = IsCut cut was.disk left.disk × (left.slot ≡ was.slot)
+
+-- Everything stopped, and each disk was cut so: these are the members', and behind them those outside.
+pub record AreCut {S : Type 0} (about : S → About) (may_leave_now : S → List ℕ → Type 0) (disk : S → MemDisk) (cut : Cut) (old : Managed S) (disks : List (SlotDisk MemDisk)) (config : MemDisk) : Type 0 where
+  pub of_members : List (SlotDisk MemDisk)
+  pub outside : List (SlotDisk MemDisk)
+  pub are : disks ≡ of_members ++ outside
+  pub members_cut : AllZip (λ m left. IsCutAt about may_leave_now disk cut m.node.store left) old.world.chain.members of_members
+  pub outside_cut : AllZip (IsCutOutside cut) old.outside outside
   pub config_is : IsCut cut old.management.disk config
 
 -- The record that a stop left on the configuration's disk: the recorded chain's, or the one that was being written.
@@ -48,15 +61,13 @@ pub record IsLeftRecorded {S : Type 0} (c : Chained S) (config : MemDisk) (r : R
   pub stands : StandsOn (given_of config) r
   pub either : MayStand c r
 
--- Everything stopped, each disk was cut as the era says, and the chain goes on alone from the one at its place, a recorded member's: with
--- what that means.
+-- Everything stopped, each disk was cut as the era says, and of those that return the chain goes on alone from the source, a recorded
+-- member's: with what that means. The others are outside.
 pub record GoesOnFrom {S : Type 0} (about : S → About) (keeps : S → List ℕ → Type 0) (may_leave_now : S → List ℕ → Type 0) (disk : S → MemDisk) (era : Era) (old new : Managed S) : Type 0 where
-  pub disks : List MemDisk
+  pub disks : List (SlotDisk MemDisk)
   pub config : MemDisk
-  pub returns : MemDisk
-  pub cut : AreCut may_leave_now disk era.cut old disks config
-  pub there : slice_get disks era.returned ≡ Some returns
-  pub recovers : Recovers about keeps may_leave_now returns config new
-  pub recorded : IsLeftRecorded old.world.chain config recovers.recorded
-  pub sizes : recovers.meaning.geometry ≡ old.world.chain.geometry
+  pub cut : AreCut about may_leave_now disk era.cut old disks config
+  pub from : RecoversFrom about keeps may_leave_now era.returned.items disks config new
+  pub recorded : IsLeftRecorded old.world.chain config from.recovers.recorded
+  pub sizes : from.recovers.meaning.geometry ≡ old.world.chain.geometry
   pub alone : length new.world.chain.members ≡ 1

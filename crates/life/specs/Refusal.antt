@@ -10,7 +10,7 @@ use Rattle.local_store.specs.Refusal.{IsCaused, IsOfOpening}
 use Rattle.local_store.specs.declared.refusal.Refusal as store
 use Rattle.local_store.specs.declared.refusal.Refusal.TheVariants as stores
 use Rattle.life.specs.declared.refusal.Refusal.{Refusal}
-use Rattle.life.specs.declared.refusal.Refusal.TheVariants.{Config, Memory, NotInChain, Store}
+use Rattle.life.specs.declared.refusal.Refusal.TheVariants.{Config, Memory, NoneReturned, NotInChain, Store}
 
 -- memory ran out, in a store or a disk too
 abbrev pub IsOfMemory : Refusal → Type 0
@@ -32,6 +32,7 @@ IsOfRecord _ = ⊥
 -- what `recover` may be refused with
 abbrev pub IsOfRecovering : Refusal → Type 0
 IsOfRecovering Memory = Unit {0}
+IsOfRecovering NoneReturned = Unit {0}
 IsOfRecovering NotInChain = Unit {0}
 IsOfRecovering (Store (stores.Device error)) = Unit {0}
 IsOfRecovering (Store refusal) = IsOfOpening refusal
@@ -63,6 +64,7 @@ IsOfReopening _ = ⊥
 -- what the return of a member's disk may be refused with
 abbrev pub IsOfReturning : Refusal → Type 0
 IsOfReturning Memory = Unit {0}
+IsOfReturning NoneReturned = Unit {0}
 IsOfReturning NotInChain = Unit {0}
 IsOfReturning (Store refusal) = IsOfReopening refusal
 IsOfReturning (Config configs.Memory) = Unit {0}
@@ -73,3 +75,24 @@ IsOfReturning (Config _) = ⊥
 -- or, where no disk can fail any more: memory ran out, or the disk isn't of the chain, or no record can follow
 abbrev pub IsOfCalm : Refusal → Type 0
 IsOfCalm refusal = IsOfMemory refusal ⊎ ((refusal ≡ NotInChain) ⊎ (refusal ≡ Config configs.NotNext))
+
+-- what disks that return may be refused with as they are opened
+abbrev pub IsOfLooking : Refusal → Type 0
+IsOfLooking Memory = Unit {0}
+IsOfLooking (Store refusal) = IsOfReopening refusal
+IsOfLooking _ = ⊥
+
+-- why none of several disks was chosen: memory, no record, a device's error, or none returned, or none is the chain's
+abbrev pub IsOfChoosing : Refusal → Type 0
+IsOfChoosing Memory = Unit {0}
+IsOfChoosing NoneReturned = Unit {0}
+IsOfChoosing NotInChain = Unit {0}
+IsOfChoosing (Store refusal) = IsOfReopening refusal
+IsOfChoosing (Config configs.Memory) = Unit {0}
+IsOfChoosing (Config configs.NoRecord) = Unit {0}
+IsOfChoosing (Config (configs.Device error)) = Unit {0}
+IsOfChoosing (Config _) = ⊥
+
+-- or, where a record stands, and no disk can fail any more
+abbrev pub IsOfCalmChoice : Refusal → Type 0
+IsOfCalmChoice refusal = IsOfMemory refusal ⊎ ((refusal ≡ NoneReturned) ⊎ (refusal ≡ NotInChain))

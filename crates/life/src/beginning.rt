@@ -57,6 +57,7 @@ pub fn begin(
     ensures go { IfOk result (AllGo (λ s. s.disk)) }
     ensures recorded { IfOk result (λ managed. managed.world.chain.recorded ≡ first_record members) }
     ensures rests { IfOk result IsAtRest }
+    ensures outside { IfOk result (λ managed. managed.outside ≡ []) }
     ensures begins { IfOk result (λ managed. BeginsWith ⟦<Store<MemDisk> as StoreLike>⟧.about ⟦<Store<MemDisk> as StoreLike>⟧.keeps ⟦<Store<MemDisk> as StoreLike>⟧.may_leave_now
         geometry 0 (volume_of (4096 * geometry.blocks) []) managed.world) }
     ensures refused { IfErr result IsOfMemory }
@@ -69,6 +70,7 @@ pub fn begin(
     Ok(ManagedWorld {
         world,
         management: Management::new(alloc, chain, config, disk),
+        outside: Vec::new(alloc),
     })
 }
 

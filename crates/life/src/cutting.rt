@@ -1,10 +1,11 @@
 //! Everything stops.
 ghost use Rattle.std.specs.Prelude.{IfOk};
 ghost use Rattle.std.specs.List.{AllZip};
-ghost use Rattle.life.specs.Begun.{IsCut, IsCutFrom};
-ghost use Rattle.life.specs.Plays.{AreCut};
+ghost use Rattle.life.specs.Begun.{IsCut};
+ghost use Rattle.life.specs.Plays.{AreCut, IsCutAt, IsCutOutside};
+ghost use Rattle.life.specs.Recovered.{IsCutAnew};
 
-use crate::managed::ManagedWorld;
+use crate::managed::{ManagedWorld, SlotDisk};
 use disk_model::{Cut, MemDisk};
 use local_store::{Store, StoreLike};
 use std::alloc::{AllocError, Global};
@@ -12,14 +13,14 @@ use std::alloc::{AllocError, Global};
 /// The disks that a cut left.
 #[derive(Drop)]
 pub struct Disks {
-    /// The members', in the order of their places.
-    pub members: Vec<MemDisk>,
+    /// Those of the slots: the members', in the order of their places, and then those outside.
+    pub slots: Vec<SlotDisk<MemDisk>>,
     /// The configuration's.
     pub config: MemDisk,
 }
 
-/// Everything stops: the members' disks, in the order of their places, and the configuration's, each with the content that the cut leaves, which
-/// is one that a stop now may leave.
+/// Everything stops: the members' disks, in the order of their places, those outside behind them, and the configuration's, each with the content
+/// that the cut leaves, which is one that a stop now may leave.
 ///
 /// Where memory runs out, the disks are dropped.
 pub fn cut(
@@ -27,41 +28,96 @@ pub fn cut(
     managed: ManagedWorld<Store<MemDisk>, MemDisk>,
     cut: Cut,
 ) -> Result<Disks, AllocError>
-    ensures { IfOk result (λ disks. AreCut ⟦<Store<MemDisk> as StoreLike>⟧.may_leave_now (λ s. s.disk) cut managed disks.members.items disks.config) }
+    ensures { IfOk result (λ disks. AreCut ⟦<Store<MemDisk> as StoreLike>⟧.about ⟦<Store<MemDisk> as StoreLike>⟧.may_leave_now (λ s. s.disk) cut managed disks.slots.items disks.config) }
 {
-    let ManagedWorld { world, management } = managed;
-    let stores = world.abandon()?;
+    let ManagedWorld {
+        world,
+        management,
+        outside,
+    } = managed;
+    let mut slots = cut_all(alloc, world.abandon()?, cut)?;
+    let mut outside = cut_outside(alloc, outside, cut)?;
+    slots.append(&mut outside)?;
     Ok(Disks {
-        members: cut_all(alloc, stores, cut)?,
-        config: cut_config(management.into_disk(), cut),
+        slots,
+        config: cut_one(management.into_disk(), cut),
     })
 }
 
 /// The disks of these stores, cut.
-fn cut_all(alloc: Global, stores: Vec<Store<MemDisk>>, cut: Cut) -> Result<Vec<MemDisk>, AllocError>
-    ensures { IfOk result (λ disks. AllZip (IsCutFrom ⟦<Store<MemDisk> as StoreLike>⟧.may_leave_now (λ s. s.disk) cut) stores.items disks.items) }
+fn cut_all(
+    alloc: Global,
+    stores: Vec<Store<MemDisk>>,
+    cut: Cut,
+) -> Result<Vec<SlotDisk<MemDisk>>, AllocError>
+    ensures { IfOk result (λ disks. AllZip (IsCutAt ⟦<Store<MemDisk> as StoreLike>⟧.about ⟦<Store<MemDisk> as StoreLike>⟧.may_leave_now (λ s. s.disk) cut) stores.items disks.items) }
 {
     let mut disks = Vec::with_capacity(alloc, stores.len())?;
     for store in stores {
-        disks.push_reserved(cut_one(store, cut));
+        disks.push_reserved(cut_store(store, cut));
     }
     Ok(disks)
 }
 
 /// The disk of a store, cut.
-fn cut_one(store: Store<MemDisk>, cut: Cut) -> MemDisk
-    ensures { IsCutFrom ⟦<Store<MemDisk> as StoreLike>⟧.may_leave_now (λ s. s.disk) cut store result }
+fn cut_store(store: Store<MemDisk>, cut: Cut) -> SlotDisk<MemDisk>
+    ensures { IsCutAt ⟦<Store<MemDisk> as StoreLike>⟧.about ⟦<Store<MemDisk> as StoreLike>⟧.may_leave_now (λ s. s.disk) cut store result }
 {
-    let mut disk = store.into_disk();
+    SlotDisk {
+        slot: store.slot(),
+        disk: cut_one(store.into_disk(), cut),
+    }
+}
+
+/// The disks outside, cut.
+fn cut_outside(
+    alloc: Global,
+    outside: Vec<SlotDisk<MemDisk>>,
+    cut: Cut,
+) -> Result<Vec<SlotDisk<MemDisk>>, AllocError>
+    ensures { IfOk result (λ disks. AllZip (IsCutOutside cut) outside.items disks.items) }
+{
+    let mut disks = Vec::with_capacity(alloc, outside.len())?;
+    for disk in outside {
+        disks.push_reserved(cut_slot(disk, cut));
+    }
+    Ok(disks)
+}
+
+/// One of them.
+fn cut_slot(disk: SlotDisk<MemDisk>, cut: Cut) -> SlotDisk<MemDisk>
+    ensures { IsCutOutside cut disk result }
+{
+    SlotDisk {
+        slot: disk.slot,
+        disk: cut_one(disk.disk, cut),
+    }
+}
+
+/// A disk, cut.
+fn cut_one(disk: MemDisk, cut: Cut) -> MemDisk
+    ensures { IsCut cut disk result }
+{
+    let mut disk = disk;
     disk.cut(cut);
     disk
 }
 
-/// The configuration's disk, cut.
-fn cut_config(disk: MemDisk, cut: Cut) -> MemDisk
-    ensures { IsCut cut disk result }
+/// Disks are cut once more, and nothing is armed at them any more.
+pub(crate) fn cut_again(disks: Vec<SlotDisk<MemDisk>>, cut: Cut) -> Vec<SlotDisk<MemDisk>>
+    ensures { AllZip IsCutAnew disks.items result.items }
 {
-    let mut config = disk;
-    config.cut(cut);
-    config
+    let mut disks = disks;
+    for disk in disks.iter_mut() {
+        cut_anew(disk, cut);
+    }
+    disks
+}
+
+/// One of them.
+fn cut_anew(disk: &mut SlotDisk<MemDisk>, cut: Cut)
+    ensures { IsCutAnew disk.old disk.new }
+{
+    disk.disk.cut(cut);
+    disk.disk.disarm();
 }

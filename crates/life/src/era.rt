@@ -22,8 +22,9 @@ pub struct Era {
     pub deeds: Vec<Deed>,
     /// What a stop leaves of the ranges that aren't synced.
     pub cut: Cut,
-    /// The place of the member whose disk returns.
-    pub returned: usize,
+    /// The places of the disks that return, counted as `cut` gives them: the members', in the order of their places, and then those outside. One
+    /// that isn't there, or stands twice, changes nothing.
+    pub returned: Vec<usize>,
 }
 
 /// What became of the deeds of an era, in their order.

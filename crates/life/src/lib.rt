@@ -9,6 +9,7 @@
 
 mod answer;
 mod beginning;
+mod choosing;
 mod cutting;
 mod era;
 mod living;
@@ -24,7 +25,7 @@ pub use beginning::begin;
 pub use cutting::{Disks, cut};
 pub use era::{Answers, Deed, Era};
 pub use living::{Lived, live};
-pub use managed::ManagedWorld;
+pub use managed::{ManagedWorld, SlotDisk};
 pub use managing::manage;
 pub use playing::play;
 pub use recovering::{Refused, recover};

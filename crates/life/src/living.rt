@@ -1,6 +1,7 @@
 //! Whole lives.
-ghost use Rattle.std.specs.Prelude.{◌≡◌, ◌⊎◌, ◌<◌, ◌≤◌, ◌↔◌, ℕ, false, true, IfErr, IfOk, IfSome, IsTrue, List, Some, length, slice_get, zip};
+ghost use Rattle.std.specs.Prelude.{◌≡◌, ◌⊎◌, ◌<◌, ◌≤◌, ◌↔◌, ℕ, All, IfErr, IfOk, IsTrue, List, OnOk, length, zip};
 ghost use Rattle.clients.specs.Clients.{no_one};
+ghost use Rattle.configurations.specs.Record.{Record};
 ghost use Rattle.configurations.specs.declared.refusal.Refusal.TheVariants as config_refusals;
 ghost use Rattle.disk_model.specs.Disk.{Only};
 ghost use Rattle.disk_model.specs.Memory.{given_of, may_be_left};
@@ -11,10 +12,10 @@ ghost use Rattle.life.specs.Begun.{AllGo, AreOnDisks};
 ghost use Rattle.life.specs.Does.{Does, DoesDeed, IsArmed, IsConfigArmed};
 ghost use Rattle.life.specs.Headline.{BreaksOff, EndsAtReturn, EraLeads, IsOneLife};
 ghost use Rattle.life.specs.Lived.{AreOfOneVolume, IsFresh};
-ghost use Rattle.life.specs.Managed.{IsAtRest};
+ghost use Rattle.life.specs.Managed.{IsAtRest, NoImpostor};
 ghost use Rattle.life.specs.Played.{fed_by, fed_by_step, handed_by, handed_by_step};
 ghost use Rattle.life.specs.Plays.{DeedsLead, HasMetStop, MemberMetStop};
-ghost use Rattle.life.specs.Recovered.{IsAtItsEnd, IsStranger, MayReturn, Recovers};
+ghost use Rattle.life.specs.Recovered.{GivesOnly, HasChain, IsAtItsEnd, IsChosen, IsNoChoice, IsNoReturn, IsStill, IsStranger, MayReturn, Recovers, RecoversFrom, StandsThere};
 ghost use Rattle.life.specs.Refusal.{IsOfMemory};
 ghost use Rattle.nbd_session.specs.declared.answer.Export.{Export};
 ghost use Rattle.world_model.specs.Machine.{State};
@@ -22,12 +23,13 @@ ghost use Rattle.world.specs.World.{IsOfOneVolume};
 
 use crate::answer::{Answer, MEMORY};
 use crate::beginning::begin;
-use crate::cutting::{Disks, cut};
+use crate::choosing::choose_among;
+use crate::cutting::{Disks, cut, cut_again};
 use crate::era::{Answers, Deed, Era};
-use crate::managed::ManagedWorld;
+use crate::managed::{ManagedWorld, SlotDisk};
 use crate::managing::manage;
 use crate::playing::play;
-use crate::recovering::{Refused, recover};
+use crate::recovering::{NotAlone, go_on_alone, with_outside};
 use crate::refusal::Refusal;
 use crate::step::Step;
 use chain_model::{
@@ -50,15 +52,15 @@ pub struct Lived {
 }
 
 /// A chain of so many members, 1 to 8, lives through these eras. It begins over new disks, with a volume of zeros. In each era its
-/// deeds are played, one after another, until a device call meets its stop; then everything stops, and the chain goes on from one
-/// member's disk, by the record on the configuration's. The deed in which a stop was met has no answer any more, and no deed behind it is
+/// deeds are played, one after another, until a device call meets its stop; then everything stops, and the chain goes on from the
+/// source of the disks that return, by the record on the configuration's; the others are outside then. The deed in which a stop was met has no answer any more, and no deed behind it is
 /// played.
 ///
 /// What was armed and wasn't met before a cut counts the calls of the recovery behind it; and a recovery in which the device fails or
 /// stops is done again, after another cut, with nothing armed any more. No clause tells this: they say from which disk a life goes on.
 ///
-/// 192 `NotInChain` where an era returns a place at which no member is of the chain that was left recorded; 162 `NotNext` where no record can
-/// follow; and 100 `Memory`.
+/// 191 `NoneReturned` where an era returns no disk; 192 `NotInChain` where it returns none of a member of the chain that was left recorded; 162
+/// `NotNext` where no record can follow; and 100 `Memory`.
 pub fn live(alloc: Global, geometry: Geometry, members: u8, eras: &[Era]) -> Result<Lived, Refusal>
     requires some { 0 < members }
     requires few { members ≤ 8 }
@@ -89,9 +91,11 @@ fn live_era(
     requires disks { AreOnDisks ⟦<Store<MemDisk> as StoreLike>⟧.about managed.world }
     requires go { AllGo (λ s. s.disk) managed }
     requires rests { IsAtRest managed }
+    requires impostors { NoImpostor managed }
     ensures disks { IfOk result (λ lived. AreOnDisks ⟦<Store<MemDisk> as StoreLike>⟧.about lived.1.world) }
     ensures go { IfOk result (λ lived. AllGo (λ s. s.disk) lived.1) }
     ensures rests { IfOk result (λ lived. IsAtRest lived.1) }
+    ensures impostors { IfOk result (λ lived. NoImpostor lived.1) }
     ensures all { IfOk result (λ lived. length lived.0.items ≤ length era.now.deeds.items) }
     ensures lived { IfOk result (λ lived. (export : Export) (s : State) → IsFresh ⟦<Store<MemDisk> as StoreLike>⟧.about ⟦<Store<MemDisk> as StoreLike>⟧.keeps ⟦<Store<MemDisk> as StoreLike>⟧.may_leave_now export.size export managed.world s
         → (t : State) × EraLeads ⟦<Store<MemDisk> as StoreLike>⟧.keeps_model ⟦<Store<MemDisk> as StoreLike>⟧.about ⟦<Store<MemDisk> as StoreLike>⟧.keeps ⟦<Store<MemDisk> as StoreLike>⟧.is_pending ⟦<Store<MemDisk> as StoreLike>⟧.may_leave_now ⟦<Store<MemDisk> as StoreLike>⟧.moment ⟦<Store<MemDisk> as StoreLike>⟧.may_have_left_since ⟦<Store<MemDisk> as StoreLike>⟧.failures (λ s. s.disk)
@@ -118,7 +122,7 @@ fn live_era(
     };
     managed.sound();
     let disks = cut(alloc, managed, era.cut)?;
-    let next = go_on(alloc, disks, era.returned, era.cut)?;
+    let next = go_on(alloc, disks, &era.returned, era.cut)?;
     Ok((told, next))
 }
 
@@ -132,6 +136,7 @@ fn play_all(
     ensures all { IfOk result (λ answers. length answers.items ≤ length deeds.now) }
     ensures plays { IfOk result (λ answers. DeedsLead ⟦<Store<MemDisk> as StoreLike>⟧.keeps_model ⟦<Store<MemDisk> as StoreLike>⟧.about ⟦<Store<MemDisk> as StoreLike>⟧.keeps ⟦<Store<MemDisk> as StoreLike>⟧.is_pending ⟦<Store<MemDisk> as StoreLike>⟧.may_leave_now ⟦<Store<MemDisk> as StoreLike>⟧.moment ⟦<Store<MemDisk> as StoreLike>⟧.may_have_left_since ⟦<Store<MemDisk> as StoreLike>⟧.failures (λ s. s.disk)
         deeds.now answers.items managed.old managed.new) }
+    ensures outside { OnOk result (managed.new.outside ≡ managed.old.outside) }
     ensures pass { IfOk result (λ answers. (dropped : SessionId → List ℕ) × AreOfOneVolume ⟦<Store<MemDisk> as StoreLike>⟧.about ⟦<Store<MemDisk> as StoreLike>⟧.keeps ⟦<Store<MemDisk> as StoreLike>⟧.may_leave_now
         (zip deeds.now answers.items) dropped managed.old.world managed.new.world) }
 {
@@ -177,6 +182,7 @@ fn play_deed(
 ) -> Answer
     ensures does { DoesDeed ⟦<Store<MemDisk> as StoreLike>⟧.keeps_model ⟦<Store<MemDisk> as StoreLike>⟧.about ⟦<Store<MemDisk> as StoreLike>⟧.keeps ⟦<Store<MemDisk> as StoreLike>⟧.is_pending ⟦<Store<MemDisk> as StoreLike>⟧.may_leave_now ⟦<Store<MemDisk> as StoreLike>⟧.moment ⟦<Store<MemDisk> as StoreLike>⟧.may_have_left_since ⟦<Store<MemDisk> as StoreLike>⟧.failures (λ s. s.disk)
         deed.now result managed.old managed.new }
+    ensures outside { managed.new.outside ≡ managed.old.outside }
     ensures one_volume { IsOfOneVolume ⟦<Store<MemDisk> as StoreLike>⟧.about ⟦<Store<MemDisk> as StoreLike>⟧.keeps ⟦<Store<MemDisk> as StoreLike>⟧.may_leave_now
         (fed_by deed.now result) (handed_by deed.now result) managed.old.world managed.new.world }
 {
@@ -196,6 +202,7 @@ fn take_step(
 ) -> Answer
     ensures does { Does ⟦<Store<MemDisk> as StoreLike>⟧.keeps_model ⟦<Store<MemDisk> as StoreLike>⟧.about ⟦<Store<MemDisk> as StoreLike>⟧.keeps ⟦<Store<MemDisk> as StoreLike>⟧.is_pending ⟦<Store<MemDisk> as StoreLike>⟧.may_leave_now ⟦<Store<MemDisk> as StoreLike>⟧.moment ⟦<Store<MemDisk> as StoreLike>⟧.may_have_left_since ⟦<Store<MemDisk> as StoreLike>⟧.failures step.now result managed.old.world managed.new.world }
     ensures management { managed.new.management ≡ managed.old.management }
+    ensures outside { managed.new.outside ≡ managed.old.outside }
     ensures one_volume { IsOfOneVolume ⟦<Store<MemDisk> as StoreLike>⟧.about ⟦<Store<MemDisk> as StoreLike>⟧.keeps ⟦<Store<MemDisk> as StoreLike>⟧.may_leave_now
         (fed_by_step step.now result) (handed_by_step step.now result) managed.old.world managed.new.world }
 {
@@ -212,13 +219,14 @@ fn arm_member(
     ensures does { IsArmed ⟦<Store<MemDisk> as StoreLike>⟧.about ⟦<Store<MemDisk> as StoreLike>⟧.keeps ⟦<Store<MemDisk> as StoreLike>⟧.is_pending ⟦<Store<MemDisk> as StoreLike>⟧.may_leave_now ⟦<Store<MemDisk> as StoreLike>⟧.failures (λ s. s.disk)
         at event result managed.old.world managed.new.world }
     ensures management { managed.new.management ≡ managed.old.management }
+    ensures outside { managed.new.outside ≡ managed.old.outside }
     ensures one_volume { IsOfOneVolume ⟦<Store<MemDisk> as StoreLike>⟧.about ⟦<Store<MemDisk> as StoreLike>⟧.keeps ⟦<Store<MemDisk> as StoreLike>⟧.may_leave_now
         no_one no_one managed.old.world managed.new.world }
 {
     arm(alloc, &mut managed.world, at, event)
 }
 
-/// In a world alone.
+/// Of the member at a place in a world that has no manager here.
 fn arm(alloc: Global, world: &mut World<Store<MemDisk>>, at: usize, event: Event) -> Answer
     ensures does { IsArmed ⟦<Store<MemDisk> as StoreLike>⟧.about ⟦<Store<MemDisk> as StoreLike>⟧.keeps ⟦<Store<MemDisk> as StoreLike>⟧.is_pending ⟦<Store<MemDisk> as StoreLike>⟧.may_leave_now ⟦<Store<MemDisk> as StoreLike>⟧.failures (λ s. s.disk)
         at event result world.old world.new }
@@ -234,13 +242,14 @@ fn arm(alloc: Global, world: &mut World<Store<MemDisk>>, at: usize, event: Event
     }
 }
 
-/// Or of the configuration's disk.
+/// Something is to happen at a device call to come, of the configuration's disk.
 fn arm_config(
     alloc: Global,
     managed: &mut ManagedWorld<Store<MemDisk>, MemDisk>,
     event: Event,
 ) -> Answer
     ensures does { IsConfigArmed event result managed.old managed.new }
+    ensures outside { managed.new.outside ≡ managed.old.outside }
     ensures one_volume { IsOfOneVolume ⟦<Store<MemDisk> as StoreLike>⟧.about ⟦<Store<MemDisk> as StoreLike>⟧.keeps ⟦<Store<MemDisk> as StoreLike>⟧.may_leave_now
         no_one no_one managed.old.world managed.new.world }
 {
@@ -250,36 +259,63 @@ fn arm_config(
     }
 }
 
-/// The chain goes on from the disk at a place.
+/// The chain goes on from the source of the disks that return. A recovery in which a device fails or stops is done again, after another cut, with
+/// nothing armed any more.
 fn go_on(
     alloc: Global,
     disks: Disks,
-    at: usize,
+    returned: &[usize],
     cut: Cut,
 ) -> Result<ManagedWorld<Store<MemDisk>, MemDisk>, Refusal>
-    requires returns { IfSome (slice_get disks.members.items at) (λ disk. MayReturn disk disks.config × Only (given_of disk) (may_be_left disk)) }
-    requires only { Only (given_of disks.config) (may_be_left disks.config) }
+    requires only { All GivesOnly disks.slots.items }
+    requires only_config { Only (given_of disks.config) (may_be_left disks.config) }
+    requires chain { HasChain disks.config }
     ensures alone { IfOk result (λ managed. length managed.world.chain.members ≡ 1) }
     ensures disks { IfOk result (λ managed. AreOnDisks ⟦<Store<MemDisk> as StoreLike>⟧.about managed.world) }
     ensures go { IfOk result (AllGo (λ s. s.disk)) }
-    ensures goes_on { IfOk result (λ managed. (disk : MemDisk) × (slice_get disks.members.items at ≡ Some disk)
-        × Recovers ⟦<Store<MemDisk> as StoreLike>⟧.about ⟦<Store<MemDisk> as StoreLike>⟧.keeps ⟦<Store<MemDisk> as StoreLike>⟧.may_leave_now disk disks.config managed) }
-    ensures refused { IfErr result (λ r. IsOfMemory r ⊎ (((r ≡ Refusal.NotInChain) × IfSome (slice_get disks.members.items at) (λ disk. IsStranger disk disks.config))
-        ⊎ ((r ≡ Refusal.Config config_refusals.NotNext) × IsAtItsEnd disks.config))) }
+    ensures goes_on { IfOk result (RecoversFrom ⟦<Store<MemDisk> as StoreLike>⟧.about ⟦<Store<MemDisk> as StoreLike>⟧.keeps ⟦<Store<MemDisk> as StoreLike>⟧.may_leave_now returned.now disks.slots.items disks.config) }
+    ensures refused { IfErr result (IsNoReturn returned.now disks.slots.items disks.config) }
 {
-    let Disks {
-        mut members,
-        config,
-    } = disks;
-    if at >= members.len() {
-        return Err(Refusal::NotInChain);
+    disks_mean_one();
+    records_are_one();
+    let Disks { slots, mut config } = disks;
+    let (choice, mut slots) = choose_again(alloc, slots, returned, &mut config, cut);
+    let SlotDisk { slot: _, disk } = slots.remove(choice?);
+    let managed = go_on_again(alloc, disk, config, cut)?;
+    Ok(with_outside(managed, slots))
+}
+
+/// The place of the source among disks of which nothing else may be left than what they give; so it is of those that come back too, and they
+/// give the same.
+fn choose_again(
+    alloc: Global,
+    disks: Vec<SlotDisk<MemDisk>>,
+    returned: &[usize],
+    config: &mut MemDisk,
+    cut: Cut,
+) -> (Result<usize, Refusal>, Vec<SlotDisk<MemDisk>>)
+    requires only { All GivesOnly disks.items }
+    requires only_config { Only (given_of config.old) (may_be_left config.old) }
+    requires chain { HasChain config.old }
+    ensures chosen { IfOk result.0 (λ place. (r : Record) × StandsThere config.old r × IsChosen returned.now disks.items r place) }
+    ensures refused { IfErr result.0 (IsNoChoice returned.now disks.items config.old) }
+    ensures back { AllZip IsStill disks.items result.1.items }
+    ensures same { given_of config.new ≡ given_of config.old }
+    ensures only { Only (given_of config.new) (may_be_left config.new) }
+{
+    let (choice, disks) = choose_among(alloc, disks, returned, config);
+    if choice.is_ok() {
+        return (choice, disks);
     }
-    go_on_from(alloc, members.swap_remove(at), config, cut)
+    let disks = cut_again(disks, cut);
+    config.cut(cut);
+    config.disarm();
+    choose_among(alloc, disks, returned, config)
 }
 
 /// The chain goes on from a disk of a member, by the record on the configuration's, where nothing else may be left than what they give. A
 /// recovery in which a device fails or stops is done again, after another cut, with nothing armed any more.
-fn go_on_from(
+fn go_on_again(
     alloc: Global,
     disk: MemDisk,
     config: MemDisk,
@@ -297,13 +333,13 @@ fn go_on_from(
     disks_mean_one();
     records_are_one();
     numbers_are_one();
-    let Refused {
+    let NotAlone {
         refusal,
         disk,
         config,
-    } = match recover(alloc, disk, config) {
+    } = match go_on_alone(alloc, disk, config) {
         Ok(managed) => return Ok(managed),
-        Err(refused) => refused,
+        Err(alone) => alone,
     };
     let Some(mut disk) = disk else {
         return Err(refusal);
@@ -313,10 +349,10 @@ fn go_on_from(
     disk.disarm();
     config.cut(cut);
     config.disarm();
-    match recover(alloc, disk, config) {
+    match go_on_alone(alloc, disk, config) {
         Ok(managed) => Ok(managed),
         Err(again) => {
-            let Refused {
+            let NotAlone {
                 refusal,
                 disk,
                 config,

@@ -1,4 +1,5 @@
 //! The manager's acts, as a list holds them.
+ghost use Rattle.std.specs.Prelude.{◌≡◌};
 ghost use Rattle.clients.specs.Clients.{no_one};
 ghost use Rattle.life.specs.Does.{Manages};
 ghost use Rattle.life.specs.Played.{handed_of};
@@ -20,6 +21,7 @@ pub fn manage<S: StoreLike + Drop>(
     act: ManagerAct,
 ) -> Answer
     ensures does { Manages act result managed.old managed.new }
+    ensures outside { managed.new.outside ≡ managed.old.outside }
     ensures one_volume { S.keeps_model → IsOfOneVolume S.about S.keeps S.may_leave_now no_one (handed_of result) managed.old.world managed.new.world }
 {
     match act {
@@ -41,6 +43,7 @@ fn remove<S: StoreLike + Drop>(
     slot: u64,
 ) -> Answer
     ensures does { Manages (ManagerAct.Remove slot) result managed.old managed.new }
+    ensures outside { managed.new.outside ≡ managed.old.outside }
     ensures one_volume { IsOfOneVolume S.about S.keeps S.may_leave_now no_one (handed_of result) managed.old.world managed.new.world }
 {
     match managed.management.remove(&managed.world, slot) {
@@ -55,6 +58,7 @@ fn begin_record<S: StoreLike + Drop>(
     managed: &mut ManagedWorld<S, MemDisk>,
 ) -> Answer
     ensures does { Manages ManagerAct.BeginRecord result managed.old managed.new }
+    ensures outside { managed.new.outside ≡ managed.old.outside }
     ensures one_volume { S.keeps_model → IsOfOneVolume S.about S.keeps S.may_leave_now no_one (handed_of result) managed.old.world managed.new.world }
 {
     match managed.management.begin_record(&mut managed.world) {
@@ -66,6 +70,7 @@ fn begin_record<S: StoreLike + Drop>(
 /// It is the recorded chain.
 fn end_record<S: StoreLike + Drop>(alloc: Global, managed: &mut ManagedWorld<S, MemDisk>) -> Answer
     ensures does { Manages ManagerAct.EndRecord result managed.old managed.new }
+    ensures outside { managed.new.outside ≡ managed.old.outside }
     ensures one_volume { S.keeps_model → IsOfOneVolume S.about S.keeps S.may_leave_now no_one (handed_of result) managed.old.world managed.new.world }
 {
     match managed.management.end_record(&mut managed.world) {

@@ -9,7 +9,10 @@ pub enum Refusal {
     /// Memory ran out.
     #[error("100 Memory")]
     Memory,
-    /// The disk that was to return is none of a member of the recorded chain.
+    /// No disk returned.
+    #[error("191 NoneReturned")]
+    NoneReturned,
+    /// Disks returned, and none of them is that of a member of the recorded chain.
     #[error("192 NotInChain")]
     NotInChain,
     /// The store on the disk was refused.

@@ -62,8 +62,8 @@ impl Kept {
         self.cut = Some((cut, survivor));
     }
 
-    /// The disk at a place returned: the era is over.
-    pub(crate) fn returned(&mut self, returned: usize) -> Result<(), Refusal> {
+    /// The disks at these places returned: the era is over.
+    pub(crate) fn returned(&mut self, returned: Vec<usize>) -> Result<(), Refusal> {
         let deeds = mem::replace(&mut self.deeds, Vec::new(self.alloc));
         let cut = match self.cut.take() {
             Some((cut, _)) => cut,
@@ -96,7 +96,7 @@ impl Kept {
             Some((_, survivor)) => survivor,
             None => survivor,
         };
-        self.returned(survivor)?;
+        self.returned(vec![in self.alloc; survivor]?)?;
         let eras = self.eras.len();
         let mut answers = Vec::new(self.alloc);
         self.answer(&mut answers)?;
@@ -137,6 +137,7 @@ fn answers_of(
     let ManagedWorld {
         world,
         management: _,
+        outside: _,
     } = managed;
     let _stores = world.abandon();
     Ok(answers)

@@ -1,16 +1,17 @@
 //! How worlds begin, are armed, are cut and go on.
-ghost use Rattle.std.specs.Prelude.{◌≤◌, ◌<◌, vec_len};
+ghost use Rattle.std.specs.Prelude.{◌≤◌, ◌<◌};
 
 use crate::again::Kept;
 use crate::refusal::Refusal;
 use crate::script::NamedDisk;
-use crate::sim::{Left, Sim};
+use crate::sim::Sim;
 use disk_model::{Cut, Event, MemDisk};
 use life::{Deed, Disks, MEMORY, ManagedWorld, Refusal as LifeRefusal, Refused};
 use local_store::Store;
 use std::io::Write;
 use std::mem;
 use volume::{Geometry, MAX_MAX_PAYLOAD, least_area};
+use world::World;
 
 /// The number of the refusal of a recovery for which no disk is returned.
 const NONE_RETURNED: u16 = 191;
@@ -60,6 +61,7 @@ impl Sim {
             let ManagedWorld {
                 world,
                 management: _,
+                outside: _,
             } = old;
             let _stores = world.abandon();
         }
@@ -114,22 +116,14 @@ impl Sim {
         }
         self.stopped = false;
         let survivor = self.survivor();
-        let mut slots = Vec::new(self.alloc);
-        if let Some(ManagedWorld { world, .. }) = &self.managed {
-            for at in 0..world.len() {
-                slots.push(world.slot(at))?;
-            }
-        }
         let Some(managed) = self.managed.take() else {
             return Ok(());
         };
         if let Some(kept) = &mut self.kept {
             kept.cut(cut, survivor);
         }
-        let Disks { members, config } = life::cut(self.alloc, managed, cut)?;
-        for (slot, disk) in slots.into_iter().zip(members) {
-            self.left.push(Left { slot, disk })?;
-        }
+        let Disks { slots, config } = life::cut(self.alloc, managed, cut)?;
+        self.left = slots;
         self.config_left = Some(config);
         Ok(())
     }
@@ -145,66 +139,63 @@ impl Sim {
             .unwrap_or(0)
     }
 
-    /// A member goes on alone from its disk, after a cut, by the record on the configuration's: prints `source M front F`. The other disks and
-    /// the sessions are gone. Without a member it is refused, and where the record hasn't that member; a member without a disk changes nothing.
+    /// The disks of these slots come back after a cut, and the chain goes on from one of them, by the record on the configuration's: prints
+    /// `source M front F`. The other disks are outside, and the sessions are gone. Where a slot has no disk, nothing changes.
     pub(crate) fn recover<W: Write>(
         &mut self,
-        member: Option<u64>,
+        slots: &[u64],
         writer: &mut W,
     ) -> Result<(), Refusal> {
         if self.left.is_empty() {
             return Ok(());
         }
-        let Some(member) = member else {
-            return Ok(writeln!(writer, "refused {NONE_RETURNED}")?);
-        };
-        let place = self
-            .left
-            .iter()
-            .position(|left| u64::from(left.slot.number()) == member);
-        match place {
-            Some(at) if at < self.left.len() => self.go_on_from(at, writer),
-            _ => Ok(()),
+        let mut places = Vec::with_capacity(self.alloc, slots.len())?;
+        for slot in slots {
+            let Some(place) = self.place_left(*slot) else {
+                return Ok(());
+            };
+            places.push(place)?;
         }
+        self.go_on_from(places, writer)
     }
 
-    /// The world goes on from the disk at this place among those that a cut left.
-    fn go_on_from<W: Write>(&mut self, at: usize, writer: &mut W) -> Result<(), Refusal>
-        requires within { at < vec_len self.old.left }
-    {
+    /// The place of the disk of a slot among those that a cut left.
+    fn place_left(&self, slot: u64) -> Option<usize> {
+        self.left
+            .iter()
+            .position(|left| u64::from(left.slot.number()) == slot)
+    }
+
+    /// The world goes on from one of the disks at these places among those that a cut left.
+    fn go_on_from<W: Write>(&mut self, places: Vec<usize>, writer: &mut W) -> Result<(), Refusal> {
         let Some(config) = self.config_left.take() else {
             return Ok(());
         };
-        let Left { slot, disk } = self.left.remove(at);
-        match life::recover(self.alloc, disk, config) {
+        let left = mem::replace(&mut self.left, Vec::new(self.alloc));
+        match life::recover(self.alloc, left, &places, config) {
             Ok(managed) => {
-                let world = &managed.world;
-                let front = if world.len() > 0 { world.durable(0) } else { 0 };
-                self.left.clear();
+                let source = tell_source(&managed.world, writer);
                 self.speakers.clear();
                 self.faulty.clear();
                 self.goes_on_with(managed);
                 if let Some(kept) = &mut self.kept {
-                    kept.returned(at)?;
+                    kept.returned(places)?;
                 }
-                let member = slot.number();
-                Ok(writeln!(writer, "source {member} front {front}")?)
+                source
             }
             Err(
                 Refused {
                     refusal,
-                    disk,
+                    disks,
                     config,
                 },
             ) => {
-                let Some(disk) = disk else {
-                    return Err(Refusal::Memory);
-                };
                 if let Some(kept) = &mut self.kept {
                     kept.broken_off();
                 }
-                self.stopped = disk.is_stopped() || config.is_stopped();
-                self.left.push(Left { slot, disk })?;
+                self.stopped = disks.iter().any(|left| left.disk.is_stopped())
+                    || config.is_stopped();
+                self.left = disks;
                 self.config_left = Some(config);
                 self.not_begun(refusal, writer)
             }
@@ -215,6 +206,7 @@ impl Sim {
     fn not_begun<W: Write>(&self, refusal: LifeRefusal, writer: &mut W) -> Result<(), Refusal> {
         let number = match refusal {
             LifeRefusal::Memory => Some(MEMORY),
+            LifeRefusal::NoneReturned => Some(NONE_RETURNED),
             LifeRefusal::NotInChain => Some(NOT_IN_CHAIN),
             LifeRefusal::Store(refusal) => refusal.number(),
             LifeRefusal::Config(refusal) => refusal.number(),
@@ -225,4 +217,14 @@ impl Sim {
             None => self.tell_stop(writer),
         }
     }
+}
+
+/// Prints which member a chain goes on from alone, and at which front.
+fn tell_source<W: Write>(world: &World<Store<MemDisk>>, writer: &mut W) -> Result<(), Refusal> {
+    if world.len() == 0 {
+        return Ok(());
+    }
+    let member = world.slot(0).number();
+    let front = world.durable(0);
+    Ok(writeln!(writer, "source {member} front {front}")?)
 }

@@ -2,7 +2,7 @@
 use crate::client::{ClientRequest, RequestKind};
 use disk_model::Cut;
 use flush_barrier::SessionId;
-use std::alloc::{AllocError, Global};
+use std::alloc::{AllocError, AllocFailed, Global};
 use std::str;
 use thiserror::Error;
 
@@ -71,9 +71,9 @@ pub enum ScriptCommand {
     Cut {
         cut: Cut,
     },
-    /// `return`, `return M`: a member goes on alone, from its disk.
+    /// `return`, `return M ..`: the disks of these slots come back, and the chain goes on from one of them.
     Return {
-        member: Option<u64>,
+        slots: Vec<u64>,
     },
     /// `state`: prints the epoch, the committed front and the chain.
     State,
@@ -141,6 +141,12 @@ impl From<AllocError> for LineError {
     }
 }
 
+impl<T: Drop> From<AllocFailed<T>> for LineError {
+    fn from(_: AllocFailed<T>) -> LineError {
+        LineError::Memory
+    }
+}
+
 /// The command of a line, without its newline; `None` for an empty line and a comment, which begins with `#`.
 /// Words are separated by one space, numbers are decimal digits alone, bytes are lower-case hexadecimal.
 pub fn parse(alloc: Global, line: &[u8]) -> Result<Option<ScriptCommand>, LineError> {
@@ -170,7 +176,7 @@ fn command_of(alloc: Global, words: &[&str]) -> Result<ScriptCommand, LineError>
         }),
         ["order"] => Ok(ScriptCommand::Order { all: false }),
         ["orders"] => Ok(ScriptCommand::Order { all: true }),
-        ["fail" | "stopat" | "cut" | "return", ..] => crash_command(words),
+        ["fail" | "stopat" | "cut" | "return", ..] => crash_command(alloc, words),
         _ => chain_command(words),
     }
 }
@@ -248,7 +254,7 @@ fn request_command(alloc: Global, words: &[&str]) -> Result<ScriptCommand, LineE
 }
 
 /// A command of faults, crashes and recovery.
-fn crash_command(words: &[&str]) -> Result<ScriptCommand, LineError> {
+fn crash_command(alloc: Global, words: &[&str]) -> Result<ScriptCommand, LineError> {
     match words {
         ["fail", disk, call] => Ok(ScriptCommand::Fail {
             disk: named_disk(disk)?,
@@ -261,9 +267,8 @@ fn crash_command(words: &[&str]) -> Result<ScriptCommand, LineError> {
         }),
         ["cut", "all"] => Ok(ScriptCommand::Cut { cut: Cut::All }),
         ["cut", "none"] => Ok(ScriptCommand::Cut { cut: Cut::None }),
-        ["return"] => Ok(ScriptCommand::Return { member: None }),
-        ["return", member] => Ok(ScriptCommand::Return {
-            member: Some(number(member)?),
+        ["return", slots @ ..] => Ok(ScriptCommand::Return {
+            slots: numbers(alloc, slots)?,
         }),
         _ => Err(LineError::Malformed),
     }
@@ -385,6 +390,15 @@ fn joined(alloc: Global, first: &str, others: &[&str]) -> Result<Vec<u8>, LineEr
         piece.extend_from_slice(&bytes(alloc, word)?)?;
     }
     Ok(piece)
+}
+
+/// The numbers that these words are.
+fn numbers(alloc: Global, words: &[&str]) -> Result<Vec<u64>, LineError> {
+    let mut numbers = Vec::new(alloc);
+    for word in words {
+        numbers.push(number(word)?)?;
+    }
+    Ok(numbers)
 }
 
 /// The bytes of a word, at least one, in lower-case digits.

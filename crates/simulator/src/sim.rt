@@ -8,7 +8,7 @@ use crate::trace::Telling;
 use disk_model::{Event, MemDisk};
 use flush_barrier::SessionId;
 use gate_journal::Slot;
-use life::ManagedWorld;
+use life::{ManagedWorld, SlotDisk};
 use local_store::Store;
 use std::alloc::Global;
 use std::collections::BTreeMap;
@@ -77,13 +77,6 @@ pub(crate) struct Raise {
     pub(crate) number: u64,
 }
 
-/// A member's disk, which a cut left.
-#[derive(Drop)]
-pub(crate) struct Left {
-    pub(crate) slot: Slot,
-    pub(crate) disk: MemDisk,
-}
-
 /// A script that is played: its world, once there is one. It has no `Drop`: `end` ends it.
 pub struct Sim {
     pub(crate) alloc: Global,
@@ -95,7 +88,7 @@ pub struct Sim {
     /// A device call met its stop: nothing goes on until a cut.
     pub(crate) stopped: bool,
     /// What a cut left, until a recovery.
-    pub(crate) left: Vec<Left>,
+    pub(crate) left: Vec<SlotDisk<MemDisk>>,
     /// The configuration's disk, which it left.
     pub(crate) config_left: Option<MemDisk>,
     pub(crate) speakers: BTreeMap<SessionId, Speaker>,
@@ -147,6 +140,7 @@ impl Sim {
             ManagedWorld {
                 world,
                 management: _,
+                outside: _,
             },
         ) = managed
         {
@@ -216,7 +210,7 @@ impl Sim {
             _ if is_first => Err(Refusal::BadScript { line }),
             ScriptCommand::Cut { cut } => self.cut(cut),
             _ if self.stopped => Ok(()),
-            ScriptCommand::Return { member } => self.recover(member, writer),
+            ScriptCommand::Return { slots } => self.recover(&slots, writer),
             ScriptCommand::State => self.state(writer),
             ScriptCommand::StopAt { disk, call, bytes } => {
                 self.arm(disk, Event::StopAt { call, bytes })
@@ -243,11 +237,11 @@ impl Sim {
             ScriptCommand::Run => self.run(shown)?,
             ScriptCommand::Remove { member } => self.remove(member, shown)?,
             ScriptCommand::Order { all } => self.carry_out(all, shown)?,
+            ScriptCommand::Return { slots } => drop(slots),
             ScriptCommand::New { .. }
             | ScriptCommand::StopAt { .. }
             | ScriptCommand::Fail { .. }
             | ScriptCommand::Cut { .. }
-            | ScriptCommand::Return { .. }
             | ScriptCommand::State => {}
         }
         printed.print(writer)?;
@@ -262,7 +256,7 @@ impl Sim {
         Ok(())
     }
 
-    /// A disk that a cut left, in the order of the chain, until a recovery.
+    /// A disk that a cut left: the members', in the order of their places, and then those that were outside; until a recovery.
     pub fn disk_left(&self, nth: usize) -> Option<&MemDisk> {
         Some(&self.left.get(nth)?.disk)
     }

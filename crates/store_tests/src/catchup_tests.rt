@@ -117,7 +117,7 @@ fn a_receiver_whose_device_fails_hands_its_disk_back(rt: HostRuntime) {
     let geometry = sizes(&rt);
     let slot = Slot::new(1).expect(&rt, "a slot");
     let mut disk = disk(&rt, alloc, geometry);
-    disk.arm(Event::FailAt { call: 12 }).expect(&rt, "memory");
+    disk.arm(Event::FailAt { call: 13 }).expect(&rt, "memory");
     let Ok(mut receiver) = Receiver::start(alloc, disk, slot, 2, geometry) else {
         panic!(rt; "no receiver")
     };

@@ -3,7 +3,8 @@ use Rattle.std.specs.Prelude.{◌≢◌}
 use Rattle.std.specs.List.{AllPairs}
 use Rattle.std.proofs.lemmas.List.{length-replicate}
 use Rattle.local_store.specs.About.{About, IsOfVersionTwo}
-use Rattle.life.proofs.Founding.{first_recorded, found_so}
+use Rattle.life.proofs.Founding.{first_recorded}
+use Rattle.life.proofs.Places.{found_so}
 use Rattle.life.proofs.Starting.{IsStore, about_of_store, first_all, first_at, first_even, first_long, first_slots, first_begins}
 use Rattle.life.proofs.beginning.begin.Goals as goal
 

@@ -1,16 +1,20 @@
 use Rattle.std.proofs.Common.{subst}
 use Rattle.std.specs.List.{AllZip}
 use Rattle.disk_model.specs.declared.memory.MemDisk.{MemDisk}
-use Rattle.life.specs.Begun.{IsCut, IsCutFrom}
+use Rattle.life.specs.Begun.{IsCut}
 use Rattle.life.specs.Managed.{Managed}
-use Rattle.life.specs.Plays.{AreCut}
+use Rattle.life.specs.Plays.{AreCut, IsCutAt}
 use Rattle.life.proofs.Beside.{zip_mapped}
-use Rattle.life.proofs.Starting.{IsStore, disk_in, leaves_now}
+use Rattle.life.proofs.Starting.{IsStore, about_of_store, disk_in, leaves_now}
 use Rattle.life.proofs.cutting.cut.Goals as goal
 
 pub returns : goal.returns
-returns c = subst (λ (w : Managed IsStore). AreCut leaves_now disk_in c.args.cut w c.in_ok-cut_all.field-0.items c.cut_config.result) c.managed.view_is (record {
-  members = zip_mapped (IsCutFrom leaves_now disk_in c.args.cut) (λ m. m.node.store) c.managed.inside.world.chain.members c.in_ok-cut_all.field-0.items
-      (subst (λ l. AllZip (IsCutFrom leaves_now disk_in c.args.cut) l c.in_ok-cut_all.field-0.items) c.in_ok-stores.ensures c.in_ok-cut_all.ensures);
-  config_is = subst (λ (d : MemDisk). IsCut c.args.cut d c.cut_config.result) c.into_disk.ensures c.cut_config.ensures;
+returns c = subst (λ (w : Managed IsStore). AreCut about_of_store leaves_now disk_in c.args.cut w c.append.new.self.items c.cut_one.result) c.managed.view_is (record {
+  of_members = c.in_ok-slots.slots.items;
+  outside = c.in_ok-outside.outside.items;
+  are = c.in_ok-append.ensures.items;
+  members_cut = zip_mapped (IsCutAt about_of_store leaves_now disk_in c.args.cut) (λ m. m.node.store) c.managed.inside.world.chain.members c.in_ok-slots.slots.items
+      (subst (λ l. AllZip (IsCutAt about_of_store leaves_now disk_in c.args.cut) l c.in_ok-slots.slots.items) c.in_ok-abandon.ensures c.in_ok-slots.ensures);
+  outside_cut = c.in_ok-outside.ensures;
+  config_is = subst (λ (d : MemDisk). IsCut c.args.cut d c.cut_one.result) c.into_disk.ensures c.cut_one.ensures;
 })

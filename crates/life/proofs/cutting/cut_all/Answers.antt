@@ -1,15 +1,15 @@
 use Rattle.std.proofs.Common.{◌++◌, [], ◌∷◌, length, ap, subst, sym, ◌∙◌, arith}
 use Rattle.std.specs.List.{AllZip}
 use Rattle.std.proofs.lemmas.List.{length-append}
-use Rattle.life.specs.Begun.{IsCutFrom}
+use Rattle.life.specs.Plays.{IsCutAt}
 use Rattle.life.proofs.Beside.{all_more, all_yielded, one_behind}
-use Rattle.life.proofs.Starting.{disk_in, leaves_now}
+use Rattle.life.proofs.Starting.{about_of_store, disk_in, leaves_now}
 use Rattle.life.proofs.cutting.cut_all.Goals as goal
 
 pub loop-store-init : goal.loop-store-init
 loop-store-init c = record {
   whole = c.into_iter-store-iterator.ensures.into_iter_gives.0;
-  cut = subst (AllZip (IsCutFrom leaves_now disk_in c.args.cut) []) (sym c.in_ok-disks.ensures.items) tt;
+  cut = subst (AllZip (IsCutAt about_of_store leaves_now disk_in c.args.cut) []) (sym c.in_ok-disks.ensures.items) tt;
   count = c.in_ok-disks.ensures.len;
   room = omega (arith, c.in_ok-disks.ensures.capacity);
 }
@@ -30,8 +30,8 @@ loop-store-preserved c =
     let items = c.push_reserved.ensures.items in
     record {
       whole = one_behind c.loop-store.yielded c.loop-store.store-iterator.rest.items c.next.new.self.rest.items c.args.stores.items store inv.whole c.in-Some.ensures.steps.0;
-      cut = subst (AllZip (IsCutFrom leaves_now disk_in c.args.cut) (c.loop-store.yielded ++ store ∷ [])) (sym items)
-          (all_more (IsCutFrom leaves_now disk_in c.args.cut) c.loop-store.yielded c.loop-store.disks.items store c.cut_one.result inv.cut c.cut_one.ensures);
+      cut = subst (AllZip (IsCutAt about_of_store leaves_now disk_in c.args.cut) (c.loop-store.yielded ++ store ∷ [])) (sym items)
+          (all_more (IsCutAt about_of_store leaves_now disk_in c.args.cut) c.loop-store.yielded c.loop-store.disks.items store c.cut_store.result inv.cut c.cut_store.ensures);
       count = let sum = length-append c.loop-store.yielded (store ∷ []) in omega (arith, inv.count, c.push_reserved.ensures.len, sum);
       room = omega (arith, inv.room, c.push_reserved.ensures.capacity);
     }
@@ -40,4 +40,4 @@ pub returns : goal.returns
 returns c =
     let inv = c.loop-store.invariant in
     let whole = all_yielded c.loop-store.yielded c.loop-store.store-iterator.rest.items c.args.stores.items inv.whole (sym c.loop-store.store-iterator.rest.ok.0 ∙ c.in-None.ensures.steps.0) in
-    subst (λ l. AllZip (IsCutFrom leaves_now disk_in c.args.cut) l c.loop-store.disks.items) whole inv.cut
+    subst (λ l. AllZip (IsCutAt about_of_store leaves_now disk_in c.args.cut) l c.loop-store.disks.items) whole inv.cut

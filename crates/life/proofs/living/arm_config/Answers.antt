@@ -15,7 +15,7 @@ returns-clause-does c =
     let did = c.arm.ensures in (
       c.arm.result,
       told,
-      subst (λ (m : Managed IsStore). ArmsConfig c.args.event c.arm.result m (record { world = c.managed.inside.world; management = c.arm.new.self })) c.managed.view_is
+      subst (λ (m : Managed IsStore). ArmsConfig c.args.event c.arm.result m (record { world = c.managed.inside.world; management = c.arm.new.self; outside = c.managed.inside.outside.items })) c.managed.view_is
           (record { ok = did.ok; err = did.err; stays = did.stays; leaves = did.leaves; manager = did.manager; config = did.config; world = refl }),
     )
 

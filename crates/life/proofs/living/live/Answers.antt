@@ -10,6 +10,7 @@ use Rattle.life.specs.declared.era.Answers.{Answers}
 use Rattle.life.specs.declared.era.Era.{Era}
 use Rattle.life.proofs.Beside.{all_more}
 use Rattle.life.proofs.Eras.{eras_more, first_fresh, one_life}
+use Rattle.life.proofs.Impostors.{none_outside}
 use Rattle.life.proofs.Returning.{breaks_off, passed_on}
 use Rattle.life.proofs.Starting.{ErasOnDisks, about_of_store, disk_in, failures_in, keeps_volume, leaves_now, left_in, moment_in, pends_in}
 use Rattle.life.proofs.living.live.Goals as goal
@@ -23,8 +24,10 @@ loop-era-init c = record {
   disks = c.in_ok-managed.ensures.disks;
   go = c.in_ok-managed.ensures.go;
   rests = c.in_ok-managed.ensures.rests;
+  impostors = none_outside c.in_ok-managed.managed c.in_ok-managed.ensures.outside;
   recorded = c.in_ok-managed.ensures.recorded;
   rested = c.in_ok-managed.ensures.rests;
+  nobody = c.in_ok-managed.ensures.outside;
   first = c.in_ok-managed.managed;
   slots = c.in_ok-managed.ensures.slots;
   begins = c.in_ok-managed.ensures.begins;
@@ -56,8 +59,10 @@ loop-era-preserved c =
       disks = c.in_ok-told.ensures.disks;
       go = c.in_ok-told.ensures.go;
       rests = c.in_ok-told.ensures.rests;
+      impostors = c.in_ok-told.ensures.impostors;
       recorded = inv.recorded;
       rested = inv.rested;
+      nobody = inv.nobody;
       first = inv.first;
       slots = inv.slots;
       begins = inv.begins;
@@ -80,7 +85,7 @@ pub returns-clause-one_life : goal.returns-clause-one_life
 returns-clause-one_life c =
     let inv = c.loop-era.invariant in
     let whole = take_all c.loop-era.era-index c.args.eras.now c.loop-era-test.false in
-    one_life (Unit {0}) about_of_store keeps_volume pends_in leaves_now moment_in left_in failures_in disk_in c.args.geometry c.args.members c.args.eras.now c.loop-era.answers.items inv.first c.loop-era.managed inv.state inv.slots inv.begins inv.recorded inv.rested
+    one_life (Unit {0}) about_of_store keeps_volume pends_in leaves_now moment_in left_in failures_in disk_in c.args.geometry c.args.members c.args.eras.now c.loop-era.answers.items inv.first c.loop-era.managed inv.state inv.slots inv.begins inv.recorded inv.rested inv.nobody
     (subst (λ (l : List Era). ErasOnDisks (export_of c.args.geometry) l c.loop-era.answers.items inv.first start c.loop-era.managed inv.state) whole inv.leads) inv.fresh
 
 pub live_era-requires-clause-fresh : goal.live_era-requires-clause-fresh
@@ -100,7 +105,7 @@ returns-in_err-told-clause-refused c =
     let whole : take i eras ++ era ∷ drop (i + 1) eras ≡ eras = sym (append_assoc (take i eras) (era ∷ []) (drop (i + 1) eras)) ∙ ap (λ (l : List Era). l ++ drop (i + 1) eras) (sym here) ∙ take-append-drop (i + 1) eras in
     passed_on c.from_residual-in_err-told.result c.in_err-told.field-0.0 (BreaksSo c.args.geometry c.args.members eras) c.from_residual-in_err-told.ensures.1
     (breaks_off (Unit {0}) about_of_store keeps_volume pends_in leaves_now moment_in left_in failures_in disk_in c.in_err-told.field-0.0 c.args.geometry c.args.members eras (take i eras) era (drop (i + 1) eras) c.loop-era.answers.items c.loop-era.managed (sym whole)
-    (one_life (Unit {0}) about_of_store keeps_volume pends_in leaves_now moment_in left_in failures_in disk_in c.args.geometry c.args.members (take i eras) c.loop-era.answers.items inv.first c.loop-era.managed inv.state inv.slots inv.begins inv.recorded inv.rested inv.leads inv.fresh)
+    (one_life (Unit {0}) about_of_store keeps_volume pends_in leaves_now moment_in left_in failures_in disk_in c.args.geometry c.args.members (take i eras) c.loop-era.answers.items inv.first c.loop-era.managed inv.state inv.slots inv.begins inv.recorded inv.rested inv.nobody inv.leads inv.fresh)
     c.in_err-told.ensures.refused)
 
 pub returns-in_err-managed-clause-refused : goal.returns-in_err-managed-clause-refused

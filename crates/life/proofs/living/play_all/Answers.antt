@@ -20,6 +20,7 @@ loop-deed-init c = record {
   pass = subst (λ (l : List Answer). AreOfOneVolume about_of_store keeps_volume leaves_now (zip [] l) no_one c.args.managed.now.world c.args.managed.now.world) (sym c.in_ok-answers.ensures.items)
       (none_turn about_of_store keeps_volume leaves_now c.args.managed.now.world c.sound.ensures.sessions);
   runs = c.requires;
+  outside = refl;
   many = ap length c.in_ok-answers.ensures.items;
   count = c.in_ok-answers.ensures.len;
   room = omega (arith, c.in_ok-answers.ensures.capacity);
@@ -50,6 +51,7 @@ loop-deed-preserved c =
           (turn_more about_of_store keeps_volume leaves_now c.lives_are_of_one_volume.ensures.happenings c.args.managed.now.world c.loop-deed.managed.world c.play_deed-answer.new.managed.world c.sound.ensures.joined c.sound-in-loop-deed.ensures.joined
           (zip (take i deeds) answers) deed answer c.sound-in-loop-deed-2.ensures.sessions inv.pass c.play_deed-answer.ensures.one_volume);
       runs = runs;
+      outside = c.play_deed-answer.ensures.outside ∙ inv.outside;
       many = let sum = length-append answers (answer ∷ []) in omega (arith, inv.many, ap length items, sum);
       count = omega (arith, inv.count, c.push_reserved.ensures.len);
       room = omega (arith, inv.room, c.push_reserved.ensures.capacity);
@@ -71,6 +73,12 @@ returns-then-has_met_stop-clause-plays c =
     subst (λ (l : List Deed). LeadOnDisks l c.loop-deed.answers.items c.args.managed.now c.play_deed-answer.new.managed) whole
     (leads_to_stop (Unit {0}) about_of_store keeps_volume pends_in leaves_now moment_in left_in failures_in disk_in (take i deeds) c.loop-deed.answers.items c.args.managed.now c.loop-deed.managed c.play_deed-answer.new.managed deed c.play_deed-answer.result
     (drop (i + 1) deeds) long inv.plays c.play_deed-answer.ensures.does (c.has_met_stop.ensures.0 c.if-has_met_stop.true))
+
+pub returns-then-has_met_stop-clause-outside : goal.returns-then-has_met_stop-clause-outside
+returns-then-has_met_stop-clause-outside c = c.play_deed-answer.ensures.outside ∙ c.loop-deed.invariant.outside
+
+pub returns-clause-outside : goal.returns-clause-outside
+returns-clause-outside c = c.loop-deed.invariant.outside
 
 pub returns-then-has_met_stop-clause-pass : goal.returns-then-has_met_stop-clause-pass
 returns-then-has_met_stop-clause-pass c =

@@ -11,6 +11,7 @@ invariant-loop-deed l = record {
   plays : LeadOnDisks (take l.deed-index l.fn.deeds) l.answers.items l.fn.managed l.managed;
   pass : AreOfOneVolume about_of_store keeps_volume leaves_now (zip (take l.deed-index l.fn.deeds) l.answers.items) no_one l.fn.managed.world l.managed.world;
   runs : HasMetStop disk_in l.managed → ⊥;
+  outside : l.managed.outside ≡ l.fn.managed.outside;
   many : length l.answers.items ≡ l.deed-index;
   count : vec_len l.answers ≡ l.deed-index;
   room : length l.fn.deeds ≤ vec_capacity l.answers;

@@ -20,7 +20,7 @@ returns-clause-does g c =
     let did = c.end_record.ensures in (
       c.end_record.result,
       told,
-      subst (λ (m : Managed g.row.S.Denot). EndsRecord c.end_record.result m (record { world = c.end_record.new.world; management = c.end_record.new.self })) c.managed.view_is (record {
+      subst (λ (m : Managed g.row.S.Denot). EndsRecord c.end_record.result m (record { world = c.end_record.new.world; management = c.end_record.new.self; outside = c.managed.inside.outside.items })) c.managed.view_is (record {
         ended = did.ended;
         idle = IfOk-weaker c.end_record.result _ _ (λ done so no. let both = so no in (both.0, (both.1.1, both.1.0))) did.idle;
         world = did.world;
