@@ -12,6 +12,7 @@ use Rattle.configurations.specs.declared.member.Member.{Member}
 use Rattle.configurations.specs.Store.{HoldsRecord}
 use Rattle.disk_model.specs.Memory.{failures_of, given_of, most_failures_of}
 use Rattle.disk_model.specs.Part.{inside}
+use Rattle.disk_model.specs.declared.content.Cut.{Cut}
 use Rattle.disk_model.specs.declared.memory.MemDisk.{MemDisk}
 use Rattle.home_blocks.specs.Places.{disk_size_of}
 use Rattle.local_store.specs.Meaning.{Meaning, Means}
@@ -211,11 +212,11 @@ pub still_all : (was now : List (SlotDisk MemDisk)) → All GivesOnly was → Al
 still_all was now only read = zip_with GivesOnly IsRead IsStill still_read was now only read
 
 -- so does one that was cut after that
-still_cut : (was mid now : SlotDisk MemDisk) → IsStill was mid → IsCutAnew mid now → IsStill was now
-still_cut was mid now (slot, same, only) cut = (cut.slot ∙ slot, only (given_of now.disk) cut.left ∙ same, cut.only)
+still_cut : (cut : Cut) (was mid now : SlotDisk MemDisk) → IsStill was mid → IsCutAnew cut mid now → IsStill was now
+still_cut cut was mid now (slot, same, only) anew = (anew.slot ∙ slot, only (given_of now.disk) anew.is_cut.left ∙ same, anew.is_cut.only)
 
-pub cut_all_still : (was mid now : List (SlotDisk MemDisk)) → AllZip IsStill was mid → AllZip IsCutAnew mid now → AllZip IsStill was now
-cut_all_still was mid now still cut = zip_then IsStill IsCutAnew IsStill still_cut was mid now still cut
+pub cut_all_still : (cut : Cut) (was mid now : List (SlotDisk MemDisk)) → AllZip IsStill was mid → AllZip (IsCutAnew cut) mid now → AllZip IsStill was now
+cut_all_still cut was mid now still anew = zip_then IsStill (IsCutAnew cut) IsStill (still_cut cut) was mid now still anew
 
 still_then : (was mid now : SlotDisk MemDisk) → IsStill was mid → IsStill mid now → IsStill was now
 still_then was mid now (slot, same, only) (slot_then, same_then, only_then) = (slot_then ∙ slot, same_then ∙ same, only_then)
@@ -227,8 +228,8 @@ all_still_then was mid now one two = zip_then IsStill IsStill IsStill still_then
 pub only_still : (was now : List (SlotDisk MemDisk)) → AllZip IsStill was now → All GivesOnly now
 only_still was now still = zip_second IsStill GivesOnly (λ x y is. is.2) was now still
 
-pub calm_anew : (was now : List (SlotDisk MemDisk)) → AllZip IsCutAnew was now → All (λ d. failures_of d.disk ≡ most_failures_of d.disk) now
-calm_anew was now cut = zip_second IsCutAnew (λ d. failures_of d.disk ≡ most_failures_of d.disk) (λ x y is. is.calm) was now cut
+pub calm_anew : (cut : Cut) (was now : List (SlotDisk MemDisk)) → AllZip (IsCutAnew cut) was now → All (λ d. failures_of d.disk ≡ most_failures_of d.disk) now
+calm_anew cut was now anew = zip_second (IsCutAnew cut) (λ d. failures_of d.disk ≡ most_failures_of d.disk) (λ x y is. is.calm) was now anew
 
 spared_still : (was now : SlotDisk MemDisk) → IsStill was now → IsSpared was now
 spared_still was now (slot, same, only) = record { slot = slot; same = same; leaves = λ c left. inr (only c left ∙ same) }

@@ -5,6 +5,7 @@ use Rattle.configurations.specs.Record.{AreMembers, Record}
 use Rattle.configurations.specs.declared.member.Member.{Member}
 use Rattle.disk_model.specs.Disk.{NothingNew, Only}
 use Rattle.disk_model.specs.Memory.{failures_of, given_of, may_be_left, most_failures_of, size_of}
+use Rattle.disk_model.specs.declared.content.Cut.{Cut}
 use Rattle.disk_model.specs.declared.memory.MemDisk.{MemDisk}
 use Rattle.gate_journal.specs.declared.batch.TheConstants.{MAX_NUMBER}
 use Rattle.local_store.specs.About.{About}
@@ -12,7 +13,7 @@ use Rattle.local_store.specs.Meaning.{Meaning, Means}
 use Rattle.local_store.specs.Refusal.{IsCaused}
 use Rattle.local_store.specs.declared.refusal.Refusal as store
 use Rattle.chain_model.specs.View.{is_in}
-use Rattle.life.specs.Begun.{AreOfMember, BeginsWith, IsOfMember, MeansStill, stores_of}
+use Rattle.life.specs.Begun.{AreOfMember, BeginsWith, IsCut, IsOfMember, MeansStill, stores_of}
 use Rattle.life.specs.Managed.{IsAtRest, Managed, StandsAs, StandsOn}
 use Rattle.life.specs.declared.managed.SlotDisk.{SlotDisk}
 use Rattle.life.specs.declared.refusal.Refusal.{Refusal}
@@ -191,11 +192,10 @@ GivesOnly d = Only (given_of d.disk) (may_be_left d.disk)
 abbrev pub IsStill : SlotDisk MemDisk → SlotDisk MemDisk → Type 0
 IsStill was now = (now.slot ≡ was.slot) × (given_of now.disk ≡ given_of was.disk) × GivesOnly now
 
--- the slot's disk was cut, and nothing is armed at it any more
-pub record IsCutAnew (was now : SlotDisk MemDisk) : Type 0 where
+-- the slot's disk holds what this cut leaves of it, and nothing is armed at it any more
+pub record IsCutAnew (cut : Cut) (was now : SlotDisk MemDisk) : Type 0 where
   pub slot : now.slot ≡ was.slot
-  pub left : may_be_left was.disk (given_of now.disk)
-  pub only : GivesOnly now
+  pub is_cut : IsCut cut was.disk now.disk
   pub calm : failures_of now.disk ≡ most_failures_of now.disk
 
 -- Of these disks the chain goes on from the source of those that return. The others were spared, and are outside.

@@ -105,7 +105,7 @@ fn cut_one(disk: MemDisk, cut: Cut) -> MemDisk
 
 /// Disks are cut once more, and nothing is armed at them any more.
 pub(crate) fn cut_again(disks: Vec<SlotDisk<MemDisk>>, cut: Cut) -> Vec<SlotDisk<MemDisk>>
-    ensures { AllZip IsCutAnew disks.items result.items }
+    ensures { AllZip (IsCutAnew cut) disks.items result.items }
 {
     let mut disks = disks;
     for disk in disks.iter_mut() {
@@ -116,7 +116,7 @@ pub(crate) fn cut_again(disks: Vec<SlotDisk<MemDisk>>, cut: Cut) -> Vec<SlotDisk
 
 /// One of them.
 fn cut_anew(disk: &mut SlotDisk<MemDisk>, cut: Cut)
-    ensures { IsCutAnew disk.old disk.new }
+    ensures { IsCutAnew cut disk.old disk.new }
 {
     disk.disk.cut(cut);
     disk.disk.disarm();

@@ -10,7 +10,10 @@ returns c =
     let same = end.stays.given ∙ cut.gives in
     record {
       slot = refl;
-      left = subst (may_be_left c.args.disk.now.disk) (sym same) cut.left;
-      only = λ x left. cut.only x (end.leaves x left) ∙ sym same;
+      is_cut = record {
+        content = same ∙ cut.bytes;
+        left = subst (may_be_left c.args.disk.now.disk) (sym same) cut.left;
+        only = λ x left. cut.only x (end.leaves x left) ∙ sym same;
+      };
       calm = calm c.disarm.new.self end.script (end.stays.stopped ∙ cut.runs);
     }
