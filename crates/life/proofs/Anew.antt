@@ -1,5 +1,5 @@
 -- Disks that are changed in their place, one after another: lemmas.
-use Rattle.std.proofs.Common.{◌≡◌, ◌+◌, ◌<◌, ◌≤◌, ℕ, zero, suc, List, [], ◌∷◌, ◌++◌, drop, get_or, length, set, take, refl, ap, subst, arith}
+use Rattle.std.proofs.Common.{◌≡◌, ◌+◌, ◌<◌, ◌≤◌, ℕ, zero, suc, List, [], ◌∷◌, ◌++◌, drop, get_or, length, set, take, refl, ap, subst, sym, arith}
 use Rattle.std.specs.List.{AllZip}
 
 -- so many of the first have become these, and the others are as they were
@@ -26,7 +26,7 @@ become_more {A = A} R k was now d y have within is = subst (λ (n : ℕ). HaveBe
     so (suc k) (w ∷ was) (n ∷ now) have within is = (have.0, so k was now have.1 (omega (arith, within)) is)
 
 -- all have
-pub become_all : {A : Type 0} (R : A → A → Type 0) (k : ℕ) (was now : List A) → HaveBecome R k was now → length now ≤ k → AllZip R was now
+become_all : {A : Type 0} (R : A → A → Type 0) (k : ℕ) (was now : List A) → HaveBecome R k was now → length now ≤ k → AllZip R was now
 become_all R zero [] [] have all = tt
 become_all R zero [] (n ∷ now) have all = absurd (omega (arith, all))
 become_all R zero (w ∷ was) [] have all = let clash : [] ≡ w ∷ was = have in absurd (cc)
@@ -37,10 +37,14 @@ become_all R (suc k) (w ∷ was) [] have all = absurd have
 become_all R (suc k) (w ∷ was) (n ∷ now) have all = (have.0, become_all R k was now have.1 (omega (arith, all)))
 
 -- the whole list is given back
-pub given_back : {A : Type 0} (n : ℕ) (now was : List A) → length now ≡ length was → n ≡ length now → take n (now ++ drop (length now) was) ≡ now
+given_back : {A : Type 0} (n : ℕ) (now was : List A) → length now ≡ length was → n ≡ length now → take n (now ++ drop (length now) was) ≡ now
 given_back zero [] [] same is = refl
 given_back zero [] (w ∷ was) same is = absurd (omega (arith, same))
 given_back (suc n) [] was same is = absurd (omega (arith, is))
 given_back zero (x ∷ now) was same is = absurd (omega (arith, is))
 given_back (suc n) (x ∷ now) [] same is = absurd (omega (arith, same))
 given_back (suc n) (x ∷ now) (w ∷ was) same is = ap (λ l. x ∷ l) (given_back n now was (omega (arith, same)) (omega (arith, is)))
+
+-- so it is of the list that is given back
+pub became : {A : Type 0} (R : A → A → Type 0) (n k : ℕ) (was now : List A) → HaveBecome R k was now → length now ≤ k → length now ≡ length was → n ≡ length now → AllZip R was (take n (now ++ drop (length now) was))
+became R n k was now have all same is = subst (AllZip R was) (sym (given_back n now was same is)) (become_all R k was now have all)

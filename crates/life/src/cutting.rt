@@ -36,7 +36,7 @@ pub fn cut(
         outside,
     } = managed;
     let mut slots = cut_all(alloc, world.abandon()?, cut)?;
-    let mut outside = cut_outside(alloc, outside, cut)?;
+    let mut outside = cut_outside(outside, cut);
     slots.append(&mut outside)?;
     Ok(Disks {
         slots,
@@ -70,28 +70,21 @@ fn cut_store(store: Store<MemDisk>, cut: Cut) -> SlotDisk<MemDisk>
 }
 
 /// The disks outside, cut.
-fn cut_outside(
-    alloc: Global,
-    outside: Vec<SlotDisk<MemDisk>>,
-    cut: Cut,
-) -> Result<Vec<SlotDisk<MemDisk>>, AllocError>
-    ensures { IfOk result (λ disks. AllZip (IsCutOutside cut) outside.items disks.items) }
+fn cut_outside(outside: Vec<SlotDisk<MemDisk>>, cut: Cut) -> Vec<SlotDisk<MemDisk>>
+    ensures { AllZip (IsCutOutside cut) outside.items result.items }
 {
-    let mut disks = Vec::with_capacity(alloc, outside.len())?;
-    for disk in outside {
-        disks.push_reserved(cut_slot(disk, cut));
+    let mut disks = outside;
+    for disk in disks.iter_mut() {
+        cut_slot(disk, cut);
     }
-    Ok(disks)
+    disks
 }
 
 /// One of them.
-fn cut_slot(disk: SlotDisk<MemDisk>, cut: Cut) -> SlotDisk<MemDisk>
-    ensures { IsCutOutside cut disk result }
+fn cut_slot(slot: &mut SlotDisk<MemDisk>, cut: Cut)
+    ensures { IsCutOutside cut slot.old slot.new }
 {
-    SlotDisk {
-        slot: disk.slot,
-        disk: cut_one(disk.disk, cut),
-    }
+    slot.disk.cut(cut);
 }
 
 /// A disk, cut.

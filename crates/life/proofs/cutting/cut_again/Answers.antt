@@ -1,7 +1,6 @@
-use Rattle.std.proofs.Common.{arith, subst, sym}
-use Rattle.std.specs.List.{AllZip}
+use Rattle.std.proofs.Common.{arith}
 use Rattle.life.specs.Recovered.{IsCutAnew}
-use Rattle.life.proofs.Anew.{become_all, become_more, given_back}
+use Rattle.life.proofs.Anew.{become_more, became}
 use Rattle.life.proofs.cutting.cut_again.Goals as goal
 
 pub loop-disk-preserved : goal.loop-disk-preserved
@@ -14,5 +13,4 @@ returns c =
     let long = c.loop-disk.auto.disk-items in
     let held = c.args.disks.ok in
     let given = c.deref_mut-disk-items.ensures.len in
-    subst (AllZip (IsCutAnew c.args.cut) c.args.disks.items) (sym (given_back c.args.disks.len c.loop-disk.disk-items c.args.disks.items (omega (arith, long, given, held)) (omega (arith, long, given, held))))
-    (become_all (IsCutAnew c.args.cut) c.loop-disk.disk-index c.args.disks.items c.loop-disk.disk-items c.loop-disk.invariant (omega (arith, long, c.loop-disk-test.false)))
+    became (IsCutAnew c.args.cut) c.args.disks.len c.loop-disk.disk-index c.args.disks.items c.loop-disk.disk-items c.loop-disk.invariant (omega (arith, long, c.loop-disk-test.false)) (omega (arith, long, given, held)) (omega (arith, long, given, held))
