@@ -11,6 +11,8 @@ mod comparing;
 #[cfg(test)]
 mod flush_barrier_tests;
 #[cfg(test)]
+mod links_tests;
+#[cfg(test)]
 mod nbd_codec_tests;
 #[cfg(test)]
 mod nbd_session_tests;
