@@ -1,5 +1,5 @@
 -- The source by what the disks mean is the source by what was told of them.
-use Rattle.std.proofs.Common.{◌≡◌, ℕ, ◌<◌, ◌≤◌, List, All, arith, get_or, length, Option, Some, None, map, ap, sym, subst, ◌∙◌, refl}
+use Rattle.std.proofs.Common.{◌≡◌, ℕ, ◌<◌, ◌≤◌, Bool, List, All, arith, get_or, length, Option, Some, None, map, ap, sym, subst, ◌∙◌, refl}
 use Rattle.std.specs.Prelude.{MatchOption, IsSomeAnd, slice_get}
 use Rattle.std.specs.List.{AllZip}
 use Rattle.std.specs.Option.{option_map}
@@ -13,8 +13,10 @@ use Rattle.local_store.specs.Meaning.{Meaning, Means}
 use Rattle.recovery.specs.Choice.{IsRecorded, IsSource, NoneRecorded}
 use Rattle.recovery.specs.declared.returned.Returned.{Returned}
 use Rattle.recovery.specs.declared.returned.Returned.TheVariants.{Opened, Unopened}
+use Rattle.folder.specs.Chain.{HasRecord, LeavesOut}
 use Rattle.folder.specs.Disks.{IsDiskOf, IsReturned, IsSourceOf, NoneIsReturned, member_of}
-use Rattle.folder.specs.Found.{IsFound, IsMemberAt, IsRunning, MayRun, member_in, returned_as}
+use Rattle.folder.specs.Found.{IsFound, IsLeavingOut, IsMemberAt, IsRunning, MayRun, member_in, returned_as}
+use Rattle.folder.specs.Restart.{SourceLeavesOut}
 use Rattle.folder.specs.declared.found.OnDisk.{OnDisk}
 use Rattle.folder.specs.declared.found.OnDisk.TheVariants.{Nothing, Volume}
 
@@ -106,6 +108,19 @@ module _ {S D : Type 0} (about : S → About) (keeps : S → List ℕ → Type 0
       → (volume : List ℕ) × keeps store volume × IsSourceOf old.members disks place (meaning_with (about store) volume)
   source_for place store at source =
       source_of about keeps one old.members disks found all place store at (subst (λ (r : Record). IsSource r.members (map (returned_as about) found) place) same source)
+
+  -- and what it would leave out
+  pub source_leaves : (alone : Bool) (config : List ℕ) → HasRecord old config → IsLeavingOut about alone now found → SourceLeavesOut alone config disks
+  source_leaves alone config has out =
+      let got = source_for out.place out.there.0 out.there.1 out.source in
+      record {
+        old = old;
+        recorded = has;
+        place = out.place;
+        meaning = meaning_with (about out.there.0) got.0;
+        source = got.2;
+        leaves = subst (LeavesOut alone) same out.leaves;
+      }
 
 module _ {S D : Type 0} (about : S → About) (found : List (OnDisk S D)) (place : ℕ) (store : S) (at : slice_get found place ≡ Some (Volume store)) where
   -- the member of the store at a place

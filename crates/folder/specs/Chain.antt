@@ -1,5 +1,5 @@
 -- The records of a folder's chain, and the bytes of the disk that has them.
-use Rattle.std.specs.Prelude.{◌⊎◌, ℕ, ◌+◌, ◌<◌, List, [], ◌∷◌, map}
+use Rattle.std.specs.Prelude.{◌≡◌, ◌⊎◌, ℕ, ◌+◌, ◌<◌, Bool, true, false, List, [], ◌∷◌, length, map}
 use Rattle.std.specs.List.{range_with_len}
 use Rattle.configurations.specs.Record.{Record}
 use Rattle.configurations.specs.Store.{HoldsNone, HoldsRecord, IsBeingMade}
@@ -36,3 +36,11 @@ first_record count = record { epoch = 1; members = map first_member (range_with_
 -- the record behind this one that has the member alone
 abbrev pub alone_after : Record → Member → Record
 alone_after old member = record { epoch = old.epoch + 1; members = member ∷ [] }
+
+-- the chain has more than one member, and nobody asked that one go on alone: that would leave the others out
+abbrev pub LeavesOut : Bool → Record → Type 0
+LeavesOut alone r = (alone ≡ false) × (1 < length r.members)
+
+-- somebody asked that one go on alone, or the chain has one member
+abbrev pub MayGoOn : Bool → Record → Type 0
+MayGoOn alone r = (alone ≡ true) ⊎ (length r.members ≡ 1)

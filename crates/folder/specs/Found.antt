@@ -1,10 +1,13 @@
 -- What was found on the disks that returned.
-use Rattle.std.specs.Prelude.{◌≡◌, ℕ, ◌<◌, ◌^◌, false, None, Some, List, slice_get}
+use Rattle.std.specs.Prelude.{◌≡◌, ℕ, ◌<◌, ◌^◌, Bool, false, None, Some, List, map, slice_get}
+use Rattle.configurations.specs.Record.{Record}
 use Rattle.configurations.specs.declared.member.Member.{Member}
 use Rattle.local_store.specs.About.{About, meaning_with}
 use Rattle.local_store.specs.Meaning.{Meaning}
+use Rattle.recovery.specs.Choice.{IsSource}
 use Rattle.recovery.specs.declared.returned.Returned.{Returned}
 use Rattle.recovery.specs.declared.returned.Returned.TheVariants.{Opened, Unopened}
+use Rattle.folder.specs.Chain.{LeavesOut}
 use Rattle.folder.specs.Disks.{IsDiskOf}
 use Rattle.folder.specs.Refusal.{IsCausedBy}
 use Rattle.folder.specs.declared.found.OnDisk.{OnDisk}
@@ -51,6 +54,13 @@ pub record IsMemberAt {S D : Type 0} (about : S → About) (found : List (OnDisk
 -- a store stands there
 abbrev pub IsVolumeAt : {S D : Type 0} → List (OnDisk S D) → ℕ → Type 0
 IsVolumeAt {S} found place = (store : S) × (slice_get found place ≡ Some (Volume store))
+
+-- the source for the recorded chain stands at this place, and to go on from it would leave others out unasked
+pub record IsLeavingOut {S D : Type 0} (about : S → About) (alone : Bool) (recorded : Record) (found : List (OnDisk S D)) : Type 0 where
+  pub place : ℕ
+  pub there : IsVolumeAt found place
+  pub source : IsSource recorded.members (map (returned_as about) found) place
+  pub leaves : LeavesOut alone recorded
 
 -- the disk at this place was handed back, and has failed since where the refusal is the device's
 pub record IsFault {D : Type 0} (failures : D → ℕ) (disks back : List D) (place : ℕ) (r : Refusal) : Type 0 where

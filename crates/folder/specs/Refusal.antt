@@ -7,7 +7,7 @@ use Rattle.local_store.specs.declared.refusal.Refusal.TheVariants as faults
 use Rattle.recovery.specs.Refusal as choice
 use Rattle.volume.specs.Refusal as sizes
 use Rattle.folder.specs.declared.refusal.Refusal.{Refusal}
-use Rattle.folder.specs.declared.refusal.Refusal.TheVariants.{Memory, FileFault, Sizes, Chain, Store, Choice}
+use Rattle.folder.specs.declared.refusal.Refusal.TheVariants.{Memory, FileFault, Sizes, Chain, Store, Choice, OthersRecorded}
 
 -- the number of a refusal, but for a disk that has stopped
 abbrev pub number_of : Refusal → Option ℕ
@@ -17,6 +17,7 @@ number_of (Sizes refusal) = Some (sizes.number_of refusal)
 number_of (Chain refusal) = chain.number_of refusal
 number_of (Store refusal) = store.number_of refusal
 number_of (Choice refusal) = Some (choice.number_of refusal)
+number_of OthersRecorded = Some 193
 
 -- the device's
 abbrev pub IsOfDevice : Refusal → Type 0
@@ -60,6 +61,7 @@ IsOfRestarting (Chain (records.Device error)) = Unit {0}
 IsOfRestarting (Store faults.Memory) = Unit {0}
 IsOfRestarting (Store (faults.Device error)) = Unit {0}
 IsOfRestarting (Choice refusal) = Unit {0}
+IsOfRestarting OthersRecorded = Unit {0}
 IsOfRestarting _ = ⊥
 
 -- what the choice may be refused with
@@ -67,6 +69,13 @@ abbrev pub IsOfChoosing : Refusal → Type 0
 IsOfChoosing Memory = Unit {0}
 IsOfChoosing (Choice refusal) = Unit {0}
 IsOfChoosing _ = ⊥
+
+-- and with 193 too, where nobody is left out unasked
+abbrev pub IsOfAllowing : Refusal → Type 0
+IsOfAllowing Memory = Unit {0}
+IsOfAllowing (Choice refusal) = Unit {0}
+IsOfAllowing OthersRecorded = Unit {0}
+IsOfAllowing _ = ⊥
 
 -- what `format` may be refused with
 abbrev pub IsOfFormatting : Refusal → Type 0

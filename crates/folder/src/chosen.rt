@@ -1,10 +1,11 @@
 //! The choice of the disk that a chain goes on from.
-ghost use Rattle.std.specs.Prelude.{◌≡◌, ◌≢◌, ◌+◌, ◌≤◌, ℕ, [], All, Some, map, length, slice_get, vec_capacity, IfErr, IfOk, IsErrOf};
+ghost use Rattle.std.specs.Prelude.{◌≡◌, ◌≢◌, ◌+◌, ◌≤◌, ℕ, [], false, All, Some, map, length, slice_get, vec_capacity, IfErr, IfOk, IsErrOf, IsTrue, OnOk};
 ghost use Rattle.std.specs.List.{remove};
 ghost use Rattle.recovery.specs.Choice.{IsSource, NoneRecorded};
 ghost use Rattle.recovery.specs.declared.refusal.Refusal.TheVariants.{NoneReturned, NotInChain};
-ghost use Rattle.folder.specs.Found.{IsMemberAt, IsRunning, IsVolumeAt, MayRun, disk_in, member_in, returned_as};
-ghost use Rattle.folder.specs.Refusal.{IsOfChoosing};
+ghost use Rattle.folder.specs.Chain.{LeavesOut, MayGoOn};
+ghost use Rattle.folder.specs.Found.{IsLeavingOut, IsMemberAt, IsRunning, IsVolumeAt, MayRun, disk_in, member_in, returned_as};
+ghost use Rattle.folder.specs.Refusal.{IsOfAllowing, IsOfChoosing};
 
 use crate::Refusal;
 use crate::found::{OnDisk, all_disks};
@@ -19,6 +20,42 @@ use std::alloc::{AllocError, Global};
 pub(crate) struct Chosen {
     pub(crate) place: usize,
     pub(crate) member: Member,
+}
+
+/// The disk that the recorded chain goes on from, as `choose_from` has it. Where the chain has other members, it goes on only
+/// if it was asked to go on alone.
+///
+/// 193 `OthersRecorded`, behind the choice: the chain has other members, and nobody asked. Else as `choose_from`.
+pub(crate) fn choose_allowed<S: StoreLike + Drop, D: Drop>(
+    alloc: Global,
+    recorded: &Record,
+    found: &[OnDisk<S, D>],
+    alone: bool,
+) -> Result<Chosen, Refusal>
+    requires { All (MayRun S.about) found.now }
+    ensures member { IfOk result (λ c. IsMemberAt S.about found.now c.place c.member) }
+    ensures source { IfOk result (λ c. IsSource recorded.now.members (map (returned_as S.about) found.now) c.place) }
+    ensures allowed { OnOk result (MayGoOn alone recorded.now) }
+    ensures others { IsErrOf result Refusal.OthersRecorded → IsLeavingOut S.about alone recorded.now found.now }
+    ensures none { IsErrOf result (Refusal.Choice NoneReturned) → found.now ≡ [] }
+    ensures some { IsErrOf result (Refusal.Choice NotInChain) → found.now ≢ [] }
+    ensures strangers { IsErrOf result (Refusal.Choice NotInChain)
+        → NoneRecorded recorded.now.members (map (returned_as S.about) found.now) }
+    ensures told { IfErr result IsOfAllowing }
+{
+    let chosen = choose_from(alloc, recorded, found)?;
+    if leaves_out(alone, recorded) {
+        return Err(Refusal::OthersRecorded);
+    }
+    Ok(chosen)
+}
+
+/// Whether to go on with one member would leave others of the chain out unasked.
+fn leaves_out(alone: bool, recorded: &Record) -> bool
+    ensures out { IsTrue result → LeavesOut alone recorded.now }
+    ensures allowed { result ≡ false → MayGoOn alone recorded.now }
+{
+    !alone && recorded.members().len() > 1
 }
 
 /// The disk that the recorded chain goes on from, by the rule of recovery.

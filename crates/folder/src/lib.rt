@@ -3,9 +3,10 @@
 //! Its contract for the layers above: a formatted disk means a volume of zeros at front 0, and the configuration's disk
 //! has the first record. `restart` goes on from the disk that the rule of recovery chooses by what the disks mean; the
 //! chain of that disk alone is recorded, in the next epoch, before anything else is written, and the store keeps what the
-//! disk meant. `format_disks` formats the members' disks, and makes the first record last. Both are for disks of any kind:
-//! `open` and `format` only find and make a folder's files, as `FileDisk`s. What a file really holds is a premise of the
-//! disk model; who joins the chain again, and what is written from then on, is left to those layers.
+//! disk meant. Where that leaves other members out of the chain, `restart` does it only if it is asked to. `format_disks`
+//! formats the members' disks, and makes the first record last. Both are for disks of any kind: `open` and `format` only
+//! find and make a folder's files, as `FileDisk`s. What a file really holds is a premise of the disk model; who joins the
+//! chain again, and what is written from then on, is left to those layers.
 #![tactic(auto)]
 
 mod chosen;

@@ -25,6 +25,10 @@ pub enum Refusal {
     /// No disk is one that the recorded chain goes on from.
     #[error(transparent)]
     Choice(recovery::Refusal),
+    /// The recorded chain has other members beside the one that would go on. To record that one alone takes them out of the
+    /// chain, and nobody asked for it.
+    #[error("193 OthersRecorded")]
+    OthersRecorded,
 }
 
 impl Refusal {
@@ -41,6 +45,7 @@ impl Refusal {
             Refusal::Chain(refusal) => refusal.number(),
             Refusal::Store(refusal) => refusal.number(),
             Refusal::Choice(refusal) => Some(refusal.number()),
+            Refusal::OthersRecorded => Some(193),
         }
     }
 }

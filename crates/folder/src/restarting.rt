@@ -9,14 +9,14 @@ ghost use Rattle.disk_model.specs.Part.{inside};
 ghost use Rattle.gate_journal.specs.Runs.{OnlyReads};
 ghost use Rattle.recovery.specs.declared.refusal.Refusal.TheVariants.{NoneReturned, NotInChain};
 ghost use Rattle.configurations.specs.Record.{Record as Recorded};
-ghost use Rattle.folder.specs.Chain.{HasNoRecord, HasRecord, alone_after, config_part as the_part};
+ghost use Rattle.folder.specs.Chain.{HasNoRecord, HasRecord, MayGoOn, alone_after, config_part as the_part};
 ghost use Rattle.folder.specs.Disks.{NoneIsReturned};
 ghost use Rattle.folder.specs.Found.{IsFault, IsRunning, member_in};
 ghost use Rattle.folder.specs.Refusal.{IsCausedBy, IsOfRestarting};
-ghost use Rattle.folder.specs.Restart.{GoesOn, IsAnswered, IsAtEnd, IsRecordedOver};
+ghost use Rattle.folder.specs.Restart.{GoesOn, IsAnswered, IsAtEnd, IsRecordedOver, SourceLeavesOut};
 
 use crate::Refusal;
-use crate::chosen::{choose_from, take_store};
+use crate::chosen::{choose_allowed, take_store};
 use crate::formatting::config_part;
 use crate::found::{all_disks, find_all};
 use configurations::{ConfigStore, Epoch, Member, Record, records_are_one};
@@ -74,15 +74,19 @@ impl<D: Drop> Refused<D> {
 
 /// A chain of one goes on: the recorded chain is read from the configuration's disk, each disk that returned is opened,
 /// the rule of recovery chooses the source among them, and the source alone is recorded, with the next epoch. Nothing else
-/// is written: the disks that returned are only read, and all are handed back.
+/// is written: the disks that returned are only read, and all are handed back. Where the recorded chain has other members,
+/// that takes them out of it, and it is done only where `alone` asks for it.
 ///
 /// 161 `NoRecord`: the configuration's disk has no record. 191 `NoneReturned`: it has one, and no disk returned. 192
-/// `NotInChain`: none of the disks is the recorded chain's. 162 `NotNext`: no epoch or no number is left. 100 `Memory`, and
-/// what a device refuses. The configuration's disk is handed back, with the record that it had or with the next.
+/// `NotInChain`: none of the disks is the recorded chain's. 193 `OthersRecorded`, with nothing written: there is a source,
+/// the chain has other members, and `alone` doesn't ask to leave them out. 162 `NotNext`: no epoch or no number is left. 100
+/// `Memory`, and what a device refuses. The configuration's disk is handed back, with the record that it had or with the
+/// next.
 pub fn restart<D: Disk + Drop>(
     alloc: Global,
     config: D,
     disks: Vec<D>,
+    alone: bool,
 ) -> Result<Opened<D>, Refused<D>>
     ensures goes_on { D.keeps_model → IfOk result (λ o. GoesOn ⟦<Store<D> as StoreLike>⟧.about ⟦<Store<D> as StoreLike>⟧.keeps
         (D.gives config) (map D.gives disks.items) o.place o.store o.record) }
@@ -115,9 +119,16 @@ pub fn restart<D: Disk + Drop>(
         → (old : Recorded) × HasRecord old (D.gives config) × NoneIsReturned old.members (map D.gives disks.items)) }
     ensures not_next { D.keeps_model → IfErr result (λ e. e.refusal ≡ Refusal.Chain NotNext → IsAtEnd (D.gives config)) }
 
+    // Nobody is left out of the chain unasked. Where it is refused for that, the configuration's disk was only read, too.
+    ensures others_recorded { D.keeps_model → IfErr result (λ e. e.refusal ≡ Refusal.OthersRecorded
+        → SourceLeavesOut alone (D.gives config) (map D.gives disks.items)) }
+    ensures unrecorded { D.keeps_model → IfErr result (λ e. e.refusal ≡ Refusal.OthersRecorded
+        → OnlyReads D.gives D.may_leave_now D.moment D.may_have_left_since config e.config) }
+    ensures allowed { D.keeps_model → IfOk result (λ o. (old : Recorded) × HasRecord old (D.gives config) × MayGoOn alone old) }
+
     // And the other way round.
-    ensures refused { D.keeps_model → IfErr result (λ e. IsAnswered (D.size config) (D.gives config) (map D.gives disks.items) (Some e.refusal)) }
-    ensures done { D.keeps_model → IfOk result (λ o. IsAnswered (D.size config) (D.gives config) (map D.gives disks.items) None) }
+    ensures refused { D.keeps_model → IfErr result (λ e. IsAnswered alone (D.size config) (D.gives config) (map D.gives disks.items) (Some e.refusal)) }
+    ensures done { D.keeps_model → IfOk result (λ o. IsAnswered alone (D.size config) (D.gives config) (map D.gives disks.items) None) }
 
     ensures told { IfErr result (λ e. IsOfRestarting e.refusal) }
     ensures fault { IfErr result (λ e. IfSome e.fault (λ place. IsFault D.failures disks.items e.disks.items place e.refusal)) }
@@ -147,7 +158,7 @@ pub fn restart<D: Disk + Drop>(
             });
         }
     };
-    let chosen = match choose_from(alloc, configs.current(), &found) {
+    let chosen = match choose_allowed(alloc, configs.current(), &found, alone) {
         Ok(chosen) => chosen,
         Err(refusal) => return Err(Refused::alone(refusal, config, all_disks(found, back))),
     };

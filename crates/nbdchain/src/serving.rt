@@ -1,8 +1,11 @@
 //! `serve DIR`: the disk of a folder, for clients of the Network Block Device protocol.
 //!
-//! A chain of one goes on from the folder: where more members are recorded, the source of the recovery goes on alone.
+//! A chain of one goes on from the folder: where more members are recorded, the source of the recovery goes on alone, and
+//! only where `--alone` asks for that.
 ghost use Rattle.std.specs.Prelude.{◌≡◌, ◌⊎◌, [], ◌∷◌, ℕ, List, All, map, slice_get, IfOk, IfSome};
+ghost use Rattle.configurations.specs.Record.{Record as Recorded};
 ghost use Rattle.disk_model.specs.Disk.{LeavesOnly};
+ghost use Rattle.folder.specs.Chain.{HasRecord, MayGoOn};
 ghost use Rattle.folder.specs.Found.{IsRunning, member_in};
 ghost use Rattle.gate_journal.specs.Runs.{OnlyReads};
 ghost use Rattle.life.specs.Begun.{BeginsWith, HasVersionTwo};
@@ -57,12 +60,19 @@ pub(crate) fn words<'a>(alloc: Global) -> Result<Command<'a>, AllocError> {
         .value_parser(value_parser!(u32))
         .default_value("0")
         .help("It ends after so many sessions; 0 is never");
+    let alone = Arg::new(alloc, "alone")
+        .long("alone")
+        .action(ArgAction::SetTrue)
+        .help(
+            "Takes the other members of the recorded chain out of it; else they refuse serve with 193",
+        );
     Command::new(alloc, "serve")
         .about("Serves the disk of a folder by NBD, at 127.0.0.1")
         .after_help(EXAMPLE)
         .arg(dir)?
         .arg(port)?
-        .arg(sessions)
+        .arg(sessions)?
+        .arg(alone)
 }
 
 /// A world that goes on from a folder's disks, and what is printed of it. It has no `Drop`, since a world has none.
@@ -110,7 +120,8 @@ enum Unbegun<D: Disk> {
 /// Serves the folder that the words name, so many sessions.
 ///
 /// 302 `ListenFault` where binding fails, with nothing written to the folder, or accepting. Else as `folder::open`, and as
-/// `folder::restart`, which records the source alone, with the next epoch, before anything else is written.
+/// `folder::restart`, which records the source alone, with the next epoch, before anything else is written: where the
+/// recorded chain has other members, only with `--alone`.
 pub(crate) fn serve_folder<'a, R, O: Write>(
     rt: &R,
     matches: &ArgMatches<'a>,
@@ -131,6 +142,7 @@ where
     let dir = matches.get_str("DIR").ok_or(Refusal::FileFault)?;
     let port = matches.get_one::<u16>("port").unwrap_or(0);
     let sessions = matches.get_one::<u32>("sessions").unwrap_or(0);
+    let alone = matches.get_flag("alone");
     info!(rt; "opening the disks of {dir}");
     let FolderDisks {
         config,
@@ -142,9 +154,10 @@ where
     };
     // A port that can't be had is no reason to record another chain.
     let listener = listen(rt, port)?;
-    let begun = match begin_from(rt.alloc(), config, disks) {
+    let begun = match begin_from(rt.alloc(), config, disks, alone) {
         Ok(begun) => begun,
         Err(Unbegun::Refused(refused)) => {
+            advise(rt, refused.refusal);
             let failure = refused.failure(&slots);
             return Err(Fault::Folder { dir, failure });
         }
@@ -160,6 +173,13 @@ where
         sessions,
     };
     serve_begun(rt, serving, begun, output)
+}
+
+/// Logs what to do about a refusal, where a word of the command does it.
+fn advise<R: Log>(rt: &R, refusal: folder::Refusal) {
+    if refusal == folder::Refusal::OthersRecorded {
+        info!(rt; "the recorded chain has other members: to serve now would take them out of it, and --alone does that");
+    }
 }
 
 /// Serves a world that goes on from a folder's disks. Until its end they are held, and with them the files' locks.
@@ -202,14 +222,18 @@ where
 
 /// A world of one goes on from the configuration's disk and the members' disks that returned, as `restart` has it: it
 /// begins with what the source among them means, and has no clients. Once the source is recorded, its disk is brought to
-/// version 2, if it is of version 1; one of version 2 is only read.
+/// version 2, if it is of version 1; one of version 2 is only read. Where the recorded chain has other members, it goes on
+/// only if it is to go on alone.
 fn begin_from<D: Disk + Drop>(
     alloc: Global,
     config: D,
     disks: Vec<D>,
+    alone: bool,
 ) -> Result<Begun<D>, Unbegun<D>>
     ensures goes_on { D.keeps_model → IfOk result (λ b. GoesOnFrom ⟦<Store<D> as StoreLike>⟧.about ⟦<Store<D> as StoreLike>⟧.keeps ⟦<Store<D> as StoreLike>⟧.may_leave_now
         (D.gives config) (map D.gives disks.items) b.place b.world) }
+    // No other member of the recorded chain is left out of it unasked.
+    ensures allowed { D.keeps_model → IfOk result (λ b. (old : Recorded) × HasRecord old (D.gives config) × MayGoOn alone old) }
     // The source's disk is only read where it is of version 2.
     ensures reads { D.keeps_model → IfOk result (λ b. IfSome (slice_get disks.items b.place) (λ disk. HasVersionTwo (D.gives disk)
         → All (λ member. OnlyReads D.gives D.may_leave_now D.moment D.may_have_left_since disk member.node.store.disk) b.world.chain.members)) }
@@ -219,7 +243,7 @@ fn begin_from<D: Disk + Drop>(
 {
     disks_mean_one();
     superblocks_are_one();
-    let mut opened = match restart(alloc, config, disks) {
+    let mut opened = match restart(alloc, config, disks, alone) {
         Ok(opened) => opened,
         Err(refused) => return Err(Unbegun::Refused(refused)),
     };

@@ -74,8 +74,8 @@ fn exchange(rt: &impl Abort, alloc: Global, stream: &TcpStream, exchange: Exchan
     got.as_slice() == wanted.as_slice()
 }
 
-/// The program serves one session of the folder: its status.
-fn serve_once<R>(rt: &R, dir: &String, port: u16) -> u8
+/// The program serves one session of the folder, with `--alone` or without: its status.
+fn serve_once<R>(rt: &R, dir: &String, port: u16, alone: bool) -> u8
 where
     R: Files<File = File>
         + Net<Listener = TcpListener, Stream = TcpStream>
@@ -99,8 +99,10 @@ where
         port.as_str(),
         "--sessions",
         "1",
+        "--alone",
     ];
-    run_words(rt, &words).status
+    let count = if alone { words.len() } else { words.len() - 1 };
+    run_words(rt, &words[..count]).status
 }
 
 /// A port that nobody listens at.
@@ -124,7 +126,7 @@ fn talk<R: Net<Listener = TcpListener, Stream = TcpStream> + Clock + AllocGlobal
     exchange(rt, alloc, &stream, last) && right
 }
 
-/// A new folder with a chain of one, of 8 blocks.
+/// A new folder with a chain of two, of 8 blocks.
 fn format_folder<R>(rt: &R, dir: &str)
 where
     R: Files<File = File>
@@ -151,10 +153,21 @@ where
         "--area",
         "8214",
         "--members",
-        "1",
+        "2",
     ];
     let formatted = run_words(rt, &words);
-    assert_eq!(rt; shown(&formatted.output), "formatted 1 members, 8 blocks\n");
+    assert_eq!(rt; shown(&formatted.output), "formatted 2 members, 8 blocks\n");
+}
+
+/// The bytes of its files, one file behind the other.
+fn folder_bytes<R: Files<File = File> + AllocGlobal + Abort>(rt: &R, dir: &str) -> Vec<u8> {
+    let mut bytes = Vec::new(rt.alloc());
+    for file in ["config.disk", "slot0.disk", "slot1.disk"] {
+        let path = format!(in rt.alloc(); "{dir}/{file}").expect(rt, "memory");
+        let found = fs::read(rt, path.as_str()).expect(rt, "a file of the folder");
+        bytes.extend_from_slice(&found).expect(rt, "memory");
+    }
+    bytes
 }
 
 #[test]
@@ -162,12 +175,15 @@ fn formatted_and_served(rt: HostRuntime) {
     let id = process::id(rt.process());
     let dir = format!(in rt.alloc(); "/tmp/nbdchain.{id}").expect(&rt, "memory");
     format_folder(&rt, dir.as_str());
+    // The first takes the other member out of the chain.
+    let mut alone = true;
     for exchange in [FIRST_WRITE, FIRST_READ, PLAIN_WRITE, PLAIN_READ] {
         let (port, own_dir) = (free_port(&rt), dir.clone().expect(&rt, "memory"));
-        let server = thread::spawn(&rt, move || serve_once(&rt, &own_dir, port));
+        let server = thread::spawn(&rt, move || serve_once(&rt, &own_dir, port, alone));
         let server = server.expect(&rt, "a thread");
         let right = talk(&rt, port, exchange);
         assert!(rt; server.join(&rt) == 0 && right);
+        alone = false;
     }
     fs::remove_dir_all(&rt, dir.as_str()).expect(&rt, "a folder to remove");
 }
@@ -177,12 +193,29 @@ fn a_busy_port_changes_nothing(rt: HostRuntime) {
     let id = process::id(rt.process());
     let dir = format!(in rt.alloc(); "/tmp/nbdchain.busy.{id}").expect(&rt, "memory");
     format_folder(&rt, dir.as_str());
-    let config = format!(in rt.alloc(); "{dir}/config.disk").expect(&rt, "memory");
-    let before = fs::read(&rt, config.as_str()).expect(&rt, "the record");
+    let before = folder_bytes(&rt, dir.as_str());
     let busy = TcpListener::bind(&rt, (Ipv4Addr::LOCALHOST, 0)).expect(&rt, "a free port");
     let port = busy.local_addr().expect(&rt, "an address").port();
-    assert_eq!(rt; serve_once(&rt, &dir, port), 1);
-    let after = fs::read(&rt, config.as_str()).expect(&rt, "the record");
+    assert_eq!(rt; serve_once(&rt, &dir, port, true), 1);
+    let after = folder_bytes(&rt, dir.as_str());
     assert!(rt; before.as_slice() == after.as_slice());
+    fs::remove_dir_all(&rt, dir.as_str()).expect(&rt, "a folder to remove");
+}
+
+#[test]
+fn others_stay_in_the_chain_unasked(rt: HostRuntime) {
+    let id = process::id(rt.process());
+    let dir = format!(in rt.alloc(); "/tmp/nbdchain.others.{id}").expect(&rt, "memory");
+    format_folder(&rt, dir.as_str());
+    let before = folder_bytes(&rt, dir.as_str());
+    let port = free_port(&rt);
+    let port = format!(in rt.alloc(); "{port}").expect(&rt, "memory");
+    let words = ["nbdchain", "serve", dir.as_str(), "--port", port.as_str()];
+    let refused = run_words(&rt, &words);
+    let told = format!(in rt.alloc(); "nbdchain: 193 OthersRecorded {dir}/config.disk\n");
+    let told = told.expect(&rt, "memory");
+    assert_eq!(rt; shown(&refused.errors), told.as_str());
+    let after = folder_bytes(&rt, dir.as_str());
+    assert!(rt; refused.status == 1 && before.as_slice() == after.as_slice());
     fs::remove_dir_all(&rt, dir.as_str()).expect(&rt, "a folder to remove");
 }

@@ -17,25 +17,30 @@ use std::string::String;
 const FIRST: [u8; 61] =
     *b"\x01\0\0\0\0\0\0\0\x01\0\0\0\x30CRAQCONF\x00\x00\x00\x01\x00\x00\x00\x00\x00\x00\x00\x01\x03\x00\x00\x00\x00\x00\x00\x00\x00\x01\x01\x00\x00\x00\x00\x00\x00\x00\x01\x02\x00\x00\x00\x00\x00\x00\x00\x01";
 
-// What goes on from a folder, or why nothing does.
+// What goes on from a folder, where it may alone if others are recorded, or why nothing does.
 fn gone_on<R: Files<File = File> + AllocGlobal>(
     rt: &R,
     dir: &str,
+    alone: bool,
 ) -> Result<Opened<FileDisk>, Failure> {
     let FolderDisks {
         config,
         slots,
         disks,
     } = open(rt, dir)?;
-    match restart(rt.alloc(), config, disks) {
+    match restart(rt.alloc(), config, disks, alone) {
         Ok(opened) => Ok(opened),
         Err(refused) => Err(refused.failure(&slots)),
     }
 }
 
 // Source, front and epoch of a folder that is opened.
-fn opened<R: Files<File = File> + AllocGlobal + Abort>(rt: &R, dir: &str) -> (u8, u64, u64) {
-    let opened = gone_on(rt, dir).expect(rt, "the folder opens");
+fn opened<R: Files<File = File> + AllocGlobal + Abort>(
+    rt: &R,
+    dir: &str,
+    alone: bool,
+) -> (u8, u64, u64) {
+    let opened = gone_on(rt, dir, alone).expect(rt, "the folder opens");
     (
         opened.source().number(),
         opened.front(),
@@ -43,9 +48,9 @@ fn opened<R: Files<File = File> + AllocGlobal + Abort>(rt: &R, dir: &str) -> (u8
     )
 }
 
-// Why a folder isn't opened.
+// Why a folder isn't opened, where nothing may go on alone if others are recorded.
 fn failure<R: Files<File = File> + AllocGlobal + Abort>(rt: &R, dir: &str) -> Failure {
-    gone_on(rt, dir).err().expect(rt, "a failure")
+    gone_on(rt, dir, false).err().expect(rt, "a failure")
 }
 
 // The folder isn't formatted, and so it is told.
@@ -77,8 +82,36 @@ fn a_folder_of_three(rt: HostRuntime) {
         names = names.saturating_add(1);
     }
     same(&rt, names, 4);
-    same(&rt, opened(&rt, dir), (0, 0, 2));
-    same(&rt, opened(&rt, dir), (0, 0, 3));
+    same(&rt, opened(&rt, dir, true), (0, 0, 2));
+    same(&rt, opened(&rt, dir, true), (0, 0, 3));
+    fs::remove_dir_all(&rt, dir).expect(&rt, "the folder is removed");
+}
+
+#[test]
+fn others_are_left_out_only_where_asked(rt: HostRuntime) {
+    let folder = new_folder(&rt, process::id(rt.process()), "others");
+    let dir = folder.as_str();
+    let layout = Layout::new(8, 4_096, 8_214, 2).expect(&rt, "a layout");
+    format(&rt, dir, layout).expect(&rt, "the folder is formatted");
+    let path = path(&rt, dir, "config.disk");
+    let before = fs::read(&rt, path.as_str()).expect(&rt, "the record");
+    prints(
+        &rt,
+        rt.alloc(),
+        &failure(&rt, dir),
+        "193 OthersRecorded config.disk",
+    );
+    let refused = failure(&rt, dir);
+    same(
+        &rt,
+        (refused.refusal, refused.file),
+        (Refusal::OthersRecorded, FileName::Config),
+    );
+    same(&rt, refused.refusal.number(), Some(193));
+    let after = fs::read(&rt, path.as_str()).expect(&rt, "the record");
+    same(&rt, before.as_slice() == after.as_slice(), true);
+    same(&rt, opened(&rt, dir, true), (0, 0, 2));
+    same(&rt, opened(&rt, dir, false), (0, 0, 3));
     fs::remove_dir_all(&rt, dir).expect(&rt, "the folder is removed");
 }
 
@@ -114,7 +147,7 @@ fn what_is_refused(rt: HostRuntime) {
     prints(&rt, rt.alloc(), &failure(&rt, dir), text);
     let layout = Layout::new(8, 4_096, 8_214, 1).expect(&rt, "a layout");
     format(&rt, dir, layout).expect(&rt, "the folder is formatted");
-    let held = gone_on(&rt, dir).expect(&rt, "the folder opens");
+    let held = gone_on(&rt, dir, false).expect(&rt, "the folder opens");
     let locked = failure(&rt, dir);
     same(
         &rt,
@@ -122,7 +155,7 @@ fn what_is_refused(rt: HostRuntime) {
         (Refusal::FileFault, FileName::Config),
     );
     drop(held);
-    same(&rt, opened(&rt, dir), (0, 0, 3));
+    same(&rt, opened(&rt, dir, false), (0, 0, 3));
     let path = path(&rt, dir, "slot0.disk");
     fs::remove_file(&rt, path.as_str()).expect(&rt, "the file is removed");
     same(&rt, failure(&rt, dir).refusal.number(), Some(191));
@@ -146,14 +179,14 @@ fn a_disk_of_version_one_goes_on(rt: HostRuntime) {
     }
     fs::write(&rt, path.as_str(), &bytes).expect(&rt, "the file is written");
     let FolderDisks { config, disks, .. } = open(&rt, dir).expect(&rt, "the folder's disks");
-    let Ok(mut opened) = restart(rt.alloc(), config, disks) else {
+    let Ok(mut opened) = restart(rt.alloc(), config, disks, false) else {
         panic!(&rt; "no chain")
     };
     same(&rt, opened.store.version(), Version::One);
     opened.migrate().expect(&rt, "the disk is migrated");
     same(&rt, opened.store.version(), Version::Two);
     drop(opened);
-    let again = gone_on(&rt, dir).expect(&rt, "the folder opens");
+    let again = gone_on(&rt, dir, false).expect(&rt, "the folder opens");
     same(&rt, again.store.version(), Version::Two);
     same(&rt, (again.front(), again.epoch().number()), (0, 3));
     drop(again);

@@ -67,6 +67,9 @@ returns-in-Ok-world_of_one-clause-reads g c = λ keeps.
     ap (λ o. o.store) (c.migrate.ensures.untouched (sym (ap (λ (s : Superblock). s.version) same) ∙ two)).1)
     c.in-Ok-world_of_one.world.chain.members c.in-Ok-world_of_one.ensures.same)
 
+pub migrate-requires-clause-keeps : goal.migrate-requires-clause-keeps
+migrate-requires-clause-keeps g c = λ keeps. let on = c.in-Ok.ensures.goes_on keeps in (on.volume, on.kept)
+
 pub world_of_one-requires-clause-keeps : goal.world_of_one-requires-clause-keeps
 world_of_one-requires-clause-keeps g c = λ keeps. let on = c.in-Ok.ensures.goes_on keeps in (on.volume, c.in_default.ensures.kept keeps on.volume on.kept)
 
