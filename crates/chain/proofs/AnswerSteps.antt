@@ -211,6 +211,7 @@ module _ {S : Type 0} (premise : Type 0) (about : S → About) (failures : S →
       recorded = shows.recorded;
       before = shows.before;
       writing = shows.writing;
+      youngest = shows.youngest;
       members = subst (λ l. AllZip IsSo l (twin.over ++ new ∷ twin.under)) (sym (place.setting after)) (twin.others after new place.below twin.under (shown_so twin.own twin.fits known keeping) twin.rest);
       links = shows.links;
       submits = shows.submits;

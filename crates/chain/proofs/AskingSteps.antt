@@ -169,6 +169,7 @@ module _ {S : Type 0} (about : S → About) (keeps : S → List ℕ → Type 0) 
           recorded = shows.recorded;
           before = shows.before;
           writing = shows.writing;
+          youngest = shows.youngest;
           links = shows.links;
           submits = shows.submits;
           members = zip_set (IsShown about keeps may_leave_now (bytes_of old)) old.members v.members at after g shows.members did.2;
@@ -195,6 +196,7 @@ module _ {S : Type 0} (about : S → About) (keeps : S → List ℕ → Type 0) 
           all = append-nil events;
           kept = refl;
           demands = map-set demands_of v.members at g ∙ ap (slice_set (map demands_of v.members) at) did.4;
+          joiner = refl;
         },
       )
 
@@ -227,10 +229,10 @@ cookie_of (tokens.Plain token) write ticket epoch = refl
 cookie_of (tokens.Fua token) write ticket epoch = refl
 
 -- The write is on its way to the head.
-pub submitted_goes : {S : Type 0} (about : S → About) (keeps : S → List ℕ → Type 0) (may_leave_now : S → List ℕ → Type 0) (old new : Chained S) (at : ℕ) (token : WriteToken) (write : Placed) → HasSubmitted at token write old new
-    → (v : View) (events : List ClientEvent) (rest : List Held) → IsUnnumbered token → Shows about keeps may_leave_now old v → IfSome (slice_get v.members at) (λ m. m.demands ≡ asked_by token write ∷ rest) → ArePutOut [] events
+pub submitted_goes : {S : Type 0} (about : S → About) (keeps : S → List ℕ → Type 0) (may_leave_now : S → List ℕ → Type 0) (old new : Chained S) (at : ℕ) (token : WriteToken) (write : Placed) (did : HasSubmitted at token write old new)
+    → is_member did.before.node.state.place ≡ true → (v : View) (events : List ClientEvent) (rest : List Held) → IsUnnumbered token → Shows about keeps may_leave_now old v → IfSome (slice_get v.members at) (λ m. m.demands ≡ asked_by token write ∷ rest) → ArePutOut [] events
     → (w : View) × Shows about keeps may_leave_now new w × GoesTaking (bytes_of old) at rest v w events
-submitted_goes {S} about keeps may_leave_now old new at token write did v events rest unnumbered shows first put_out =
+submitted_goes {S} about keeps may_leave_now old new at token write did placed v events rest unnumbered shows first put_out =
     let before = did.before in
     let after : Linked S = record before { node = record { store = before.node.store; state = (submit token write before.node.state).node } } in
     let own = zip_at (IsShown about keeps may_leave_now (bytes_of old)) old.members v.members at before shows.members did.here in
@@ -246,6 +248,7 @@ submitted_goes {S} about keeps may_leave_now old new at token write did v events
         recorded = shows.recorded;
         before = shows.before;
         writing = shows.writing;
+        youngest = shows.youngest;
         members = zip_set (IsShown about keeps may_leave_now (bytes_of old)) old.members v.members at after g shows.members shown;
         links = shows.links;
         submits = refl;
@@ -270,6 +273,7 @@ submitted_goes {S} about keeps may_leave_now old new at token write did v events
               submits = link_at new.submits;
               were = place.split;
               runs = ap (λ (n : NodeState). n.stopped) node ∙ did.runs;
+              placed = ap (λ (n : NodeState). is_member n.place) node ∙ placed;
               first = subst (λ o. IfSome o (λ m. m.demands ≡ asked_by token write ∷ rest)) own.1 first;
               writes = written_of token write;
               kind = kind_of token write m.node.ticket (epoch_of m.node);
@@ -287,6 +291,7 @@ submitted_goes {S} about keeps may_leave_now old new at token write did v events
         all = append-nil events;
         kept = refl;
         demands = map-set demands_of v.members at g;
+        joiner = refl;
       },
     )
 

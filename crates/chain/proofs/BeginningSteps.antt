@@ -1,13 +1,13 @@
 -- What a chain shows that begins.
 use Rattle.std.proofs.Common.{Bool, cond, eqb, false, get_or, ◌≡◌, ◌≢◌, ℕ, zero, suc, ◌+◌, ◌<◌, ◌≤◌, true, List, [], ◌∷◌, ◌++◌, length, map, refl, ap, subst, sym, ◌∙◌, inl, inr, arith, rules}
-use Rattle.std.specs.Prelude.{All, AllPairs, None, Some, fold, nat_lt, not, replicate, slice_get, slice_index_or, slice_set, ◌*◌, ◌-◌, ◌^◌}
+use Rattle.std.specs.Prelude.{All, AllPairs, max, None, Some, fold, nat_lt, not, replicate, slice_get, slice_index_or, slice_set, ◌*◌, ◌-◌, ◌^◌}
 use Rattle.std.specs.List.{AllZip, flat_map, position_or_len}
 use Rattle.std.specs.Option.{option_map}
 use Rattle.std.specs.Int.{bit_at}
 use Rattle.std.proofs.Math.Seq.{take-nil}
 use Rattle.std.proofs.lemmas.Bool.{cases_lt, cond-false, cond-true, eq-eqb, le-ltb, lt-ltb}
 use Rattle.std.proofs.lemmas.Option.{slice_get-map, slice_get_read}
-use Rattle.std.proofs.lemmas.List.Elements.{All-cons, All-head, All-map, All-nil, All-replicate, All-set, All-tail}
+use Rattle.std.proofs.lemmas.List.Elements.{All-cons, All-head, All-map, All-nil, All-replicate, All-set, All-tail, All-weaker}
 use Rattle.std.proofs.lemmas.List.{get_or_default, length-replicate}
 use Rattle.std.proofs.lemmas.List.Kept.{AllPairs-cons}
 use Rattle.std.proofs.lemmas.Nat.Bits.{bit_at-lt, bit_at-pow_same, bit_at_or}
@@ -27,7 +27,7 @@ use Rattle.chain_model.specs.View.{Member, View, disk_of, slot_of}
 use Rattle.chain.specs.Chain.{Chained, IsFormed, IsIn, Shows, bytes_of, gauges_from, told_of}
 use Rattle.chain.specs.Links.{link_at}
 use Rattle.chain.specs.Member.{IsShown, Linked, fronts_of, member_of, musters_of, receipts_of}
-use Rattle.chain.specs.Opening.{beginning_of, gauges_of, mask_of, recorded_in, words_of}
+use Rattle.chain.specs.Opening.{beginning_of, gauges_of, mask_of, recorded_in, words_of, youngest_of}
 
 -- ---- pairs of a list
 
@@ -111,6 +111,16 @@ found_in slot (y ∷ ys) zero x here is =
     let passes : eqb y.slot slot ≡ true = eq-eqb y.slot slot (ap (λ (m : recorded.Member). m.slot) same ∙ is) in
     rw passes (omega arith)
 found_in slot (y ∷ ys) (suc at) x here is = step_on (eqb y.slot slot) (position_or_len (λ (m : recorded.Member). eqb m.slot slot) ys) (length ys) (found_in slot ys at x here is)
+
+-- no member's incarnation is above the greatest, from any one on
+youngest_from : (y : ℕ) (ms : List recorded.Member) → (y ≤ fold (λ youngest m. max youngest m.incarnation) y ms) × All (λ m. m.incarnation ≤ fold (λ youngest m. max youngest m.incarnation) y ms) ms
+youngest_from y [] = (omega arith, All-nil (λ (m : recorded.Member). m.incarnation ≤ y))
+youngest_from y (m ∷ ms) =
+    let (more, all) = youngest_from (max y m.incarnation) ms in
+    (omega (arith, more), All-cons (λ (x : recorded.Member). x.incarnation ≤ fold (λ youngest k. max youngest k.incarnation) (max y m.incarnation) ms) m ms (omega (arith, more)) all)
+
+dated_all : (ms : List recorded.Member) → All (λ m. m.incarnation ≤ youngest_of ms) ms
+dated_all ms = (youngest_from 0 ms).1
 
 module _ {S : Type 0} (about : S → About) (id : BoardId) (told : Record) where
   abbrev begun : S → Linked S
@@ -210,19 +220,21 @@ module _ {S : Type 0} (about : S → About) (id : BoardId) (told : Record) where
         })
 
     -- the chain begins so
-    pub begins : (c : Chained S) (stores : List S) → c.id ≡ id → c.recorded ≡ told → c.before ≡ told → c.writing ≡ None → c.links ≡ replicate 64 [] → c.submits ≡ replicate 64 []
+    pub begins : (c : Chained S) (stores : List S) → c.id ≡ id → c.recorded ≡ told → c.before ≡ told → c.writing ≡ None → c.youngest ≡ youngest_of told.members → c.links ≡ replicate 64 [] → c.submits ≡ replicate 64 []
         → c.members ≡ map begun stores → map (recorded_in about) stores ≡ told.members → AreMembers told.members
         → c.words ≡ words_of front told.members → bytes_of c ≡ size → All Fits stores → (v : View) × Shows about keeps may_leave_now c v × IsBeginning front volume v
-    begins c stores of_board now_is before_is writing links submits are told_are members words sizes fits = (
-      record { told = told_of c; recorded = c.recorded; before = c.before; writing = c.writing; members = map (shown volume) stores; links = link_at c.links; submits = link_at c.submits; kept = [] },
-      record { told = refl; recorded = refl; before = refl; writing = refl; members = rw (are, sizes) (begun_shown stores fits); links = refl; submits = refl },
+    begins c stores of_board now_is before_is writing youngest links submits are told_are members words sizes fits = (
+      record { told = told_of c; recorded = c.recorded; before = c.before; writing = c.writing; youngest = c.youngest; joiner = None; members = map (shown volume) stores; links = link_at c.links; submits = link_at c.submits; kept = [] },
+      record { told = refl; recorded = refl; before = refl; writing = refl; youngest = refl; members = rw (are, sizes) (begun_shown stores fits); links = refl; submits = refl },
       record {
         idle = rw now_is (begun_idle stores fits);
         slots = subst (AllPairs (λ slot other. slot ≢ other)) (sym (slots_shown volume stores ∙ ap (map (λ (m : recorded.Member). m.slot)) told_are))
             (pairs_map (λ (slot other : ℕ). slot ≢ other) (λ (m : recorded.Member). m.slot) told.members members.once);
         recorded_are = ap (λ (r : Record). r.members) now_is ∙ sym told_are ∙ sym (recorded_shown volume stores);
+        dated = rw (youngest, now_is) (dated_all told.members);
         before_is = before_is ∙ sym now_is;
         not_writing = writing;
+        no_joiner = refl;
         no_links = λ from to. ap (λ links. link_at links from to) links ∙ nothing_sent from to;
         no_submits = λ from to. ap (λ links. link_at links from to) submits ∙ nothing_sent from to;
         told = ap (λ w. w.front) words;

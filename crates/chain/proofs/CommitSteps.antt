@@ -26,6 +26,8 @@ use Rattle.world_model.specs.Backing.{Disk, IsBacked, IsOnDisk}
 use Rattle.world_model.specs.Chain.{ArePutOut, BoardInUse}
 use Rattle.world_model.proofs.Counting.{all_before, all_behind, all_between, flat_same, flat_split}
 use Rattle.world_model.specs.Event.{ClientEvent}
+use Rattle.chain_model.proofs.JoiningSteps.{counted_still}
+use Rattle.chain_model.specs.Chain.{IsWithin}
 use Rattle.chain_model.specs.Life.{BeginCommit, BoardTells, Stop}
 use Rattle.chain_model.specs.View.{Member, View, disks_of}
 use Rattle.chain.specs.Chain.{Chained, Goes, IsFormed, Shows, bytes_of, gauges_from, told_of}
@@ -170,11 +172,12 @@ gauge_raised P receipt rises slot (gauge ∷ gauges) (suc at) here all =
     (gauge_raised P receipt rises (slot + 1) gauges at (omega (arith, here)) (All-tail P (record { slot = slot; front = gauge }) (gauges_from (slot + 1) gauges) all))
 
 -- the board tells something else, and no member changes
-pub board_tells : {size : ℕ} (v : View) (told : BoardInUse) (over : List Member) (m : Member) (under : List Member) (events : List ClientEvent) → v.members ≡ over ++ m ∷ under → told.front ≡ v.told.front
+pub board_tells : {size : ℕ} (v : View) (told : BoardInUse) (over : List Member) (m : Member) (under : List Member) (events : List ClientEvent) → v.members ≡ over ++ m ∷ under → told.front ≡ v.told.front → told.mask ≡ v.told.mask
+    → (IsWithin v.told.front v.told.gauges v.told.receipts v.told.musters → IsWithin told.front told.gauges told.receipts told.musters)
     → ((disks : List Disk) → IsBacked v.told.front v.told.mask v.told.gauges v.told.receipts v.told.musters disks → IsBacked told.front told.mask told.gauges told.receipts told.musters disks)
     → (All (λ f. f ≤ v.told.front) v.told.fronts → All (λ f. f ≤ told.front) told.fronts) → ArePutOut [] events
     → Goes size v (record v { told = told; members = over ++ m ∷ under }) events
-board_tells {size} v told over m under events are front backed fronts put_out = record {
+board_tells {size} v told over m under events are front mask within backed fronts put_out = record {
   happenings = BoardTells ∷ [];
   each = [] ∷ [];
   inner = refl;
@@ -183,7 +186,7 @@ board_tells {size} v told over m under events are front backed fronts put_out = 
     [],
     [],
     refl,
-    (record { told = told; front = front; backed = backed (disks_of v.recorded v.writing v.members); fronts = fronts; are = ap (λ (ms : List Member). record v { told = told; members = ms }) (sym are) }, refl),
+    (record { told = told; front = front; within = within; joiner = counted_still v told.mask mask; backed = backed (disks_of v.recorded v.writing v.members); fronts = fronts; are = ap (λ (ms : List Member). record v { told = told; members = ms }) (sym are) }, refl),
     (refl, refl),
   );
   all = sym put_out;
@@ -219,6 +222,7 @@ module _ {S : Type 0} (about : S → About) (keeps : S → List ℕ → Type 0) 
           recorded = shows.recorded;
           before = shows.before;
           writing = shows.writing;
+          youngest = shows.youngest;
           members = subst (λ l. AllZip IsSo l (twin.over ++ did.0 ∷ twin.under)) (sym (place.setting after)) (twin.others after did.0 place.below twin.under did.1 twin.rest);
           links = shows.links;
           submits = shows.submits;
@@ -393,12 +397,25 @@ module _ {S : Type 0} (about : S → About) (keeps : S → List ℕ → Type 0) 
           mustered = rw (gathers (λ x. musters_of x.muster) rid refl) is.mustered;
         }
 
+    posted_within : IsWithin old.words.front (told_of old).gauges (told_of old).receipts (told_of old).musters
+        → IsWithin old.words.front (told_of (with_words (posted old.words receipt) rid)).gauges (told_of (with_words (posted old.words receipt) rid)).receipts (told_of (with_words (posted old.words receipt) rid)).musters
+    posted_within is =
+        let own : All (λ r. r.front ≤ old.words.front) (receipt ∷ []) = subst (λ r. All (λ x. x.front ≤ old.words.front) (receipts_of r)) had (gathers_own (λ x. receipts_of x.receipt) (λ r. r.front ≤ old.words.front) is.receipts_within) in
+        let low : receipt.front ≤ old.words.front = All-head (λ (r : Receipt). r.front ≤ old.words.front) receipt [] own in
+        record {
+          gauges_within = gauge_raised (λ r. r.front ≤ old.words.front) receipt (λ front was. raised_on front receipt.front old.words.front was low) 0 old.words.gauges receipt.slot (omega arith) is.gauges_within;
+          receipts_within = gathers_all (λ x. receipts_of x.receipt) (λ r. r.front ≤ old.words.front) rid (λ all. All-nil (λ (r : Receipt). r.front ≤ old.words.front)) is.receipts_within;
+          musters_within = rw (gathers (λ x. musters_of x.muster) rid refl) is.musters_within;
+        }
+
     pub posted_goes : (v : View) (events : List ClientEvent) → ShowsSo old v → ArePutOut [] events → (w : View) × ShowsSo (with_words (posted old.words receipt) rid) w × Goes (bytes_of old) v w events
     posted_goes v events shows put_out = one_goes (posted old.words receipt) rid v events shows (λ over m under are so. (
       m,
       shown_still about keeps may_leave_now old before rid m m so so.is refl refl refl refl (λ runs. runs),
       board_tells v (told_of (with_words (posted old.words receipt) rid)) over m under events are
           (sym (ap (λ (t : BoardInUse). t.front) shows.told))
+          (sym (ap (λ (t : BoardInUse). t.mask) shows.told))
+          (λ is. posted_within (subst (λ (t : BoardInUse). IsWithin t.front t.gauges t.receipts t.musters) shows.told is))
           (λ disks is. posted_backed disks (subst (λ (t : BoardInUse). IsBacked t.front t.mask t.gauges t.receipts t.musters disks) shows.told is))
           (λ all. rw (gathers (λ x. fronts_of x.front) rid refl) (subst (λ (t : BoardInUse). All (λ f. f ≤ t.front) t.fronts) shows.told all))
           put_out,

@@ -25,7 +25,9 @@ use Rattle.world_model.specs.Chain.{ArePutOut, BoardInUse}
 use Rattle.world_model.proofs.Counting.{all_at, flat_split, maps_same}
 use Rattle.world_model.specs.Event.{ClientEvent}
 use Rattle.world_model.specs.Machine.{State}
-use Rattle.chain_model.specs.Chain.{StandsFor}
+use Rattle.chain_model.proofs.Orderly.{committed_fronts}
+use Rattle.chain_model.proofs.JoiningSteps.{counted_still}
+use Rattle.chain_model.specs.Chain.{IsWithin, StandsFor}
 use Rattle.chain_model.specs.Laws.{with_members}
 use Rattle.chain_model.specs.Life.{BoardTells, Does, Doing, EndCommit, IsToldOfDisks, MemberDoes}
 use Rattle.chain_model.specs.View.{Member, View, disk_in, disk_of, disks_of, may_be_recorded, slot_of}
@@ -250,7 +252,7 @@ module _ {S : Type 0} (premise : Type 0) (about : S → About) (is_pending : S �
           -- the receipt is on its disk
           on_disk : (over : List Member) (m : Member) (others : List Member) → v.members ≡ over ++ m ∷ others → IsSo before m → IsOnDisk (disks_of v.recorded v.writing (over ++ shown_as m ∷ others)) is.receipt
           on_disk over m others are fits =
-              let (line, backed, stand) = stands in
+              let ((line, backed, stand), joins) = stands in
               let slot : slot_of (shown_as m) ≡ slot_of m = sym (ap (λ (x : Member). x.node.place.slot) fits.is) in
               let apart : AllPairs (λ slot other. slot ≢ other) (map slot_of (over ++ shown_as m ∷ others)) =
               subst (AllPairs (λ slot other. slot ≢ other)) (ap (map slot_of) are ∙ sym (maps_same slot_of over m (shown_as m) others slot)) stand.slots in
@@ -265,11 +267,30 @@ module _ {S : Type 0} (premise : Type 0) (about : S → About) (is_pending : S �
             mustered = rw (gathers about keeps may_leave_now old at before here (λ x. musters_of x.muster) done refl) was.mustered;
           }
 
+          -- and within the front: what is committed with it is known
+          is_committed : (over : List Member) (m : Member) (others : List Member) → v.members ≡ over ++ m ∷ others → IsSo before m → is.receipt.front ≤ old.words.front
+          is_committed over m others are fits =
+              let node : m.node ≡ before.node.state = ap (λ (x : Member). x.node) fits.is in
+              let (from, known, has) = committed_fronts (bytes_of old) v over m others s (subst (λ (ms : List Member). StandsFor (bytes_of old) (with_members v ms) s) are stands) (ap (λ (n : NodeState). n.stopped) node ∙ did.runs) in
+              let low : before.node.state.known ≤ old.words.front = subst (λ (t : BoardInUse). before.node.state.known ≤ t.front) shows.told (subst (λ (n : NodeState). n.known ≤ v.told.front) node known) in
+              omega (arith, low, way.known, ap (λ (r : Receipt). r.front) is.ended.receipt_is)
+
+          within_so : is.receipt.front ≤ old.words.front → IsWithin old.words.front (told_of old).gauges (told_of old).receipts (told_of old).musters
+              → IsWithin old.words.front (told_of chain_then).gauges (told_of chain_then).receipts (told_of chain_then).musters
+          within_so low was = record {
+            gauges_within = was.gauges_within;
+            receipts_within = gathers_all about keeps may_leave_now old at before here (λ x. receipts_of x.receipt) (λ r. r.front ≤ old.words.front) done
+                (λ all. All-cons (λ (r : Receipt). r.front ≤ old.words.front) is.receipt [] low (All-nil (λ (r : Receipt). r.front ≤ old.words.front))) was.receipts_within;
+            musters_within = rw (gathers about keeps may_leave_now old at before here (λ x. musters_of x.muster) done refl) was.musters_within;
+          }
+
           tells : (over : List Member) (m : Member) (others : List Member) → v.members ≡ over ++ m ∷ others → IsSo before m
               → IsToldOfDisks (with_members v (over ++ shown_as m ∷ others)) (record v { told = told_of chain_then; members = over ++ shown_as m ∷ others })
           tells over m others are fits = record {
             told = told_of chain_then;
             front = sym (ap (λ (t : BoardInUse). t.front) shows.told);
+            within = λ was. within_so (is_committed over m others are fits) (subst (λ (t : BoardInUse). IsWithin t.front t.gauges t.receipts t.musters) shows.told was);
+            joiner = counted_still v (told_of chain_then).mask (sym (ap (λ (t : BoardInUse). t.mask) shows.told));
             backed = λ was. backed_so (disks_of v.recorded v.writing (over ++ shown_as m ∷ others)) (on_disk over m others are fits)
                 (subst (λ (t : BoardInUse). IsBacked t.front t.mask t.gauges t.receipts t.musters (disks_of v.recorded v.writing (over ++ shown_as m ∷ others))) shows.told was);
             fronts = λ all. rw (gathers about keeps may_leave_now old at before here (λ x. fronts_of x.front) done refl) (subst (λ (t : BoardInUse). All (λ f. f ≤ t.front) t.fronts) shows.told all);

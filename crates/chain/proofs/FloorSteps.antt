@@ -6,7 +6,7 @@ use Rattle.std.specs.Option.{ForSome}
 use Rattle.std.proofs.lemmas.Bool.{cases_lt}
 use Rattle.std.proofs.lemmas.List.{append-nil, map-append}
 use Rattle.std.proofs.lemmas.Nat.Bits.{bit_at_above}
-use Rattle.std.proofs.lemmas.List.Elements.{All-append, All-cons, All-head, All-nil, All-tail}
+use Rattle.std.proofs.lemmas.List.Elements.{All-append, All-cons, All-push, All-head, All-nil, All-tail}
 use Rattle.board.specs.Mask.{counts, slots_below}
 use Rattle.board.specs.Seats.{FoundCrew, FoundFront, FoundGauge as GaugeOfSeat}
 use Rattle.board.proofs.MaskLemmas.{slots_below-contains}
@@ -25,7 +25,8 @@ use Rattle.world_model.specs.Chain.{ArePutOut, BoardInUse}
 use Rattle.world_model.proofs.Counting.{all_before, all_behind, flat_same, flat_split}
 use Rattle.world_model.specs.Event.{ClientEvent}
 use Rattle.world_model.specs.Machine.{State}
-use Rattle.chain_model.specs.Chain.{StandsFor}
+use Rattle.chain_model.proofs.JoiningSteps.{counted_still}
+use Rattle.chain_model.specs.Chain.{IsWithin, StandsFor}
 use Rattle.chain_model.specs.Laws.{with_members}
 use Rattle.chain_model.specs.Life.{AnswerFloor, BoardTells, Does, Doing, IsToldOfDisks, MemberDoes, Stop}
 use Rattle.chain_model.specs.View.{Member, View, disks_of}
@@ -94,13 +95,15 @@ stands_now {S} old now v s same stands = subst (λ (c : Chained S). StandsFor (b
 -- what is told then is so, where what was told is
 pub record TellsSo (was is : BoardInUse) : Type 0 where
   pub front : is.front ≡ was.front
+  pub mask : is.mask ≡ was.mask
+  pub within : IsWithin was.front was.gauges was.receipts was.musters → IsWithin is.front is.gauges is.receipts is.musters
   pub backed : (disks : List Disk) → IsBacked was.front was.mask was.gauges was.receipts was.musters disks → IsBacked is.front is.mask is.gauges is.receipts is.musters disks
   pub fronts : All (λ f. f ≤ was.front) was.fronts → All (λ f. f ≤ is.front) is.fronts
 
 told_so : (v : View) (was is : BoardInUse) → v.told ≡ was → TellsSo was is → IsToldOfDisks v (record v { told = is })
 told_so v was is shown so =
     let here : TellsSo v.told is = subst (λ t. TellsSo t is) (sym shown) so in
-    record { told = is; front = here.front; backed = here.backed (disks_of v.recorded v.writing v.members); fronts = here.fronts; are = refl }
+    record { told = is; front = here.front; within = here.within; joiner = counted_still v is.mask here.mask; backed = here.backed (disks_of v.recorded v.writing v.members); fronts = here.fronts; are = refl }
 
 module _ {S : Type 0} (about : S → About) (keeps : S → List ℕ → Type 0) (may_leave_now : S → List ℕ → Type 0) (old : Chained S) (at : ℕ) (before after : Linked S) (here : slice_get old.members at ≡ Some before) where
   abbrev now : Chained S
@@ -121,6 +124,7 @@ module _ {S : Type 0} (about : S → About) (keeps : S → List ℕ → Type 0) 
           recorded = shows.recorded;
           before = shows.before;
           writing = shows.writing;
+          youngest = shows.youngest;
           members = subst (AllZip IsSo (slice_set old.members at after)) (sym twin.are)
               (subst (λ l. AllZip IsSo l (twin.over ++ twin.own ∷ twin.under)) (sym (place.setting after)) (twin.others after twin.own place.below twin.under (stays twin.own twin.fits) twin.rest));
           links = shows.links;
@@ -149,6 +153,7 @@ module _ {S : Type 0} (about : S → About) (keeps : S → List ℕ → Type 0) 
           recorded = shows.recorded;
           before = shows.before;
           writing = shows.writing;
+          youngest = shows.youngest;
           members = subst (λ l. AllZip IsSo l (twin.over ++ did.0 ∷ twin.under)) (sym (place.setting after)) (twin.others after did.0 place.below twin.under did.1 twin.rest);
           links = shows.links;
           submits = shows.submits;
@@ -204,6 +209,16 @@ gauge_on disks first (suc k) (front ∷ fronts) all =
     subst (λ slot. IsOnDisk disks (record { slot = slot; front = slice_index fronts k })) next
     (gauge_on disks (first + 1) k fronts (All-tail (IsOnDisk disks) (record { slot = first; front = front }) (gauges_from (first + 1) fronts) all))
 
+-- and within the front, as all on the board are
+abbrev GaugesWithin : ℕ → model.Muster → Type 0
+GaugesWithin front m = All (λ r. r.front ≤ front) m.gauges
+
+gauge_within : (front first k : ℕ) (fronts : List ℕ) → All (λ r. r.front ≤ front) (gauges_from first fronts) → slice_index fronts k ≤ front
+gauge_within front first k [] all = omega arith
+gauge_within front first zero (gauge ∷ fronts) all = All-head (λ (r : Receipt). r.front ≤ front) (record { slot = first; front = gauge }) (gauges_from (first + 1) fronts) all
+gauge_within front first (suc k) (gauge ∷ fronts) all =
+    gauge_within front (first + 1) k fronts (All-tail (λ (r : Receipt). r.front ≤ front) (record { slot = first; front = gauge }) (gauges_from (first + 1) fronts) all)
+
 -- gauges as they are seen, of those without whose they are
 abbrev receipt_of : FoundGauge → Receipt
 receipt_of gauge = record { slot = gauge.slot; front = gauge.front }
@@ -239,6 +254,8 @@ module _ {S : Type 0} (about : S → About) (old : Chained S) (at : ℕ) (before
     found_so : TellsSo (told_of old) (told_of then)
     found_so = record {
       front = refl;
+      mask = refl;
+      within = λ is. rw (gathered (λ m. receipts_of m.receipt) old.members at before after here (ap (λ m. receipts_of m.receipt) did.are), gathered (λ m. musters_of m.muster) old.members at before after here (ap (λ m. musters_of m.muster) did.are)) is;
       backed = λ disks is. rw (gathered (λ m. receipts_of m.receipt) old.members at before after here (ap (λ m. receipts_of m.receipt) did.are), gathered (λ m. musters_of m.muster) old.members at before after here (ap (λ m. musters_of m.muster) did.are)) is;
       fronts = of_all (λ m. fronts_of m.front) old.members at before after here (λ f. f ≤ old.words.front)
           (λ was. subst (λ (m : Linked S). All (λ f. f ≤ old.words.front) (fronts_of m.front)) (sym did.are) (All-cons (λ f. f ≤ old.words.front) did.front.number [] (omega (arith, did.of_number)) (All-nil (λ f. f ≤ old.words.front))));
@@ -264,6 +281,15 @@ module _ {S : Type 0} (about : S → About) (old : Chained S) (at : ℕ) (before
     mustered_so : did.front.number ≤ old.words.front → TellsSo (told_of old) (told_of then)
     mustered_so committed = record {
       front = refl;
+      mask = refl;
+      within = λ is. rw (gathered (λ m. receipts_of m.receipt) old.members at before after here (ap (λ m. receipts_of m.receipt) did.are)) (record {
+        gauges_within = is.gauges_within;
+        receipts_within = is.receipts_within;
+        musters_within = of_all (λ m. musters_of m.muster) old.members at before after here (GaugesWithin old.words.front)
+            (λ was. subst (λ (m : Linked S). All (GaugesWithin old.words.front) (musters_of m.muster)) (sym did.are)
+            (All-cons (GaugesWithin old.words.front) (muster_seen did.muster) [] (rw did.none_yet (All-nil (λ (r : Receipt). r.front ≤ old.words.front))) (All-nil (GaugesWithin old.words.front))))
+            is.musters_within;
+      });
       backed = λ disks is. rw (gathered (λ m. receipts_of m.receipt) old.members at before after here (ap (λ m. receipts_of m.receipt) did.are)) (record {
         mask_covers = is.mask_covers;
         gauges_backed = is.gauges_backed;
@@ -284,7 +310,7 @@ module _ {S : Type 0} (about : S → About) (old : Chained S) (at : ℕ) (before
 
     pub mustered_goes : (keeps : S → List ℕ → Type 0) (may_leave_now : S → List ℕ → Type 0) (v : View) (s : State) (events : List ClientEvent) → Shows about keeps may_leave_now old v → StandsFor (bytes_of old) v s → ArePutOut [] events
         → (w : View) × Shows about keeps may_leave_now then w × Goes (bytes_of old) v w events
-    mustered_goes keeps may_leave_now v s events shows (line, backed, stands) put_out =
+    mustered_goes keeps may_leave_now v s events shows ((line, backed, stands), joins) put_out =
         let told : All (λ f. f ≤ (told_of old).front) (told_of old).fronts = subst (λ (t : BoardInUse). All (λ f. f ≤ t.front) t.fronts) shows.told stands.fronts in
         let own : All (λ f. f ≤ old.words.front) (fronts_of before.front) = of_one (λ m. fronts_of m.front) old.members at before after here (λ f. f ≤ old.words.front) told in
         let committed : did.front.number ≤ old.words.front = All-head (λ f. f ≤ old.words.front) did.front.number [] (subst (λ (o : Option FoundFront). All (λ f. f ≤ old.words.front) (fronts_of o)) did.had own) in
@@ -306,6 +332,15 @@ module _ {S : Type 0} (about : S → About) (old : Chained S) (at : ℕ) (before
     gauged_so : TellsSo (told_of old) (told_of then)
     gauged_so = record {
       front = refl;
+      mask = refl;
+      within = λ is. rw (gathered (λ m. receipts_of m.receipt) old.members at before after here (ap (λ m. receipts_of m.receipt) did.are)) (record {
+        gauges_within = is.gauges_within;
+        receipts_within = is.receipts_within;
+        musters_within = of_all (λ m. musters_of m.muster) old.members at before after here (GaugesWithin old.words.front)
+            (λ was. subst (λ (m : Linked S). All (GaugesWithin old.words.front) (musters_of m.muster)) (sym did.are)
+            (All-cons (GaugesWithin old.words.front) (muster_seen did.after) [] (one_more_within is.gauges_within was) (All-nil (GaugesWithin old.words.front))))
+            is.musters_within;
+      });
       backed = λ disks is. rw (gathered (λ m. receipts_of m.receipt) old.members at before after here (ap (λ m. receipts_of m.receipt) did.are)) (record {
         mask_covers = is.mask_covers;
         gauges_backed = is.gauges_backed;
@@ -318,6 +353,15 @@ module _ {S : Type 0} (about : S → About) (old : Chained S) (at : ℕ) (before
       fronts = λ all. rw (gathered (λ m. fronts_of m.front) old.members at before after here (ap (λ m. fronts_of m.front) did.are)) all;
     }
       where
+        -- the gauge that it has found is within the front, as all on the board are
+        one_more_within : All (λ r. r.front ≤ old.words.front) (gauges_from 0 old.words.gauges) → All (GaugesWithin old.words.front) (musters_of before.muster) → GaugesWithin old.words.front (muster_seen did.after)
+        one_more_within all was =
+            let slot = next_of did.before in
+            let one : All (λ r. r.front ≤ old.words.front) (map gauge_seen did.before.gauges) =
+            All-head (GaugesWithin old.words.front) (muster_seen did.before) [] (subst (λ (o : Option Muster). All (GaugesWithin old.words.front) (musters_of o)) did.had was) in
+            subst (All (λ r. r.front ≤ old.words.front)) (sym (one_seen did.before.gauges did.after.gauges (gauge_in old.words slot) did.one_more))
+            (All-push (λ r. r.front ≤ old.words.front) (map gauge_seen did.before.gauges) (record { slot = slot; front = slice_index old.words.gauges slot }) one (gauge_within old.words.front 0 slot old.words.gauges all))
+
         goes_on : (disks : List Disk) → IsBacked old.words.front old.words.mask (told_of old).gauges (told_of old).receipts (told_of old).musters disks
             → All (IsMustered old.words.front disks) (musters_of before.muster) → IsMustered old.words.front disks (muster_seen did.after)
         goes_on disks is was =
@@ -375,6 +419,14 @@ module _ {S : Type 0} (about : S → About) (old : Chained S) (at : ℕ) (before
     settled_so : TellsSo (told_of old) (told_of (record old { members = slice_set old.members at after }))
     settled_so = record {
       front = refl;
+      mask = refl;
+      within = λ was. rw (gathered (λ m. receipts_of m.receipt) old.members at before after here (ap (λ m. receipts_of m.receipt) did.are)) (record {
+        gauges_within = was.gauges_within;
+        receipts_within = was.receipts_within;
+        musters_within = of_all (λ m. musters_of m.muster) old.members at before after here (GaugesWithin old.words.front)
+            (λ one. subst (λ (m : Linked S). All (GaugesWithin old.words.front) (musters_of m.muster)) (sym did.are) (All-nil (GaugesWithin old.words.front)))
+            was.musters_within;
+      });
       backed = λ disks was. rw (gathered (λ m. receipts_of m.receipt) old.members at before after here (ap (λ m. receipts_of m.receipt) did.are)) (record {
         mask_covers = was.mask_covers;
         gauges_backed = was.gauges_backed;
@@ -409,7 +461,7 @@ module _ {S : Type 0} (about : S → About) (old : Chained S) (at : ℕ) (before
 
   pub settled_goes : (keeps : S → List ℕ → Type 0) (may_leave_now : S → List ℕ → Type 0) (v : View) (s : State) (events : List ClientEvent) → Shows about keeps may_leave_now old v → StandsFor (bytes_of old) v s → ArePutOut replies events
       → (w : View) × Shows about keeps may_leave_now (record old { members = slice_set old.members at after }) w × Goes (bytes_of old) v w events
-  settled_goes keeps may_leave_now v s events shows (line, backed, stands) put_out =
+  settled_goes keeps may_leave_now v s events shows ((line, backed, stands), joins) put_out =
       let floor = least_of did.muster.crew.front (gauges_of did.muster.gauges) in
       let disks = disks_of v.recorded v.writing v.members in
       let told : All (IsMustered old.words.front disks) (told_of old).musters = subst (λ (t : BoardInUse). All (IsMustered t.front disks) t.musters) shows.told stands.disks.mustered in

@@ -108,6 +108,7 @@ module _ {S : Type 0} (about : S → About) (old : Chained S) (at : ℕ) (before
           recorded = shows.recorded;
           before = shows.before;
           writing = shows.writing;
+          youngest = shows.youngest;
           members = subst (λ l. AllZip IsSo l (twin.over ++ new ∷ twin.under)) (sym (place.setting after)) (twin.others after new place.below twin.under
               (rw did.are (shown_still about keeps may_leave_now old before _ twin.own new twin.fits (ap (λ (x : Member). record x { node = record x.node { found = Some (Raised did.front) } }) twin.fits.is) refl refl refl refl (λ runs. runs)))
               twin.rest);

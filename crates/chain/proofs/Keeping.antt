@@ -4,7 +4,7 @@ use Rattle.std.proofs.lemmas.Bool.{cases_Bool}
 use Rattle.world_model.proofs.Counting.{maps_same}
 use Rattle.world_model.specs.Event.{ClientEvent}
 use Rattle.chain_model.proofs.Changing.{demands_of}
-use Rattle.chain_model.specs.Life.{AnswerFloor, AnswerFront, BeginCommit, BoardTells, Does, Doing, EndCommit, Era, FrontHeld, FrontRaised, Happening, Happens, KeepRaised, LookUp, MemberDoes, MemberSubmits, MemberTakes, MemberTold, MessageTaken, RaisedKnown, RecordBegun, RecordEnded, RequestsSent, RequestsTakenUp, SessionBegins, SessionEnds, Stop, SubmitTaken}
+use Rattle.chain_model.specs.Life.{AnswerFloor, AnswerFront, BeginCommit, BoardTells, Does, Doing, EndCommit, Era, FrontHeld, FrontRaised, Happening, Happens, JoinBegun, JoinEnded, JoinerCounted, JoinerLeft, KeepRaised, LookUp, MemberDoes, MemberForgotten, MemberSubmits, MemberTakes, MemberTold, MessageTaken, RaisedKnown, RecordBegun, RecordEnded, RequestsSent, RequestsTakenUp, SessionBegins, SessionEnds, Stop, SubmitTaken}
 use Rattle.chain_model.specs.View.{Member, View}
 use Rattle.chain.specs.Chain.{Goes, are_inner, is_inner}
 
@@ -42,11 +42,40 @@ happens_keep size FrontRaised v w events inner is = (ap (λ (x : View). x.kept) 
 happens_keep size BoardTells v w events inner is = (ap (λ (x : View). x.kept) is.0.are, ap (λ (x : View). map demands_of x.members) is.0.are)
 happens_keep size RecordBegun v w events inner is = (ap (λ (x : View). x.kept) is.0.are, ap (λ (x : View). map demands_of x.members) is.0.are)
 happens_keep size RecordEnded v w events inner is = (ap (λ (x : View). x.kept) is.0.are, ap (λ (x : View). map demands_of x.members) is.0.are)
+happens_keep size JoinerCounted v w events inner is = let no : false ≡ true = inner in absurd (cc)
+happens_keep size JoinerLeft v w events inner is = let no : false ≡ true = inner in absurd (cc)
+happens_keep size JoinBegun v w events inner is = let no : false ≡ true = inner in absurd (cc)
+happens_keep size JoinEnded v w events inner is = let no : false ≡ true = inner in absurd (cc)
+happens_keep size MemberForgotten v w events inner is = let no : false ≡ true = inner in absurd (cc)
 happens_keep size MemberTold v w events inner is = one_keeps v w is.above is.member _ is.below (ap (λ (x : View). x.kept) is.are) is.were (ap (λ (x : View). x.members) is.are) refl
 happens_keep size SessionBegins v w events inner is = let no : false ≡ true = inner in absurd (cc)
 happens_keep size SessionEnds v w events inner is = let no : false ≡ true = inner in absurd (cc)
 happens_keep size RequestsSent v w events inner is = let no : false ≡ true = inner in absurd (cc)
 happens_keep size RequestsTakenUp v w events inner is = let no : false ≡ true = inner in absurd (cc)
+
+-- who joins stays
+happens_leaves : (size : ℕ) (h : Happening) (v w : View) (events : List ClientEvent) → is_inner h ≡ true → Happens size h v w events → w.joiner ≡ v.joiner
+happens_leaves size (MemberTakes taking) v w events inner is = let no : false ≡ true = inner in absurd (cc)
+happens_leaves size MemberSubmits v w events inner is = let no : false ≡ true = inner in absurd (cc)
+happens_leaves size (MemberDoes doing) v w events inner is = ap (λ (x : View). x.joiner) is.are
+happens_leaves size RaisedKnown v w events inner is = ap (λ (x : View). x.joiner) is.are
+happens_leaves size FrontHeld v w events inner is = ap (λ (x : View). x.joiner) is.are
+happens_leaves size MessageTaken v w events inner is = ap (λ (x : View). x.joiner) is.are
+happens_leaves size SubmitTaken v w events inner is = ap (λ (x : View). x.joiner) is.are
+happens_leaves size FrontRaised v w events inner is = ap (λ (x : View). x.joiner) is.0.are
+happens_leaves size BoardTells v w events inner is = ap (λ (x : View). x.joiner) is.0.are
+happens_leaves size RecordBegun v w events inner is = ap (λ (x : View). x.joiner) is.0.are
+happens_leaves size RecordEnded v w events inner is = ap (λ (x : View). x.joiner) is.0.are
+happens_leaves size JoinerCounted v w events inner is = let no : false ≡ true = inner in absurd (cc)
+happens_leaves size JoinerLeft v w events inner is = let no : false ≡ true = inner in absurd (cc)
+happens_leaves size JoinBegun v w events inner is = let no : false ≡ true = inner in absurd (cc)
+happens_leaves size JoinEnded v w events inner is = let no : false ≡ true = inner in absurd (cc)
+happens_leaves size MemberForgotten v w events inner is = let no : false ≡ true = inner in absurd (cc)
+happens_leaves size MemberTold v w events inner is = ap (λ (x : View). x.joiner) is.are
+happens_leaves size SessionBegins v w events inner is = let no : false ≡ true = inner in absurd (cc)
+happens_leaves size SessionEnds v w events inner is = let no : false ≡ true = inner in absurd (cc)
+happens_leaves size RequestsSent v w events inner is = let no : false ≡ true = inner in absurd (cc)
+happens_leaves size RequestsTakenUp v w events inner is = let no : false ≡ true = inner in absurd (cc)
 
 -- ---- one thing after another
 
@@ -65,6 +94,14 @@ era_keeps size v (h ∷ hs) w each inner (mid, now, later, are, happens, rest) =
     let first = happens_keep size h v mid now both.0 happens in
     let then = era_keeps size mid hs w later both.1 rest in
     (then.0 ∙ first.0, then.1 ∙ first.1)
+
+era_leaves : (size : ℕ) (v : View) (hs : List Happening) (w : View) (each : List (List ClientEvent)) → are_inner hs ≡ true → Era size v hs w each → w.joiner ≡ v.joiner
+era_leaves size v [] w each inner (same, none) = ap (λ (x : View). x.joiner) same
+era_leaves size v (h ∷ hs) w each inner (mid, now, later, are, happens, rest) =
+    let both = first_and_rest h hs inner in era_leaves size mid hs w later both.1 rest ∙ happens_leaves size h v mid now both.0 happens
+
+pub goes_leaves : {size : ℕ} (v w : View) (events : List ClientEvent) → Goes size v w events → w.joiner ≡ v.joiner
+goes_leaves {size} v w events goes = era_leaves size v goes.happenings w goes.each goes.inner goes.era
 
 -- so does a call
 pub goes_keeps : {size : ℕ} (v w : View) (events : List ClientEvent) → Goes size v w events → (w.kept ≡ v.kept) × (map (λ m. m.demands) w.members ≡ map (λ m. m.demands) v.members)

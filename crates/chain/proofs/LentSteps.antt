@@ -192,6 +192,7 @@ module _ {S : Type 0} (old : Chained S) (at : ℕ) (before after : Linked S) (he
             recorded = shows.recorded;
             before = shows.before;
             writing = shows.writing;
+            youngest = shows.youngest;
             members = subst (λ l. AllZip IsSo l (twin.over ++ own ∷ twin.under)) (sym (at_one.setting (in_state state))) (twin.others (in_state state) own at_one.below twin.under (record {
               is = ap (λ (x : Member). record x { node = state }) twin.fits.is;
               whole = twin.fits.whole;

@@ -256,6 +256,7 @@ module _ {S : Type 0} (about : S → About) (keeps : S → List ℕ → Type 0) 
             recorded = shows.recorded;
             before = shows.before;
             writing = shows.writing;
+            youngest = shows.youngest;
             members = members_then at is.before is.here v s shows stands from is.envelope is.stepped is.taken is.ran;
             links = refl;
             submits = shows.submits;
@@ -289,6 +290,7 @@ module _ {S : Type 0} (about : S → About) (keeps : S → List ℕ → Type 0) 
             recorded = shows.recorded;
             before = shows.before;
             writing = shows.writing;
+            youngest = shows.youngest;
             members = members_then at is.before is.here v s shows stands from is.envelope is.stepped is.taken is.ran;
             links = refl;
             submits = refl;

@@ -1,5 +1,5 @@
 -- The record changes, and a member is told it: what is shown of the chain then, and what happened in it.
-use Rattle.std.proofs.Common.{◌≡◌, ◌≢◌, ◌⊎◌, ℕ, suc, ◌+◌, ◌-◌, ◌*◌, ◌<◌, ◌≤◌, cond, Bool, true, false, List, [], ◌∷◌, ◌++◌, length, map, refl, ap, sym, subst, ◌∙◌, arith, inl, inr}
+use Rattle.std.proofs.Common.{◌≡◌, ◌≢◌, ◌⊎◌, ℕ, suc, ◌+◌, ◌-◌, ◌*◌, ◌<◌, ◌≤◌, cond, Bool, true, false, Option, None, Some, List, [], ◌∷◌, ◌++◌, length, map, refl, ap, sym, subst, ◌∙◌, arith, inl, inr}
 use Rattle.std.specs.Prelude.{All, Option, None, Some, Result, Ok, Err, IfErr, IfOk, is_some, nat_le, option_map, slice_get, slice_set}
 use Rattle.std.specs.List.{AllZip}
 use Rattle.std.proofs.lemmas.Bool.{cases_Bool, cond-true}
@@ -26,7 +26,7 @@ use Rattle.world_model.specs.Chain.{ArePutOut, BoardInUse}
 use Rattle.world_model.proofs.Counting.{all_behind}
 use Rattle.world_model.specs.Event.{ClientEvent}
 use Rattle.world_model.specs.Machine.{State}
-use Rattle.chain_model.specs.Chain.{StandsFor}
+use Rattle.chain_model.specs.Chain.{IsWithin, StandsFor}
 use Rattle.chain_model.specs.Laws.{HasSent, IsNext}
 use Rattle.chain_model.specs.Life.{BoardTells, MemberTold, RecordBegun, RecordEnded}
 use Rattle.chain_model.specs.View.{Member, View, disk_in, disk_of, disks_of, is_in}
@@ -286,22 +286,24 @@ module _ {S : Type 0} (about : S → About) (keeps : S → List ℕ → Type 0) 
   begins_goes next follows none nothing =
       let w : View = record v { writing = Some next } in (
         w,
-        record { told = shows.told; recorded = shows.recorded; before = shows.before; writing = refl; members = shows.members; links = shows.links; submits = shows.submits },
+        record { told = shows.told; recorded = shows.recorded; before = shows.before; writing = refl; youngest = shows.youngest; members = shows.members; links = shows.links; submits = shows.submits },
         just_goes (bytes_of old) v w RecordBegun events refl (record { next = next; follows = is_next next follows; none = shows.writing ∙ none; are = refl }, nothing),
       )
 
-  pub counts_out_goes : (slot : ℕ) → incarnation_in old.recorded slot ≡ None → old.writing ≡ None
+  pub counts_out_goes : v.joiner ≡ None → (slot : ℕ) → incarnation_in old.recorded slot ≡ None → old.writing ≡ None
       → ((other : ℕ) → other ≢ slot → counts old.words.mask other ≡ true → counts (counted_out old.words slot).mask other ≡ true) → events ≡ [] → GoesOn (record old { words = counted_out old.words slot })
-  counts_out_goes slot gone none others nothing =
+  counts_out_goes alone slot gone none others nothing =
       let new : Chained S = record old { words = counted_out old.words slot } in
       let w : View = record v { told = told_of new } in
       let written : v.writing ≡ None = shows.writing ∙ none in (
         w,
-        record { told = refl; recorded = shows.recorded; before = shows.before; writing = shows.writing; members = shows.members; links = shows.links; submits = shows.submits },
+        record { told = refl; recorded = shows.recorded; before = shows.before; writing = shows.writing; youngest = shows.youngest; members = shows.members; links = shows.links; submits = shows.submits },
         just_goes (bytes_of old) v w BoardTells events refl (
           record {
             told = told_of new;
             front = sym (ap (λ (t : BoardInUse). t.front) shows.told);
+            within = λ is. subst (λ (t : BoardInUse). IsWithin t.front t.gauges t.receipts t.musters) shows.told is;
+            joiner = λ j here. let no : None ≡ Some j = sym alone ∙ here in cc;
             backed = λ is.
                 let now = told_of old in
                 let was = subst (λ (t : BoardInUse). IsBacked t.front t.mask t.gauges t.receipts t.musters (disks_of v.recorded v.writing v.members)) shows.told is in
@@ -316,16 +318,17 @@ module _ {S : Type 0} (about : S → About) (keeps : S → List ℕ → Type 0) 
         ),
       )
 
-  pub ends_goes : (next : Record) → old.writing ≡ Some next → IsNextOf old next → AllTold old → events ≡ [] → GoesOn (record old { recorded = next; before = old.recorded; writing = None })
-  ends_goes next begun follows all nothing =
+  pub ends_goes : v.joiner ≡ None → (next : Record) → old.writing ≡ Some next → IsNextOf old next → AllTold old → events ≡ [] → GoesOn (record old { recorded = next; before = old.recorded; writing = None })
+  ends_goes alone next begun follows all nothing =
       let w : View = record v { recorded = next; before = v.recorded; writing = None } in (
         w,
-        record { told = shows.told; recorded = refl; before = shows.recorded; writing = refl; members = shows.members; links = shows.links; submits = shows.submits },
+        record { told = shows.told; recorded = refl; before = shows.recorded; writing = refl; youngest = shows.youngest; members = shows.members; links = shows.links; submits = shows.submits },
         just_goes (bytes_of old) v w RecordEnded events refl (
           record {
             next = next;
             follows = is_next next follows;
             begun = shows.writing ∙ begun;
+            alone = alone;
             told = all_shown about keeps may_leave_now (bytes_of old) (λ n. n.stopped ≡ None → epoch_of n ≡ v.recorded.epoch) old.members v.members shows.members
                 (subst (λ (r : Record). All (λ (m : Linked S). m.node.state.stopped ≡ None → epoch_of m.node.state ≡ r.epoch) old.members) (sym shows.recorded) all);
             are = refl;
@@ -349,6 +352,7 @@ module _ {S : Type 0} (about : S → About) (keeps : S → List ℕ → Type 0) 
           recorded = shows.recorded;
           before = shows.before;
           writing = shows.writing;
+          youngest = shows.youngest;
           members = subst (λ l. AllZip (IsShown about keeps may_leave_now (bytes_of old)) l (t.over ++ record t.own { node = is.stepped.node } ∷ t.under)) (sym (place.setting after))
               (t.others after (record t.own { node = is.stepped.node }) place.below t.under
               (shown_still about keeps may_leave_now old is.before after t.own (record t.own { node = is.stepped.node }) t.fits refl refl refl so.table so.known (λ on. sym so.stopped ∙ on)) t.rest);

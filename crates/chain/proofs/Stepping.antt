@@ -105,6 +105,7 @@ module _ {S : Type 0} (about : S → About) (keeps : S → List ℕ → Type 0) 
             recorded = shows.recorded;
             before = shows.before;
             writing = shows.writing;
+            youngest = shows.youngest;
             members = subst (λ l. AllZip IsSo l (twin.over ++ did.0 ∷ twin.under)) (sym (place.setting after)) (twin.others after did.0 place.below twin.under did.1 twin.rest);
             links = shows.links;
             submits = shows.submits;

@@ -92,6 +92,7 @@ pub record GoesTaking (size at : ℕ) (rest : List Held) (v w : View) (events : 
   pub all : all_events each ≡ events
   pub kept : w.kept ≡ v.kept
   pub demands : map (λ m. m.demands) w.members ≡ slice_set (map (λ m. m.demands) v.members) at rest
+  pub joiner : w.joiner ≡ v.joiner
 
 -- The member at the place takes the first demand of its sessions, which is this one, and whatever state of the one volume the
 -- chain stood for, that can happen in such a chain.

@@ -1,5 +1,5 @@
 -- What contracts see of a chain, what holds of every one, and when a call of it is of the one volume.
-use Rattle.std.specs.Prelude.{◌≡◌, ℕ, ◌+◌, ◌*◌, Bool, ◌&&◌, false, true, Option, Some, List, [], ◌∷◌, All, length, slice_get, slice_set}
+use Rattle.std.specs.Prelude.{◌≡◌, ℕ, ◌+◌, ◌*◌, Bool, ◌&&◌, false, true, Option, None, Some, List, [], ◌∷◌, All, length, slice_get, slice_set}
 use Rattle.std.specs.List.{AllZip, flat_map}
 use Rattle.std.specs.Option.{ForSome}
 use Rattle.board.specs.Seats.{BoardId}
@@ -16,14 +16,14 @@ use Rattle.world_model.specs.Event.{ClientEvent}
 use Rattle.world_model.specs.Life.{all_events}
 use Rattle.world_model.specs.Machine.{State}
 use Rattle.chain_model.specs.Chain.{StandsFor}
-use Rattle.chain_model.specs.Life.{BoardTells, Era, FrontHeld, FrontRaised, Happening, MemberDoes, MemberSubmits, MemberTakes, MemberTold, MessageTaken, RaisedKnown, RecordBegun, RecordEnded, RequestsSent, RequestsTakenUp, SessionBegins, SessionEnds, SubmitTaken}
+use Rattle.chain_model.specs.Life.{BoardTells, Era, FrontHeld, FrontRaised, Happening, JoinBegun, JoinEnded, JoinerCounted, JoinerLeft, MemberDoes, MemberForgotten, MemberSubmits, MemberTakes, MemberTold, MessageTaken, RaisedKnown, RecordBegun, RecordEnded, RequestsSent, RequestsTakenUp, SessionBegins, SessionEnds, SubmitTaken}
 use Rattle.chain_model.specs.View.{View}
 use Rattle.chain.specs.Links.{AreInside, link_at}
 use Rattle.chain.specs.LoneBoard.{Words}
 use Rattle.chain.specs.Member.{IsFrontOf, IsMusterOf, IsShown, Linked, fronts_of, musters_of, receipts_of}
 
 -- A chain: its board with the words on it and the one seat; the recorded chain, the one recorded before it, and the record that is
--- being written; the sizes of its volume; whoever stands at the slots; and the chain links and submit links between these.
+-- being written; the greatest incarnation that was recorded since it began; the sizes of its volume; whoever stands at the slots; and the chain links and submit links between these.
 pub record Chained (S : Type 0) : Type 0 where
   pub id : BoardId
   pub seat : ℕ
@@ -31,6 +31,7 @@ pub record Chained (S : Type 0) : Type 0 where
   pub recorded : Record
   pub before : Record
   pub writing : Option Record
+  pub youngest : ℕ
   pub geometry : Geometry
   pub members : List (Linked S)
   pub links : List (List Envelope)
@@ -75,12 +76,13 @@ told_of c = record {
 abbrev pub bytes_of : {S : Type 0} → Chained S → ℕ
 bytes_of c = 4096 * c.geometry.blocks
 
--- The chain is shown so, with what its sessions keep, whatever that is.
+-- The chain is shown so, with what its sessions keep and who joins it, whatever that is: whoever runs the chain has the joiner's disk.
 pub record Shows {S : Type 0} (about : S → About) (keeps : S → List ℕ → Type 0) (may_leave_now : S → List ℕ → Type 0) (c : Chained S) (v : View) : Type 0 where
   pub told : v.told ≡ told_of c
   pub recorded : v.recorded ≡ c.recorded
   pub before : v.before ≡ c.before
   pub writing : v.writing ≡ c.writing
+  pub youngest : v.youngest ≡ c.youngest
   pub members : AllZip (IsShown about keeps may_leave_now (bytes_of c)) c.members v.members
   pub links : v.links ≡ link_at c.links
   pub submits : v.submits ≡ link_at c.submits
@@ -102,7 +104,7 @@ pub record RestsAt {S : Type 0} (at : ℕ) (old new : Chained S) : Type 0 where
   pub stopped : is_stopped member.node.state ≡ true
   pub same : new ≡ old
 
--- this is neither of sessions nor of what waits for a member
+-- this is neither of sessions nor of what waits for a member, and leaves who joins and who is a member
 abbrev pub is_inner : Happening → Bool
 is_inner (MemberTakes taking) = false
 is_inner MemberSubmits = false
@@ -115,6 +117,11 @@ is_inner FrontRaised = true
 is_inner BoardTells = true
 is_inner RecordBegun = true
 is_inner RecordEnded = true
+is_inner JoinerCounted = false
+is_inner JoinerLeft = false
+is_inner JoinBegun = false
+is_inner JoinEnded = false
+is_inner MemberForgotten = false
 is_inner MemberTold = true
 is_inner SessionBegins = false
 is_inner SessionEnds = false
@@ -138,4 +145,10 @@ pub record Goes (size : ℕ) (v w : View) (events : List ClientEvent) : Type 0 w
 abbrev pub IsOfOneVolume : {S : Type 0} → (S → About) → (S → List ℕ → Type 0) → (S → List ℕ → Type 0) → Chained S → Chained S → List GivenReply → Type 0
 IsOfOneVolume about keeps may_leave_now old new replies =
     (v : View) (s : State) (events : List ClientEvent) → Shows about keeps may_leave_now old v → StandsFor (bytes_of old) v s → ArePutOut replies events
+    → (w : View) × Shows about keeps may_leave_now new w × Goes (bytes_of old) v w events
+
+-- So it is of a chain that nobody joins.
+abbrev pub IsOfOneVolumeAlone : {S : Type 0} → (S → About) → (S → List ℕ → Type 0) → (S → List ℕ → Type 0) → Chained S → Chained S → List GivenReply → Type 0
+IsOfOneVolumeAlone about keeps may_leave_now old new replies =
+    (v : View) (s : State) (events : List ClientEvent) → Shows about keeps may_leave_now old v → v.joiner ≡ None → StandsFor (bytes_of old) v s → ArePutOut replies events
     → (w : View) × Shows about keeps may_leave_now new w × Goes (bytes_of old) v w events

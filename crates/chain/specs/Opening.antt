@@ -1,5 +1,5 @@
 -- How a chain begins.
-use Rattle.std.specs.Prelude.{◌≡◌, ℕ, IfSome, None, true, false, List, [], All, fold, replicate, slice_get, slice_set}
+use Rattle.std.specs.Prelude.{◌≡◌, ℕ, max, IfSome, None, true, false, List, [], All, fold, replicate, slice_get, slice_set}
 use Rattle.board.specs.Mask.{with_slot}
 use Rattle.board.specs.Seats.{BoardId}
 use Rattle.configurations.specs.Record.{Record}
@@ -44,6 +44,10 @@ AreEven about stores = IfSome (slice_get stores 0) (λ first. All (λ store. ((a
 -- the mask that counts the slots of these members
 abbrev pub mask_of : List Member → ℕ
 mask_of members = fold (λ mask m. with_slot mask m.slot) 0 members
+
+-- the greatest of their incarnations
+abbrev pub youngest_of : List Member → ℕ
+youngest_of members = fold (λ youngest m. max youngest m.incarnation) 0 members
 
 -- the gauges of their slots at this front, and the others at 0
 abbrev pub gauges_of : ℕ → List Member → List ℕ

@@ -25,6 +25,8 @@ pub struct Chain<S: StoreLike> {
     pub(crate) before: Record,
     /// The record that is being written.
     pub(crate) writing: Option<Record>,
+    /// The greatest incarnation that was recorded since it began.
+    pub(crate) youngest: u64,
     pub(crate) geometry: Geometry,
     /// Whoever stands at the slots: a member that was removed too.
     pub(crate) members: Vec<Member<S>>,
@@ -46,6 +48,7 @@ impl<S: StoreLike> Model for Chain<S> {
       recorded = c.recorded;
       before = c.before;
       writing = c.writing;
+      youngest = c.youngest;
       geometry = c.geometry;
       members = c.members.items;
       links = c.links;
@@ -59,6 +62,7 @@ impl<S: StoreLike> Model for Chain<S> {
       recorded = c.recorded;
       before = c.before;
       writing = c.writing;
+      youngest = c.youngest;
       geometry = c.geometry;
       members = c.members.items;
       links = c.links;

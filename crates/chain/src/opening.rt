@@ -5,7 +5,7 @@ ghost use Rattle.local_store.specs.About.{IsOfVersionTwo};
 ghost use Rattle.chain_model.specs.Laws.{IsBeginning};
 ghost use Rattle.chain_model.specs.View.{View};
 ghost use Rattle.chain.specs.Chain.{Shows};
-ghost use Rattle.chain.specs.Opening.{AreEven, beginning_of, gauges_of, mask_of, recorded_in, words_of};
+ghost use Rattle.chain.specs.Opening.{AreEven, beginning_of, gauges_of, mask_of, recorded_in, words_of, youngest_of};
 
 use crate::chain::Chain;
 use crate::links::Links;
@@ -48,7 +48,7 @@ impl<S: StoreLike + Drop> Chain<S> {
         requires version { All (λ store. IsOfVersionTwo (S.about store)) stores.items }
         requires here { All (λ store. (S.about store).lent ≡ None) stores.items }
         requires keeps { S.keeps_model → All (λ store. (volume : List ℕ) × S.keeps store volume × (length volume ≡ size_of (S.about store))) stores.items }
-        ensures told { IfOk result (λ chain. (chain.recorded ≡ told) × (chain.before ≡ told) × (chain.writing ≡ None)) }
+        ensures told { IfOk result (λ chain. (chain.recorded ≡ told) × (chain.before ≡ told) × (chain.writing ≡ None) × (chain.youngest ≡ youngest_of told.members)) }
         ensures links { IfOk result (λ chain. (chain.links ≡ replicate 64 []) × (chain.submits ≡ replicate 64 [])) }
         ensures sizes { IfOk result (λ chain. IfSome (slice_get stores.items 0) (λ first. chain.geometry ≡ (S.about first).geometry)) }
         ensures words { IfOk result (λ chain. IfSome (slice_get stores.items 0) (λ first. chain.words ≡ words_of (S.about first).front told.members)) }
@@ -65,6 +65,7 @@ impl<S: StoreLike + Drop> Chain<S> {
         };
         let mask = mask_of(told.members());
         let gauges = gauges_of(front, told.members());
+        let youngest = youngest_of(told.members());
         let Ok(board) = LoneBoard::new(alloc, front, mask, gauges) else {
             return Err(stores);
         };
@@ -87,6 +88,7 @@ impl<S: StoreLike + Drop> Chain<S> {
             recorded: told,
             before,
             writing: None,
+            youngest,
             geometry,
             members,
             links,
@@ -106,6 +108,7 @@ impl<S: StoreLike + Drop> Chain<S> {
             recorded: _,
             before: _,
             writing: _,
+            youngest: _,
             geometry: _,
             mut members,
             links: _,
@@ -187,6 +190,20 @@ fn mask_of(members: &[Recorded]) -> u8
         mask |= 1 << member.slot.number();
     }
     mask
+}
+
+/// The greatest of these members' incarnations.
+fn youngest_of(members: &[Recorded]) -> u64
+    ensures { result ≡ youngest_of members.now }
+{
+    let mut youngest = 0;
+    for member in members {
+        let incarnation = member.incarnation.number();
+        if youngest < incarnation {
+            youngest = incarnation;
+        }
+    }
+    youngest
 }
 
 /// The gauges of these members' slots at this front.

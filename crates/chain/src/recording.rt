@@ -4,7 +4,7 @@ ghost use Rattle.chain_core.specs.Node.{IsInside, size_of};
 ghost use Rattle.chain_core.specs.Refusal.{number_of};
 ghost use Rattle.chain_steps.specs.Node.{Refused, epoch_of};
 ghost use Rattle.chain_steps.specs.Steps.{told};
-ghost use Rattle.chain.specs.Chain.{IsOfOneVolume};
+ghost use Rattle.chain.specs.Chain.{IsOfOneVolume, IsOfOneVolumeAlone};
 ghost use Rattle.chain.specs.Commits.{replies_of};
 ghost use Rattle.chain.specs.Recording.{HaltsAt, HasBegunRecord, HasCountedOut, HasEndedRecord, HasRunOut, HasStoppedThere, IsLeftOut, IsNextOf, IsToldAt, IsToldTo, IsUntoldAt, IsWithoutOne, MayBegin, MayEnd, next_in};
 
@@ -122,7 +122,7 @@ impl<S: StoreLike + Drop> Chain<S> {
     pub fn end_record(&mut self) -> bool
         ensures ended { result ≡ true → MayEnd self.old × HasEndedRecord self.old self.new }
         ensures idle { result ≡ false → ¬ MayEnd self.old × (self.new ≡ self.old) }
-        ensures one_volume { S.keeps_model → IsOfOneVolume S.about S.keeps S.may_leave_now self.old self.new [] }
+        ensures one_volume { S.keeps_model → IsOfOneVolumeAlone S.about S.keeps S.may_leave_now self.old self.new [] }
     {
         if !self.may_end() {
             return false;
@@ -159,7 +159,7 @@ impl<S: StoreLike + Drop> Chain<S> {
     pub fn count_out(&mut self, slot: Slot) -> bool
         ensures out { result ≡ true → IsLeftOut self.old slot × HasCountedOut slot self.old self.new }
         ensures idle { result ≡ false → ¬ IsLeftOut self.old slot × (self.new ≡ self.old) }
-        ensures one_volume { S.keeps_model → IsOfOneVolume S.about S.keeps S.may_leave_now self.old self.new [] }
+        ensures one_volume { S.keeps_model → IsOfOneVolumeAlone S.about S.keeps S.may_leave_now self.old self.new [] }
     {
         if self.writing.is_some() || incarnation_in(&self.recorded, slot).is_some() {
             return false;

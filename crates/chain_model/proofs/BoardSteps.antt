@@ -10,12 +10,13 @@ use Rattle.version_table.specs.Held.{writes_upto}
 use Rattle.version_table.specs.declared.kept.Kept.{Kept}
 use Rattle.version_table.specs.declared.kept.Origin.{Origin}
 use Rattle.volume.specs.Writes.{patched, volume_of}
+use Rattle.gate_journal.specs.Receipt.{Receipt}
 use Rattle.chain_steps.specs.Node.{last_of}
 use Rattle.chain_steps.specs.Place.{incarnation_in, is_it, is_tail}
 use Rattle.chain_steps.specs.declared.message.Envelope.{Envelope}
 use Rattle.chain_steps.specs.declared.message.Message.{Message}
 use Rattle.chain_steps.specs.declared.message.Message.TheVariants as messages
-use Rattle.world_model.specs.Backing.{Disk, IsBacked}
+use Rattle.world_model.specs.Backing.{Muster, Disk, IsBacked}
 use Rattle.world_model.proofs.BackingSteps.{backs_committed}
 use Rattle.world_model.specs.Chain.{AreBefore}
 use Rattle.world_model.proofs.Counting.{all_at, all_behind, flat_same, flat_split, maps_same}
@@ -31,7 +32,7 @@ use Rattle.world_model.specs.Requests.{Held, Requests, Submitted, sent_event}
 use Rattle.world_model.specs.Requests as requests
 use Rattle.world_model.proofs.TokenSteps.{first_writes_are, raises}
 use Rattle.chain_model.specs.Turning.{Stands}
-use Rattle.chain_model.specs.Chain.{AreLinked, ArePlaced, Belongs, HasApplied, HasVolume, IsTold, StandsFor, StandsWith}
+use Rattle.chain_model.specs.Chain.{AreLinked, ArePlaced, Belongs, HasApplied, HasVolume, IsBehind, IsTold, IsWithin, MembersStand, StandsWith}
 use Rattle.chain_model.proofs.Changing.{Goes, all_changed, around, plays_of, requests_split}
 use Rattle.chain_model.specs.Laws.{Connects, Forgets, HasSent, IsOnEachDisk, RaisesFront, SendsAll, TakesUp, TellsDisks, with_members}
 use Rattle.chain_model.proofs.NetSteps.{Reach, hops_same, node_here, nodes_same, reach_of, volume_in_line}
@@ -51,7 +52,7 @@ goes_on size w s line backed old events plays stands rest =
 
 -- what of the board is in use changes, but not its front
 pub tells_disks : TellsDisks
-tells_disks size v w same backed fronts = plays_of size v (record v { told = w }) []
+tells_disks size v w same within backed fronts = plays_of size v (record v { told = w }) []
     (λ s line b stands. (
       [],
       s,
@@ -69,12 +70,16 @@ tells_disks size v w same backed fronts = plays_of size v (record v { told = w }
           links = subst (λ (f : ℕ). AreLinked v.recorded v.before f v.links v.submits) (sym same) stands.links;
           numbers = stands.numbers;
           disks = backed stands.disks;
+          within = within stands.within;
           backs = stands.backs;
           fronts = fronts stands.fronts;
           raised = subst (λ (f : ℕ). All (λ front. front ≤ f) (flat_map raised_of v.members)) (sym same) stands.raised;
           clients = subst (λ (f : ℕ). requests.StandsFor b (record (requests_of v line) { front = f }) s) (sym same) stands.clients;
           slots = stands.slots;
           tickets = All-weaker (AreBefore (requests_of v line)) (AreBefore (requests_of (record v { told = w }) line)) (λ next is. record { line = is.line; submits = is.submits; tokens = is.tokens }) (map next_of v.members) stands.tickets;
+          dated = stands.dated;
+          dated_before = stands.dated_before;
+          origins = stands.origins;
         },
       ),
     ))
@@ -93,6 +98,17 @@ linked_more recorded before front more links submits le is = record {
       (λ e was. (was.0, belongs_more recorded before front more e.epoch from to e.message le was.1)) (links from to) (is.links_of from to);
   submits_of = is.submits_of;
 }
+
+-- what the board tells is within more
+within_more : (front more : ℕ) (gauges receipts : List Receipt) (musters : List Muster) → front ≤ more → IsWithin front gauges receipts musters → IsWithin more gauges receipts musters
+within_more front more gauges receipts musters le is = record {
+  gauges_within = weaker gauges is.gauges_within;
+  receipts_within = weaker receipts is.receipts_within;
+  musters_within = All-weaker (λ (m : Muster). All (λ r. r.front ≤ front) m.gauges) (λ m. All (λ r. r.front ≤ more) m.gauges) (λ m was. weaker m.gauges was) musters is.musters_within;
+}
+  where
+    weaker : (rs : List Receipt) → All (λ r. r.front ≤ front) rs → All (λ r. r.front ≤ more) rs
+    weaker rs all = All-weaker (λ (r : Receipt). r.front ≤ front) (λ r. r.front ≤ more) (λ r was. omega (arith, le, was)) rs all
 
 module _ (size : ℕ) (v : View) (above : List Member) (tail : Member) (below : List Member) where
   abbrev unraised : View
@@ -127,12 +143,16 @@ module _ (size : ℕ) (v : View) (above : List Member) (tail : Member) (below : 
         links = linked_more v.recorded v.before v.told.front (last_of tail.node) v.links v.submits grows stands.links;
         numbers = stands.numbers;
         disks = backs_committed v.told.front v.told.mask v.told.gauges v.told.receipts v.told.musters (disks_of v.recorded v.writing (above ++ tail ∷ below)) stands.disks (last_of tail.node) grows;
+        within = within_more v.told.front (last_of tail.node) v.told.gauges v.told.receipts v.told.musters grows stands.within;
         backs = stands.backs;
         fronts = All-weaker (λ f. f ≤ v.told.front) (λ f. f ≤ last_of tail.node) (λ f le. omega (arith, grows, le)) v.told.fronts stands.fronts;
         raised = All-weaker (λ f. f ≤ v.told.front) (λ f. f ≤ last_of tail.node) (λ f le. omega (arith, grows, le)) (flat_map raised_of (above ++ tail ∷ below)) stands.raised;
         clients = clients;
         slots = stands.slots;
         tickets = All-weaker (AreBefore (requests_of unraised line)) (AreBefore (requests_of raised line)) (λ next was. record { line = was.line; submits = was.submits; tokens = was.tokens }) (map next_of (above ++ tail ∷ below)) stands.tickets;
+        dated = stands.dated;
+        dated_before = stands.dated_before;
+        origins = stands.origins;
       })
 
 -- a tail that may raise the front raises it to its last applied write
@@ -145,7 +165,7 @@ raises_front size v above tail below runs turned free ends = plays_of size (unra
 -- what sessions keep changes, and no member
 keeps_else : (size : ℕ) (v : View) (kept : List (List Held)) (events : List ClientEvent)
     → ((line : List Kept) (backed : ℕ) → Plays size (requests.StandsFor backed (requests_of v line)) (requests.StandsFor backed (record (requests_of v line) { kept = kept })) events)
-    → Plays size (StandsFor size v) (StandsFor size (record v { kept = kept })) events
+    → Plays size (MembersStand size v) (MembersStand size (record v { kept = kept })) events
 keeps_else size v kept events clients = plays_of size v (record v { kept = kept }) events
     (λ s line backed stands. goes_on size (record v { kept = kept }) s line backed (requests_of v line) events (clients line backed) stands.clients
     (λ t after. record {
@@ -157,12 +177,16 @@ keeps_else size v kept events clients = plays_of size v (record v { kept = kept 
       links = stands.links;
       numbers = stands.numbers;
       disks = stands.disks;
+      within = stands.within;
       backs = stands.backs;
       fronts = stands.fronts;
       raised = stands.raised;
       clients = after;
       slots = stands.slots;
       tickets = All-weaker (AreBefore (requests_of v line)) (AreBefore (requests_of (record v { kept = kept }) line)) (λ next was. record { line = was.line; submits = was.submits; tokens = was.tokens }) (map next_of v.members) stands.tickets;
+      dated = stands.dated;
+      dated_before = stands.dated_before;
+      origins = stands.origins;
     }))
 
 -- a client's session begins
@@ -211,7 +235,8 @@ module _ (size : ℕ) (v : View) (above : List Member) (m : Member) (below : Lis
     close = is.close;
     first = is.first;
     stands = subst (λ (slots : List ℕ). All (λ s. Contains slots s) (map (λ r. r.slot) v.recorded.members)) (sym same_slots) is.stands;
-    stood = subst (λ (slots : List ℕ). All (λ s. Contains slots s) (map (λ r. r.slot) v.before.members)) (sym same_slots) is.stood;
+    stood = subst (λ (slots : List ℕ). All (λ x. IsBehind v.recorded x.node → All (λ s. Contains slots s) (map (λ r. r.slot) v.before.members)) (above ++ taker ∷ below)) (sym same_slots)
+        (all_changed (λ x. IsBehind v.recorded x.node → All (λ s. Contains (slots_of (above ++ m ∷ below)) s) (map (λ r. r.slot) v.before.members)) above m taker below (λ was. was) is.stood);
     told = all_changed (λ x. IsTold v.recorded v.before x.node) above m taker below (λ was. was) is.told;
   }
 
@@ -245,12 +270,16 @@ module _ (size : ℕ) (v : View) (above : List Member) (m : Member) (below : Lis
     links = stands.links;
     numbers = all_changed HasApplied above m taker below (λ was. was) stands.numbers;
     disks = subst (λ (ds : List Disk). IsBacked v.told.front v.told.mask v.told.gauges v.told.receipts v.told.musters ds) (sym (flat_same (disk_in v.recorded v.writing) above m taker below refl)) stands.disks;
+    within = stands.within;
     backs = subst (λ (ds : List Disk). All (λ d. backed ≤ d.durable) ds) (sym (flat_same (disk_in v.recorded v.writing) above m taker below refl)) stands.backs;
     fronts = stands.fronts;
     raised = subst (All (λ front. front ≤ v.told.front)) (sym (flat_same raised_of above m taker below refl)) stands.raised;
     clients = clients_taken s line backed here stands.clients;
     slots = subst (λ (ns : List ℕ). AllPairs (λ slot other. slot ≢ other) ns) (sym same_slots) stands.slots;
     tickets = tickets_taken line stands.tickets;
+    dated = stands.dated;
+    dated_before = stands.dated_before;
+    origins = stands.origins;
   }
 
 pub takes_up : TakesUp
@@ -297,7 +326,7 @@ volume_recorded size v above m below s line backed p stands reach from upto =
 
 -- each front from a member's durable one to its known commit is of the machine, with all that is owed
 pub is_on_each_disk : IsOnEachDisk
-is_on_each_disk size v above m below s p (line, backed, stands) may from upto =
+is_on_each_disk size v above m below s p ((line, backed, stands), joins) may from upto =
     let reach = reach_recorded size v above m below s line backed stands may in
     let (names, clients) = stands.clients in
     let mine : backed ≤ m.node.table.forgotten = backed_there v.recorded v.writing above m below backed may stands.backs in (

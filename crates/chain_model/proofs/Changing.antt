@@ -1,5 +1,5 @@
 -- How a change of one member, and of links, keeps what a chain stands for: lemmas.
-use Rattle.std.proofs.Common.{◌≡◌, ℕ, ◌+◌, ◌≤◌, Option, List, ◌∷◌, ◌++◌, length, map, refl, sym, ◌∙◌, ap, subst}
+use Rattle.std.proofs.Common.{◌≡◌, ℕ, suc, ◌+◌, ◌≤◌, Option, List, ◌∷◌, ◌++◌, length, map, refl, sym, ◌∙◌, ap, subst}
 use Rattle.std.specs.Prelude.{All, AllPairs, true, ◌≢◌}
 use Rattle.std.specs.List.{Contains, flat_map}
 use Rattle.std.proofs.lemmas.List.Concat.{flat_map-append}
@@ -21,7 +21,7 @@ use Rattle.world_model.specs.Machine.{Move, Plays, RunsOn, State, shown}
 use Rattle.chain_model.specs.Replicas.{Hop}
 use Rattle.world_model.specs.Requests.{Held, Looked, Owing, Requests, Submitted}
 use Rattle.world_model.specs.Requests as requests
-use Rattle.chain_model.specs.Chain.{AreLinked, ArePlaced, HasApplied, HasVolume, IsApplied, IsTold, LeavesRecorded, StandsFor, StandsWith}
+use Rattle.chain_model.specs.Chain.{AreLinked, ArePlaced, HasApplied, HasVolume, IsApplied, IsBehind, IsTold, LeavesRecorded, MembersStand, StandsWith}
 use Rattle.chain_model.specs.Laws.{with_members}
 use Rattle.chain_model.proofs.NetSteps.{hops_same, nodes_same}
 use Rattle.chain_model.specs.View.{Member, View, chain_of, disk_in, disks_of, is_in, is_in_some, looked_of, net_of, next_of, node_of, raised_of, requests_of, slot_of, slots_of, submitted_among, tokens_of}
@@ -60,10 +60,10 @@ requests_split v line above m below =
 
 -- some run from this state shows the events, and ends in one that the chain stands for
 abbrev pub Goes : ℕ → View → State → List ClientEvent → Type 0
-Goes size w s events = (moves : List Move) × (t : State) × RunsOn s moves t × (shown size s moves ≡ events) × StandsFor size w t
+Goes size w s events = (moves : List Move) × (t : State) × RunsOn s moves t × (shown size s moves ≡ events) × MembersStand size w t
 
 pub plays_of : (size : ℕ) (v w : View) (events : List ClientEvent) → ((s : State) (line : List Kept) (backed : ℕ) → StandsWith size v s line backed → Goes size w s events)
-    → Plays size (StandsFor size v) (StandsFor size w) events
+    → Plays size (MembersStand size v) (MembersStand size w) events
 plays_of size v w events goes s (line, backed, stands) = goes s line backed stands
 
 -- what holds of all members holds still where it does of the one that changed
@@ -73,15 +73,16 @@ all_changed P above m g below keeps all =
     All-append P above (g ∷ below) (all_before P above (m ∷ below) all) (All-cons P g below (keeps (All-head P m below behind)) (All-tail P m below behind))
 
 -- whoever stands at the member's slot was told what members are
-pub places_changed : (recorded before : Record) (above : List Member) (m g : Member) (below : List Member) → slot_of g ≡ slot_of m → IsTold recorded before g.node → ArePlaced recorded before (above ++ m ∷ below)
+pub places_changed : (recorded before : Record) (above : List Member) (m g : Member) (below : List Member) → slot_of g ≡ slot_of m → IsTold recorded before g.node → (IsBehind recorded g.node → IsBehind recorded m.node) → ArePlaced recorded before (above ++ m ∷ below)
     → ArePlaced recorded before (above ++ g ∷ below)
-places_changed recorded before above m g below same told is = record {
+places_changed recorded before above m g below same told behind is = record {
   apart = is.apart;
   apart_before = is.apart_before;
   close = is.close;
   first = is.first;
   stands = subst (λ (slots : List ℕ). All (λ s. Contains slots s) (chain_of recorded)) (sym (maps_same slot_of above m g below same)) is.stands;
-  stood = subst (λ (slots : List ℕ). All (λ s. Contains slots s) (chain_of before)) (sym (maps_same slot_of above m g below same)) is.stood;
+  stood = subst (λ (slots : List ℕ). All (λ x. IsBehind recorded x.node → All (λ s. Contains slots s) (chain_of before)) (above ++ g ∷ below)) (sym (maps_same slot_of above m g below same))
+      (all_changed (λ x. IsBehind recorded x.node → All (λ s. Contains (slots_of (above ++ m ∷ below)) s) (chain_of before)) above m g below (λ was late. was (behind late)) is.stood);
   told = all_changed (λ x. IsTold recorded before x.node) above m g below (λ was. told) is.told;
 }
 
@@ -107,12 +108,14 @@ module _ (size : ℕ) (v : View) (above : List Member) (m g : Member) (below : L
     pub order : InOrder v.told.front then (hops_of (net_of v.recorded links (above ++ g ∷ below)))
     pub volumes : All (HasVolume size v.told.front then) (above ++ g ∷ below)
     pub told : IsTold v.recorded v.before g.node
+    pub behind : IsBehind v.recorded g.node → IsBehind v.recorded m.node
     pub linked : AreLinked v.recorded v.before v.told.front links submits
     pub numbers : HasApplied g
     pub disks : IsBacked v.told.front v.told.mask v.told.gauges v.told.receipts v.told.musters (disks_of v.recorded v.writing (above ++ g ∷ below))
     pub backs : All (λ d. now ≤ d.durable) (disks_of v.recorded v.writing (above ++ g ∷ below))
     pub raised : All (λ front. front ≤ v.told.front) (raised_of g)
     pub tickets : All (AreBefore (are then)) (map next_of (above ++ g ∷ below))
+    pub origins : All (λ k. k.origin.incarnation ≤ v.youngest) then
     pub clients : Plays size (requests.StandsFor backed (were line)) (requests.StandsFor now (are then)) events
 
   requests_then : (line : List Kept) → slot_of g ≡ slot_of m → requests_of new line ≡ are line
@@ -120,7 +123,7 @@ module _ (size : ℕ) (v : View) (above : List Member) (m g : Member) (below : L
       requests_split new line above g below ∙ ap (λ (slots : List ℕ). around v line (submitted_among v.recorded v.before submits slots) above below g) (maps_same slot_of above m g below same)
 
   pub changes : ((s : State) (line : List Kept) (backed : ℕ) → StandsWith size old s line backed → (then : List Kept) × (now : ℕ) × Fits line then backed now)
-      → Plays size (StandsFor size old) (StandsFor size new) events
+      → Plays size (MembersStand size old) (MembersStand size new) events
   changes fits = plays_of size old new events (λ s line backed stands. go s line backed stands (fits s line backed stands))
     where
       leaves : slot_of g ≡ slot_of m → g.node.incarnation ≡ m.node.incarnation → LeavesRecorded v.recorded v.writing (above ++ m ∷ below) → LeavesRecorded v.recorded v.writing (above ++ g ∷ below)
@@ -147,17 +150,21 @@ module _ (size : ℕ) (v : View) (above : List Member) (m g : Member) (below : L
                 order = fit.order.0;
                 holders = fit.order.1;
                 volumes = fit.volumes;
-                places = places_changed v.recorded v.before above m g below fit.slot fit.told stands.places;
+                places = places_changed v.recorded v.before above m g below fit.slot fit.told fit.behind stands.places;
                 leavable = leaves fit.slot fit.incarnation stands.leavable;
                 links = fit.linked;
                 numbers = all_changed HasApplied above m g below (λ was. fit.numbers) stands.numbers;
                 disks = fit.disks;
+                within = stands.within;
                 backs = fit.backs;
                 fronts = stands.fronts;
                 raised = raised_then fit.raised stands.raised;
                 clients = subst (λ (r : Requests). requests.StandsFor now r t) (sym (requests_then then fit.slot)) clients;
                 slots = subst (AllPairs (λ slot other. slot ≢ other)) (sym (maps_same slot_of above m g below fit.slot)) stands.slots;
                 tickets = subst (λ (r : Requests). All (AreBefore r) (map next_of (above ++ g ∷ below))) (sym (requests_then then fit.slot)) fit.tickets;
+                dated = stands.dated;
+                dated_before = stands.dated_before;
+                origins = fit.origins;
               },
             ),
           )
@@ -182,7 +189,7 @@ module _ (size : ℕ) (v : View) (above : List Member) (m g : Member) (below : L
     pub clients : Plays size (requests.StandsFor backed (were size v above m g below v.links v.submits events line)) (requests.StandsFor now (are size v above m g below v.links v.submits events line)) events
 
   pub changes_there : ((s : State) (line : List Kept) (backed : ℕ) → StandsWith size (with_members v (above ++ m ∷ below)) s line backed → (now : ℕ) × FitsThere line backed now)
-      → Plays size (StandsFor size (with_members v (above ++ m ∷ below))) (StandsFor size (with_members v (above ++ g ∷ below))) events
+      → Plays size (MembersStand size (with_members v (above ++ m ∷ below))) (MembersStand size (with_members v (above ++ g ∷ below))) events
   changes_there fits = changes size v above m g below v.links v.submits events (λ s line backed stands. let (now, fit) = fits s line backed stands in (line, now, whole s line backed now stands fit))
     where
       tickets_then : (line : List Kept) → ((next : Origin) → All (IsTokenBefore next) (tokens_of m) → All (IsTokenBefore next) (tokens_of g)) → (next : Origin)
@@ -202,6 +209,7 @@ module _ (size : ℕ) (v : View) (above : List Member) (m g : Member) (below : L
             (sym (hops_same (net_of v.recorded v.links (above ++ m ∷ below)) (net_of v.recorded v.links (above ++ g ∷ below)) refl refl (λ x. nodes_same above m g below x fit.slot fit.node) (λ x y. refl))) (stands.order, stands.holders);
         volumes = all_changed (HasVolume size v.told.front line) above m g below fit.volume stands.volumes;
         told = fit.told (all_at (λ x. IsTold v.recorded v.before x.node) above m below stands.places.told);
+        behind = λ (runs, late). (sym fit.stopped ∙ runs, ap (λ (n : Node). suc n.epoch) (sym fit.node) ∙ late);
         linked = stands.links;
         numbers = (
             let was : HasApplied m = all_at HasApplied above m below stands.numbers in
@@ -216,6 +224,7 @@ module _ (size : ℕ) (v : View) (above : List Member) (m g : Member) (below : L
         tickets = subst (All (AreBefore (are size v above m g below v.links v.submits events line))) (sym (maps_same next_of above m g below fit.next))
             (All-weaker (AreBefore (were size v above m g below v.links v.submits events line)) (AreBefore (are size v above m g below v.links v.submits events line)) (tickets_then line fit.tokens) (map next_of (above ++ m ∷ below))
             (subst (λ (r : Requests). All (AreBefore r) (map next_of (above ++ m ∷ below))) (requests_split v line above m below) stands.tickets));
+        origins = stands.origins;
         clients = fit.clients;
       }
         where
@@ -239,7 +248,7 @@ module _ (size : ℕ) (v : View) (above : List Member) (m : Member) (below : Lis
     pub clients : Plays size (requests.StandsFor backed (were size v above m other below v.links v.submits events line)) (requests.StandsFor backed (are size v above m other below v.links v.submits events line)) events
 
   pub changes_requests : ((s : State) (line : List Kept) (backed : ℕ) → StandsWith size (with_members v (above ++ m ∷ below)) s line backed → FitsRequests line backed)
-      → Plays size (StandsFor size (with_members v (above ++ m ∷ below))) (StandsFor size (with_members v (above ++ other ∷ below))) events
+      → Plays size (MembersStand size (with_members v (above ++ m ∷ below))) (MembersStand size (with_members v (above ++ other ∷ below))) events
   changes_requests fits = changes_there size v above m other below events
       (λ s line backed stands.
       let fit = fits s line backed stands in (

@@ -15,7 +15,7 @@ use Rattle.world_model.proofs.Counting.{all_at, flat_split, maps_same}
 use Rattle.world_model.specs.Machine.{Plays}
 use Rattle.world_model.specs.Requests.{Requests}
 use Rattle.world_model.proofs.Standing.{shows_stay}
-use Rattle.chain_model.specs.Chain.{HasApplied, HasVolume, IsApplied, IsTold, StandsFor}
+use Rattle.chain_model.specs.Chain.{HasApplied, HasVolume, IsApplied, IsTold, MembersStand}
 use Rattle.chain_model.proofs.Changing.{all_changed, are, changes, requests_split, were}
 use Rattle.chain_model.specs.Laws.{EndsCommit, with_members}
 use Rattle.chain_model.proofs.MemberSteps.{idle, it_drops_found, reach, volume_is}
@@ -39,7 +39,7 @@ module _ (size : ℕ) (v : View) (above : List Member) (m : Member) (below : Lis
     more true backed all = all_rise one (disk_of m) p other (omega (arith, from)) (λ d. backed ≤ d.durable) (λ le. omega (arith, from)) all
     more false backed all = all
 
-  commits : Plays size (StandsFor size (with_members v (above ++ m ∷ below))) (StandsFor size (with_members v (above ++ record m { node = ended p m.node; volume = fold patched m.volume (writes_upto m.node.table p) } ∷ below))) []
+  commits : Plays size (MembersStand size (with_members v (above ++ m ∷ below))) (MembersStand size (with_members v (above ++ record m { node = ended p m.node; volume = fold patched m.volume (writes_upto m.node.table p) } ∷ below))) []
   commits = changes size v above m done below v.links v.submits []
       (λ s line backed stands.
       let reached : Reach v.told.front line m.node = reach size v above m below s line backed runs stands in
@@ -55,6 +55,7 @@ module _ (size : ℕ) (v : View) (above : List Member) (m : Member) (below : Lis
           volumes = all_changed (HasVolume size v.told.front line) above m done below
               (λ was. record { committed = omega (arith, upto, reached.known); is = volume_is size v above m below s line backed p runs stands (omega (arith, from)) (omega (arith, upto, reached.known, reached.has)) }) stands.volumes;
           told = all_at (λ x. IsTold v.recorded v.before x.node) above m below stands.places.told;
+          behind = λ late. late;
           linked = stands.links;
           numbers = record { applied = subst (λ n. All (IsApplied n) m.node.waiting) (sym same) (all_at HasApplied above m below stands.numbers).applied; none = λ stops. absurd (stops runs) };
           disks = subst (λ ds. IsBacked v.told.front v.told.mask v.told.gauges v.told.receipts v.told.musters ds) (sym (flat_split (disk_in v.recorded v.writing) above done below))
@@ -67,6 +68,7 @@ module _ (size : ℕ) (v : View) (above : List Member) (m : Member) (below : Lis
           tickets = subst (All (AreBefore (are size v above m done below v.links v.submits [] line))) (sym (maps_same next_of above m done below refl))
               (All-weaker (AreBefore (were size v above m done below v.links v.submits [] line)) (AreBefore (are size v above m done below v.links v.submits [] line)) (λ next is. record { line = is.line; submits = is.submits; tokens = is.tokens })
               (map next_of (above ++ m ∷ below)) (subst (λ (r : Requests). All (AreBefore r) (map next_of (above ++ m ∷ below))) (requests_split v line above m below) stands.tickets));
+          origins = stands.origins;
           clients = shows_stay size backed (were size v above m done below v.links v.submits [] line) (idle size v above m below line) (it_drops_found size v above m below line backed);
         },
       ))

@@ -20,7 +20,7 @@ use Rattle.world_model.proofs.Counting.{all_at}
 use Rattle.world_model.specs.Machine.{Plays}
 use Rattle.world_model.specs.Requests as requests
 use Rattle.world_model.proofs.Runs.{plays_nothing, plays_then}
-use Rattle.chain_model.specs.Chain.{HasApplied, IsTold, StandsFor}
+use Rattle.chain_model.specs.Chain.{HasApplied, IsTold, MembersStand}
 use Rattle.chain_model.proofs.Changing.{changes, were}
 use Rattle.chain_model.specs.Holding.{Holders}
 use Rattle.chain_model.specs.Laws.{HasSent, HeldStays, HoldsFront, with_members}
@@ -39,7 +39,7 @@ holding m = record m { node = record m.node { holds = true } }
 
 -- a tail that knows the committed front holds it
 holds_known : (size : ℕ) (v : View) (above : List Member) (m : Member) (below : List Member) → m.node.stopped ≡ None → m.node.known ≡ v.told.front → epoch_of m.node ≡ v.recorded.epoch → is_tail m.node.place ≡ true
-    → Plays size (StandsFor size (with_members v (above ++ m ∷ below))) (StandsFor size (with_members v (above ++ record m { node = record m.node { holds = true } } ∷ below))) []
+    → Plays size (MembersStand size (with_members v (above ++ m ∷ below))) (MembersStand size (with_members v (above ++ record m { node = record m.node { holds = true } } ∷ below))) []
 holds_known size v above m below runs known now ends = changes size v above m (holding m) below v.links v.submits []
     (λ s line backed stands. (
       line,
@@ -53,6 +53,7 @@ holds_known size v above m below runs known now ends = changes size v above m (h
             (stands.order, stands.holders) (ap (λ k. record (node_of m.node) { known = k; holds = true }) known) now ends;
         volume = λ is. is;
         told = all_at (λ x. IsTold v.recorded v.before x.node) above m below stands.places.told;
+        behind = λ late. late;
         linked = stands.links;
         numbers = all_at HasApplied above m below stands.numbers;
         next = refl;
@@ -94,10 +95,10 @@ holds_front size v above m below front links events runs found committed now end
     (subst (λ (x : Stepped). ArePutOut x.out.replies events) step out)
     (subst (λ (ms : List Sent). HasSent (slot_of m) ms v.links links) (same_sent (predecessor_of m.node.place) (Ack front.number) m.node) (subst (λ (x : Stepped). HasSent (slot_of m) x.out.messages v.links links) step sent)) in
     let holds = holds_known size (record v { links = links }) above (record m { node = (know front.number front.number m.node).node }) below runs committed now ends in
-    let both = plays_then size (StandsFor size (with_members v (above ++ m ∷ below))) (StandsFor size (record v { members = above ++ record m { node = (know front.number front.number m.node).node } ∷ below; links = links }))
-    (StandsFor size (record v { members = above ++ record m { node = (holding_at front.number m.node).node } ∷ below; links = links })) events [] knows holds in
-    subst (λ (x : Stepped). Plays size (StandsFor size (with_members v (above ++ m ∷ below))) (StandsFor size (record v { members = above ++ record m { node = x.node } ∷ below; links = links })) events) (sym step)
-    (subst (Plays size (StandsFor size (with_members v (above ++ m ∷ below))) (StandsFor size (record v { members = above ++ record m { node = (holding_at front.number m.node).node } ∷ below; links = links }))) (append-nil events) both)
+    let both = plays_then size (MembersStand size (with_members v (above ++ m ∷ below))) (MembersStand size (record v { members = above ++ record m { node = (know front.number front.number m.node).node } ∷ below; links = links }))
+    (MembersStand size (record v { members = above ++ record m { node = (holding_at front.number m.node).node } ∷ below; links = links })) events [] knows holds in
+    subst (λ (x : Stepped). Plays size (MembersStand size (with_members v (above ++ m ∷ below))) (MembersStand size (record v { members = above ++ record m { node = x.node } ∷ below; links = links })) events) (sym step)
+    (subst (Plays size (MembersStand size (with_members v (above ++ m ∷ below))) (MembersStand size (record v { members = above ++ record m { node = (holding_at front.number m.node).node } ∷ below; links = links }))) (append-nil events) both)
     s (line, backed, stands)
 
 -- ---- the front stays
@@ -114,7 +115,7 @@ held_down w s front prev (y ∷ ys) there runs holds (held, others) = elim (case
     later (suc k, lt, is) apart = (k, omega arith, is)
 
 pub held_stays : HeldStays
-held_stays size v above m below s (line, backed, stands) runs holds =
+held_stays size v above m below s ((line, backed, stands), joins) runs holds =
     let told : IsTold v.recorded v.before m.node = all_at (λ x. IsTold v.recorded v.before x.node) above m below stands.places.told in
     let node = node_here above m below stands.slots in
     sym (ap (λ (n : Node). n.known) node)

@@ -1,12 +1,17 @@
+pub mod AgreeingSteps
 pub mod Answering
 pub mod BoardSteps
 pub mod Changing
 pub mod CommitSteps
 pub mod Delivering
+pub mod ForgettingSteps
 pub mod HeldSteps
 pub mod HoldingSteps
 pub mod InOrder
+pub mod Incarnations
 pub mod Lanes
+pub mod JoinedSteps
+pub mod JoiningSteps
 pub mod LifeSteps
 pub mod LineSteps
 pub mod LinkSteps
@@ -20,6 +25,7 @@ pub mod PassingSteps
 pub mod PlaceSteps
 pub mod PlacedSteps
 pub mod PutSteps
+pub mod ReadySteps
 pub mod RecordSteps
 pub mod RefusingSteps
 pub mod RestartSteps

@@ -1,8 +1,8 @@
 -- That every life of a chain whose record changes is one of the one volume: lemmas.
-use Rattle.std.proofs.Common.{◌≡◌, ◌≤◌, max, ℕ, List, [], ◌∷◌, ◌++◌, refl, sym, ◌∙◌, ap, subst, arith}
+use Rattle.std.proofs.Common.{◌≡◌, ◌⊎◌, inl, inr, ◌≤◌, max, ℕ, List, [], ◌∷◌, ◌++◌, refl, sym, ◌∙◌, ap, subst, arith}
 use Rattle.std.specs.Prelude.{All, None, Option, Some, fold, map, set}
 use Rattle.std.proofs.lemmas.List.Elements.{All-head}
-use Rattle.chain_steps.specs.Node.{last_of}
+use Rattle.chain_steps.specs.Node.{epoch_of, last_of}
 use Rattle.chain_steps.specs.Steps.{ended, flush, read_asked}
 use Rattle.chain_steps.specs.declared.found.Found.{Found}
 use Rattle.chain_steps.specs.declared.found.Found.TheVariants.{Looked, Raised}
@@ -15,21 +15,24 @@ use Rattle.world_model.specs.Machine.{May, Move, Plays, Restart, RunsOn, State, 
 use Rattle.world_model.specs.Requests.{Held, sent_event}
 use Rattle.world_model.proofs.Runs.{plays_nothing, plays_then}
 use Rattle.chain_model.proofs.BoardSteps.{connects, forgets, raises_front, sends_all, takes_up, tells_disks}
-use Rattle.chain_model.specs.Chain.{StandsFor}
+use Rattle.chain_model.specs.Chain.{MembersStand, StandsFor}
 use Rattle.chain_model.proofs.CommitSteps.{ends_commit}
+use Rattle.chain_model.proofs.ForgettingSteps.{forgets_member}
 use Rattle.chain_model.proofs.HeldSteps.{holds_front}
-use Rattle.chain_model.specs.Laws.{KnowsRaised, with_members}
-use Rattle.chain_model.specs.Life.{Answer, AnswerFloor, AnswerFront, Ask, BeginCommit, BoardTells, Does, Doing, Drop, EndCommit, Era, FrontHeld, FrontRaised, Happening, HappeningsAreOfOneVolume, KeepRaised, Life, LivesAreOfOneVolume, LookUp, MemberDoes, MemberSubmits, MemberTakes, MemberTold, MessageTaken, RaisedKnown, RecordBegun, RecordEnded, Refuse, RequestsSent, RequestsTakenUp, RunsEras, SessionBegins, SessionEnds, Stop, SubmitTaken, Takes, Taking, Wait}
+use Rattle.chain_model.proofs.JoinedSteps.{join_written, joined}
+use Rattle.chain_model.specs.Laws.{BeginsJoin, EndsJoin, KnowsRaised, with_members}
+use Rattle.chain_model.specs.Life.{Answer, AnswerFloor, AnswerFront, Ask, BeginCommit, BoardTells, Does, Doing, Drop, EndCommit, Era, FrontHeld, FrontRaised, Happening, HappeningsAreOfOneVolume, Happens, IsCut, IsCutToJoiner, IsJoinBegun, IsJoinEnded, JoinBegun, JoinEnded, JoinerCounted, JoinerLeft, KeepRaised, Life, LivesAreOfOneVolume, LookUp, MemberDoes, MemberForgotten, MemberSubmits, MemberTakes, MemberTold, MessageTaken, RaisedKnown, RecordBegun, RecordEnded, Refuse, RequestsSent, RequestsTakenUp, RunsEras, SessionBegins, SessionEnds, Stop, SubmitTaken, Takes, Taking, Wait}
 use Rattle.chain_model.proofs.MemberSteps.{answers, begins, keeps_raised, looks_up, pays}
 use Rattle.chain_model.proofs.MessageSteps.{takes_message}
 use Rattle.chain_model.proofs.PassingSteps.{its_raised, knows_itself, stops}
+use Rattle.chain_model.proofs.ReadySteps.{leaves_ready}
 use Rattle.chain_model.proofs.RecordSteps.{begins_record, ends_record}
-use Rattle.chain_model.proofs.RestartSteps.{first_chain, restarts_chain}
+use Rattle.chain_model.proofs.RestartSteps.{first_chain, restarts_chain, restarts_from_joiner}
 use Rattle.chain_model.proofs.SendingSteps.{submits_write}
 use Rattle.chain_model.proofs.SubmittedSteps.{takes_submit}
 use Rattle.chain_model.proofs.TakingSteps.{asks_for, drops, flushes_for, reads_clean, refuses}
 use Rattle.chain_model.proofs.ToldSteps.{tells_member}
-use Rattle.chain_model.specs.View.{Member, View}
+use Rattle.chain_model.specs.View.{Joiner, Member, View}
 
 -- a member knows a front that it raised, and that is committed
 pub knows_raised : KnowsRaised
@@ -42,7 +45,7 @@ knows_raised size v above m below front links events runs found more sent out s 
 
 -- what one member does, as a change of the chain
 abbrev Changes : ℕ → View → List Member → Member → Member → List Member → List ClientEvent → Type 0
-Changes size v above m g below events = Plays size (StandsFor size (with_members v (above ++ m ∷ below))) (StandsFor size (with_members v (above ++ g ∷ below))) events
+Changes size v above m g below events = Plays size (MembersStand size (with_members v (above ++ m ∷ below))) (MembersStand size (with_members v (above ++ g ∷ below))) events
 
 -- to another member, with other events
 as_they_are : (size : ℕ) (v : View) (above : List Member) (m g h : Member) (below : List Member) (events others : List ClientEvent) → g ≡ h → events ≡ others → Changes size v above m h below others
@@ -79,62 +82,159 @@ does size v above m g below (Stop cause) events (runs, other, out, are) = subst 
 
 -- a chain whose members are those, and what it becomes
 from_members : (size : ℕ) (v w x : View) (members : List Member) (events : List ClientEvent) → v.members ≡ members → w ≡ x
-    → Plays size (StandsFor size (with_members v members)) (StandsFor size x) events → Plays size (StandsFor size v) (StandsFor size w) events
+    → Plays size (MembersStand size (with_members v members)) (MembersStand size x) events → Plays size (MembersStand size v) (MembersStand size w) events
 from_members size v w x members events were are plays =
-    subst (λ (y : View). Plays size (StandsFor size v) (StandsFor size y) events) (sym are)
-    (subst (λ (ms : List Member). Plays size (StandsFor size (with_members v ms)) (StandsFor size x) events) (sym were) plays)
+    subst (λ (y : View). Plays size (MembersStand size v) (MembersStand size y) events) (sym are)
+    (subst (λ (ms : List Member). Plays size (MembersStand size (with_members v ms)) (MembersStand size x) events) (sym were) plays)
 
 -- a chain, and what it becomes, where clients see nothing
-in_silence : (size : ℕ) (v w x : View) (events : List ClientEvent) → w ≡ x → events ≡ [] → Plays size (StandsFor size v) (StandsFor size x) [] → Plays size (StandsFor size v) (StandsFor size w) events
+in_silence : (size : ℕ) (v w x : View) (events : List ClientEvent) → w ≡ x → events ≡ [] → Plays size (MembersStand size v) (MembersStand size x) [] → Plays size (MembersStand size v) (MembersStand size w) events
 in_silence size v w x events are shows plays =
-    subst (Plays size (StandsFor size v) (StandsFor size w)) (sym shows) (subst (λ (y : View). Plays size (StandsFor size v) (StandsFor size y) []) (sym are) plays)
+    subst (Plays size (MembersStand size v) (MembersStand size w)) (sym shows) (subst (λ (y : View). Plays size (MembersStand size v) (MembersStand size y) []) (sym are) plays)
 
-pub happenings : HappeningsAreOfOneVolume
-happenings size v w (MemberTakes taking) events one =
+-- who joins is nothing to the members
+joiner_aside : (size : ℕ) (v : View) (joiner : Option Joiner) → Plays size (MembersStand size v) (MembersStand size (record v { joiner = joiner })) []
+joiner_aside size v joiner s (line, backed, stands) = (
+  [],
+  s,
+  refl,
+  refl,
+  (
+    line,
+    backed,
+    record {
+      order = stands.order;
+      holders = stands.holders;
+      volumes = stands.volumes;
+      places = stands.places;
+      leavable = stands.leavable;
+      links = stands.links;
+      numbers = stands.numbers;
+      disks = stands.disks;
+      within = stands.within;
+      backs = stands.backs;
+      fronts = stands.fronts;
+      raised = stands.raised;
+      clients = stands.clients;
+      slots = stands.slots;
+      tickets = stands.tickets;
+      dated = stands.dated;
+      dated_before = stands.dated_before;
+      origins = stands.origins;
+    },
+  ),
+)
+
+-- what members stand for goes on, whatever is said of a joiner beside
+of_members : (size : ℕ) (v w : View) (events : List ClientEvent) → Plays size (MembersStand size v) (MembersStand size w) events → Plays size (StandsFor size v) (MembersStand size w) events
+of_members size v w events plays s stands = plays s stands.0
+
+-- the record with a joiner is being written, and it is recorded
+join_begins : (size : ℕ) (v w : View) → IsJoinBegun v w → Plays size (StandsFor size v) (MembersStand size w) []
+join_begins size v w is s ((line, backed, stands), joins) = (
+  [],
+  s,
+  refl,
+  refl,
+  subst (λ (x : View). MembersStand size x s) (sym is.are) (line, backed, join_written size v is.joiner is.next is.follows s line backed stands (joins is.joiner is.joins) is.none),
+)
+
+join_ends : (size : ℕ) (v w : View) → IsJoinEnded v w → Plays size (StandsFor size v) (MembersStand size w) []
+join_ends size v w is s ((line, backed, stands), joins) = (
+  [],
+  s,
+  refl,
+  refl,
+  subst (λ (x : View). MembersStand size x s) (sym is.are) (line, _, joined size v is.joiner is.next is.follows s line backed stands (joins is.joiner is.joins) is.member is.starts is.begun),
+)
+
+members_happen : (size : ℕ) (v w : View) (h : Happening) (events : List ClientEvent) → Happens size h v w events → Plays size (StandsFor size v) (MembersStand size w) events
+members_happen size v w (MemberTakes taking) events one = of_members size v w events (
     from_members size v w (with_members v (one.above ++ one.new ∷ one.below)) (one.above ++ one.old ∷ one.below) events one.were one.are
     (takes size v one.above one.old one.new one.below taking one.change.demand one.change.rest events one.change.first one.change.takes)
-happenings size v w MemberSubmits events (is, shows) =
-    subst (Plays size (StandsFor size v) (StandsFor size w)) (sym shows)
+    )
+members_happen size v w MemberSubmits events (is, shows) = of_members size v w events (
+    subst (Plays size (MembersStand size v) (MembersStand size w)) (sym shows)
     (from_members size v w _ (is.above ++ is.member ∷ is.below) [] is.were is.are
-    (submits_write size v is.above is.member is.below is.demand is.rest is.token is.write is.submits is.runs is.first is.writes is.kind is.fresh is.session is.cookie is.sent))
-happenings size v w (MemberDoes doing) events one =
+    (submits_write size v is.above is.member is.below is.demand is.rest is.token is.write is.submits is.runs is.placed is.first is.writes is.kind is.fresh is.session is.cookie is.sent))
+    )
+members_happen size v w (MemberDoes doing) events one = of_members size v w events (
     from_members size v w (with_members v (one.above ++ one.new ∷ one.below)) (one.above ++ one.old ∷ one.below) events one.were one.are
     (does size v one.above one.old one.new one.below doing events (subst (λ (ms : List Member). Does (with_members v ms) doing one.old one.new events) one.were one.change))
-happenings size v w RaisedKnown events is =
+    )
+members_happen size v w RaisedKnown events is = of_members size v w events (
     from_members size v w _ (is.above ++ is.member ∷ is.below) events is.were is.are
     (knows_raised size v is.above is.member is.below is.front is.links events is.runs is.found is.more is.sent is.out)
-happenings size v w FrontHeld events is =
+    )
+members_happen size v w FrontHeld events is = of_members size v w events (
     from_members size v w _ (is.above ++ is.tail ∷ is.below) events is.were is.are
     (holds_front size v is.above is.tail is.below is.front is.links events is.runs is.found is.committed is.now is.ends is.sent is.out)
-happenings size v w MessageTaken events is =
+    )
+members_happen size v w MessageTaken events is = of_members size v w events (
     from_members size v w _ (is.above ++ is.member ∷ is.below) events is.were is.are
     (takes_message size v is.above is.member is.below is.from is.envelope is.stepped is.links events is.taken is.passed is.out)
-happenings size v w SubmitTaken events is =
+    )
+members_happen size v w SubmitTaken events is = of_members size v w events (
     from_members size v w _ (is.above ++ is.member ∷ is.below) events is.were is.are
     (takes_submit size v is.above is.member is.below is.from is.envelope is.stepped is.links is.submits events is.taken is.gone is.sent is.out)
-happenings size v w FrontRaised events (is, shows) =
-    subst (Plays size (StandsFor size v) (StandsFor size w)) (sym shows)
+    )
+members_happen size v w FrontRaised events (is, shows) = of_members size v w events (
+    subst (Plays size (MembersStand size v) (MembersStand size w)) (sym shows)
     (from_members size v w (record v { told = record v.told { front = last_of is.tail.node }; members = is.above ++ is.tail ∷ is.below }) (is.above ++ is.tail ∷ is.below) [] is.were
     (is.are ∙ ap (λ (ms : List Member). record (with_members v ms) { told = record v.told { front = last_of is.tail.node } }) is.were)
     (raises_front size v is.above is.tail is.below is.runs is.turned is.free is.ends))
-happenings size v w BoardTells events (is, shows) =
-    in_silence size v w (record v { told = is.told }) events is.are shows (tells_disks size v is.told is.front is.backed is.fronts)
-happenings size v w RecordBegun events (is, shows) =
+    )
+members_happen size v w BoardTells events (is, shows) = of_members size v w events (
+    in_silence size v w (record v { told = is.told }) events is.are shows (tells_disks size v is.told is.front is.within is.backed is.fronts)
+    )
+members_happen size v w RecordBegun events (is, shows) = of_members size v w events (
     in_silence size v w (record v { writing = Some is.next }) events is.are shows (begins_record size v is.next is.follows is.none)
-happenings size v w RecordEnded events (is, shows) =
+    )
+members_happen size v w RecordEnded events (is, shows) = of_members size v w events (
     in_silence size v w (record v { recorded = is.next; before = v.recorded; writing = None }) events is.are shows (ends_record size v is.next is.follows is.begun is.told)
-happenings size v w MemberTold events is =
+    )
+members_happen size v w JoinerCounted events (is, shows) = of_members size v w events (in_silence size v w (record v { joiner = Some is.joiner }) events is.are shows (joiner_aside size v (Some is.joiner)))
+members_happen size v w JoinerLeft events (is, shows) = of_members size v w events (in_silence size v w (record v { joiner = None }) events is.are shows (joiner_aside size v None))
+members_happen size v w JoinBegun events (is, shows) = subst (Plays size (StandsFor size v) (MembersStand size w)) (sym shows) (join_begins size v w is)
+members_happen size v w JoinEnded events (is, shows) = subst (Plays size (StandsFor size v) (MembersStand size w)) (sym shows) (join_ends size v w is)
+members_happen size v w MemberForgotten events (is, shows) = of_members size v w events (
+    subst (Plays size (MembersStand size v) (MembersStand size w)) (sym shows)
+    (from_members size v w (with_members v (is.above ++ is.below)) (is.above ++ is.member ∷ is.below) [] is.were is.are
+    (forgets_member size v is.above is.member is.below is.idle (subst (All (λ m. m.node.stopped ≡ None → epoch_of m.node ≡ v.recorded.epoch)) is.were is.told)))
+    )
+members_happen size v w MemberTold events is = of_members size v w events (
     from_members size v w _ (is.above ++ is.member ∷ is.below) events is.were is.are
     (tells_member size v is.above is.member is.below is.stepped is.links events is.taken is.sent is.out)
-happenings size v w SessionBegins events (at, are, shows) = in_silence size v w _ events are shows (connects size v at)
-happenings size v w SessionEnds events (at, are, shows) = in_silence size v w _ events are shows (forgets size v at)
-happenings size v w RequestsSent events is =
-    subst (Plays size (StandsFor size v) (StandsFor size w)) (sym is.shown_are)
-    (subst (λ (x : View). Plays size (StandsFor size v) (StandsFor size x) (map sent_event is.more)) (sym is.are) (sends_all size v is.at is.kept is.more is.here))
-happenings size v w RequestsTakenUp events (is, shows) =
-    subst (Plays size (StandsFor size v) (StandsFor size w)) (sym shows)
+    )
+members_happen size v w SessionBegins events (at, are, shows) = of_members size v w events (
+    in_silence size v w _ events are shows (connects size v at)
+    )
+members_happen size v w SessionEnds events (at, are, shows) = of_members size v w events (
+    in_silence size v w _ events are shows (forgets size v at)
+    )
+members_happen size v w RequestsSent events is = of_members size v w events (
+    subst (Plays size (MembersStand size v) (MembersStand size w)) (sym is.shown_are)
+    (subst (λ (x : View). Plays size (MembersStand size v) (MembersStand size x) (map sent_event is.more)) (sym is.are) (sends_all size v is.at is.kept is.more is.here))
+    )
+members_happen size v w RequestsTakenUp events (is, shows) = of_members size v w events (
+    subst (Plays size (MembersStand size v) (MembersStand size w)) (sym shows)
     (from_members size v w (record v { members = is.above ++ record is.member { demands = is.member.demands ++ is.taken } ∷ is.below; kept = set v.kept is.at is.kept }) (is.above ++ is.member ∷ is.below) []
     is.were is.are (takes_up size v is.above is.member is.below is.at is.taken is.kept is.here))
+    )
+
+-- Whatever happens is of one volume: a run of the members leaves ready who joins.
+pub happenings : HappeningsAreOfOneVolume
+happenings size v w h events is s stands =
+    let (moves, t, run, shows, members) = members_happen size v w h events is s stands in
+    (moves, t, run, shows, (members, leaves_ready size v w s t moves stands run members h events is))
+
+-- the two steps of the record with a joiner
+pub begins_join : BeginsJoin
+begins_join size v j next joins follows none = happenings size v (record v { writing = Some next }) JoinBegun [] (record { joiner = j; next = next; joins = joins; follows = follows; none = none; are = refl }, refl)
+
+pub ends_join : EndsJoin
+ends_join size v j next m joins follows begun starts = happenings size v (record v { recorded = next; before = v.recorded; writing = None; youngest = j.incarnation; joiner = None; members = v.members ++ m ∷ [] }) JoinEnded []
+    (record { joiner = j; next = next; member = m; joins = joins; follows = follows; begun = begun; starts = starts; are = refl }, refl)
 
 -- ---- eras and lives
 
@@ -158,11 +258,17 @@ lives_on size v w (era ∷ []) events s stands (now, are, lived) =
     (t, subst (λ (es : List (List (List ClientEvent))). RunsEras size s es t) (sym are) (moves, run, shows), stood)
 lives_on size v w (era ∷ next ∷ eras) events s stands (end, begun, now, later, are, lived, cut, rest) =
     let (moves, mid, run, shows, stood) = era_plays size v end era now lived s stands in
-    let there = subst (λ (ms : List Member). StandsFor size (with_members end ms) mid) cut.were stood in
-    let (may, again) = restarts_chain size end cut.above cut.member cut.below mid cut.front begun there cut.among cut.durable cut.known cut.begins in
-    let (t, runs, last) = lives_on size begun w (next ∷ eras) later (after mid (Restart cut.front)) again rest in
-    (t, subst (λ (es : List (List (List ClientEvent))). RunsEras size s es t) (sym are) (longer moves mid cut.front now later s t run shows may runs rest), last)
+    let (front, may, again) = goes_on_from end mid stood cut in
+    let (t, runs, last) = lives_on size begun w (next ∷ eras) later (after mid (Restart front)) again rest in
+    (t, subst (λ (es : List (List (List ClientEvent))). RunsEras size s es t) (sym are) (longer moves mid front now later s t run shows may runs rest), last)
   where
+    -- at the front of a member's disk, or of a joiner's
+    goes_on_from : (end : View) (mid : State) → StandsFor size end mid → IsCut end begun ⊎ IsCutToJoiner end begun → (front : ℕ) × May mid (Restart front) × StandsFor size begun (after mid (Restart front))
+    goes_on_from end mid stood (inl cut) =
+        let there = subst (λ (ms : List Member). StandsFor size (with_members end ms) mid) cut.were stood in
+        let (may, again) = restarts_chain size end cut.above cut.member cut.below mid cut.front begun there cut.among cut.durable cut.known cut.begins in (cut.front, may, again)
+    goes_on_from end mid stood (inr cut) = let (may, again) = restarts_from_joiner size end cut.joiner mid begun stood cut.joins cut.begins in (cut.joiner.front, may, again)
+
     some_events : (from : View) (others : List (List Happening)) → Life size from (next ∷ others) w [] → ⊥
     some_events from [] (now, none, lived) = absurd cc
     some_events from (x ∷ others) (e, b, now, later, none, lived, cut, rest) = absurd cc

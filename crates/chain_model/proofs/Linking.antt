@@ -1,12 +1,12 @@
 -- That what members send belongs where it goes: lemmas.
-use Rattle.std.proofs.Common.{◌≡◌, ◌≢◌, inl, inr, ℕ, ◌≤◌, ◌==◌, Option, None, Some, List, [], ◌∷◌, refl, sym, ◌∙◌, ap, subst, arith}
+use Rattle.std.proofs.Common.{◌≡◌, ◌≢◌, inl, inr, ℕ, ◌≤◌, true, ◌==◌, Option, None, Some, List, [], ◌∷◌, refl, sym, ◌∙◌, ap, subst, arith, true}
 use Rattle.std.specs.Prelude.{All}
 use Rattle.std.proofs.lemmas.Bool.{cases_eq, cond-false, cond-true, eq-eqb, ne_eqb}
 use Rattle.std.proofs.lemmas.List.Elements.{All-append, All-cons, All-head, All-nil, All-tail}
 use Rattle.std.proofs.lemmas.Option.{same_Some}
 use Rattle.configurations.specs.Record.{Record}
 use Rattle.chain_steps.specs.Node.{NodeState, epoch_of}
-use Rattle.chain_steps.specs.Place.{head_of, incarnation_in, successor_of}
+use Rattle.chain_steps.specs.Place.{head_of, incarnation_in, is_member, successor_of}
 use Rattle.chain_steps.specs.Steps.{send, send_all}
 use Rattle.chain_steps.specs.declared.message.Envelope.{Envelope}
 use Rattle.chain_steps.specs.declared.message.Message.{Message}
@@ -16,6 +16,7 @@ use Rattle.chain_model.specs.Chain.{AreLinked, ArePlaced, Belongs, BelongsToHead
 use Rattle.chain_model.specs.Laws.{HasPassed, HasSent, HasTaken, sent_to}
 use Rattle.chain_model.proofs.Ordering.{told_one}
 use Rattle.chain_model.proofs.PlaceSteps.{successor_is}
+use Rattle.chain_model.proofs.Incarnations.{its_own}
 use Rattle.chain_model.specs.View.{Member, chain_of}
 
 -- ---- who is below whom is above whom
@@ -55,9 +56,9 @@ module _ (recorded before : Record) (members : List Member) (node : NodeState) (
     }
   ]
 
-  -- what it submits goes to the head of its chain
-  pub goes_to_head : (to : ℕ) → head_of node.place.chain ≡ Some to → IsForHead recorded before (epoch_of node) node.place.slot to
-  goes_to_head to head = elim (told_one recorded before node told runs) [
+  -- what it submits goes to the head of its chain, if it is in that
+  pub goes_to_head : is_member node.place ≡ true → (to : ℕ) → head_of node.place.chain ≡ Some to → IsForHead recorded before (epoch_of node) node.place.slot to
+  goes_to_head placed to head = elim (told_one recorded before node told runs) [
     | inl (now, chain) ↦ record {
       now = λ is. subst (λ (r : Record). (incarnation_in r node.place.slot ≢ None) × (head_of r ≡ Some to)) chain (in_its_chain, head);
       old = λ is. absurd (omega (arith, now));
@@ -69,7 +70,7 @@ module _ (recorded before : Record) (members : List Member) (node : NodeState) (
   ]
     where
       in_its_chain : incarnation_in node.place.chain node.place.slot ≢ None
-      in_its_chain none = let no : Some node.incarnation ≡ None = sym (told.itself runs) ∙ none in cc
+      in_its_chain none = let no : Some node.incarnation ≡ None = sym (its_own node.place node.incarnation placed (told.itself runs)) ∙ none in cc
 
 -- ---- links
 

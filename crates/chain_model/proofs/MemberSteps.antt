@@ -25,7 +25,7 @@ use Rattle.world_model.proofs.Runs.{plays_then}
 use Rattle.world_model.proofs.Standing.{Shows, Stays, shows_stay}
 use Rattle.world_model.proofs.TokenSteps.{backs_more, drops_looked, looks}
 use Rattle.chain_model.proofs.Answering.{answers_paid, answers_reads, applied_bound, applied_left, binds_all, bound_ticket}
-use Rattle.chain_model.specs.Chain.{HasVolume, IsTold, StandsFor, StandsWith}
+use Rattle.chain_model.specs.Chain.{HasVolume, IsTold, MembersStand, StandsWith}
 use Rattle.chain_model.proofs.Changing.{around, changes_requests, changes_there, requests_split}
 use Rattle.chain_model.specs.Laws.{with_members}
 use Rattle.chain_model.proofs.NetSteps.{Reach, reach_of, volume_in_line}
@@ -77,7 +77,7 @@ module _ (size : ℕ) (v : View) (above : List Member) (m : Member) (below : Lis
 
     -- its front isn't above its last write, else it stops
     pub answers : (events : List ClientEvent) → m.node.stopped ≡ None → front.number ≤ last_of m.node → ArePutOut (answer_at m.volume front.number m.node).out.replies events
-        → Plays size (StandsFor size (chain_with m)) (StandsFor size (chain_with (record m { node = (answer_at m.volume front.number m.node).node }))) events
+        → Plays size (MembersStand size (chain_with m)) (MembersStand size (chain_with (record m { node = (answer_at m.volume front.number m.node).node }))) events
     answers events runs applied out = changes_requests size v above m below None m.node.commit (answer_at m.volume front.number m.node).node.waiting m.demands events
         (λ s line backed stands. record {
           numbers = λ last all. applied_bound last front.number (filter (λ w. not (is_read w)) m.node.waiting) (applied_left last (λ w. not (is_read w)) m.node.waiting all);
@@ -115,7 +115,7 @@ module _ (size : ℕ) (v : View) (above : List Member) (m : Member) (below : Lis
   -- ---- with a floor that each disk reaches, the writes with FUA and the FLUSHes up to there are answered
 
   pub pays : (floor : ℕ) (events : List ClientEvent) → floor ≤ v.told.front → All (λ d. floor ≤ d.durable) (disks_of v.recorded v.writing (above ++ m ∷ below)) → ArePutOut (answer_floor floor m.node).out.replies events
-      → Plays size (StandsFor size (chain_with m)) (StandsFor size (chain_with (record m { node = (answer_floor floor m.node).node }))) events
+      → Plays size (MembersStand size (chain_with m)) (MembersStand size (chain_with (record m { node = (answer_floor floor m.node).node }))) events
   pays floor events committed reached out = changes_there size v above m (record m { node = (answer_floor floor m.node).node }) below events
       (λ s line backed stands. (
         max backed floor,
@@ -154,7 +154,7 @@ module _ (size : ℕ) (v : View) (above : List Member) (m : Member) (below : Lis
   -- ---- it looks the committed front up, keeps one that it raised, or begins a commit
 
   pub looks_up : (front : FoundFront) → front.number ≡ v.told.front
-      → Plays size (StandsFor size (chain_with m)) (StandsFor size (chain_with (record m { node = record m.node { found = Some (founds.Looked front) } }))) []
+      → Plays size (MembersStand size (chain_with m)) (MembersStand size (chain_with (record m { node = record m.node { found = Some (founds.Looked front) } }))) []
   looks_up front is = changes_requests size v above m below (Some (founds.Looked front)) m.node.commit m.node.waiting m.demands []
       (λ s line backed stands. record {
         numbers = λ last all. all;
@@ -171,7 +171,7 @@ module _ (size : ℕ) (v : View) (above : List Member) (m : Member) (below : Lis
 
   -- it keeps a front that it raised, and that is committed
   pub keeps_raised : (front : FoundFront) → front.number ≤ v.told.front
-      → Plays size (StandsFor size (chain_with m)) (StandsFor size (chain_with (record m { node = record m.node { found = Some (founds.Raised front) } }))) []
+      → Plays size (MembersStand size (chain_with m)) (MembersStand size (chain_with (record m { node = record m.node { found = Some (founds.Raised front) } }))) []
   keeps_raised front le = changes_requests size v above m below (Some (founds.Raised front)) m.node.commit m.node.waiting m.demands []
       (λ s line backed stands. record {
         numbers = λ last all. all;
@@ -182,7 +182,7 @@ module _ (size : ℕ) (v : View) (above : List Member) (m : Member) (below : Lis
 
   -- a commit begins
   pub begins : (commit : Option Commit)
-      → Plays size (StandsFor size (chain_with m)) (StandsFor size (chain_with (record m { node = record m.node { commit = commit; found = None } }))) []
+      → Plays size (MembersStand size (chain_with m)) (MembersStand size (chain_with (record m { node = record m.node { commit = commit; found = None } }))) []
   begins commit = changes_requests size v above m below None commit m.node.waiting m.demands []
       (λ s line backed stands. record {
         numbers = λ last all. all;

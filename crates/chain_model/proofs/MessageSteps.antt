@@ -15,7 +15,7 @@ use Rattle.chain_steps.specs.declared.message.Message.TheVariants as messages
 use Rattle.world_model.specs.Chain.{ArePutOut}
 use Rattle.world_model.specs.Event.{ClientEvent}
 use Rattle.world_model.specs.Machine.{Plays}
-use Rattle.chain_model.specs.Chain.{Belongs, StandsFor}
+use Rattle.chain_model.specs.Chain.{Belongs, MembersStand}
 use Rattle.chain_model.specs.Laws.{HasPassed, TakesMessage, with_members}
 use Rattle.chain_model.proofs.Linking.{first_proper}
 use Rattle.chain_model.proofs.MemberSteps.{reach}
@@ -59,12 +59,12 @@ module _ (size : ℕ) (v : View) (above : List Member) (m : Member) (below : Lis
   -- with this step, clients see the events
   abbrev IsGood : Stepped → Type 0
   IsGood stepped = HasPassed from (slot_of m) envelope stepped.out.messages v.links links → ArePutOut stepped.out.replies events
-      → Plays size (StandsFor size (with_members v (above ++ m ∷ below))) (StandsFor size (record v { members = above ++ record m { node = stepped.node } ∷ below; links = links })) events
+      → Plays size (MembersStand size (with_members v (above ++ m ∷ below))) (MembersStand size (record v { members = above ++ record m { node = stepped.node } ∷ below; links = links })) events
 
   -- of a step that changes nothing
-  silently : (HasPassed from (slot_of m) envelope [] v.links links → Plays size (StandsFor size (with_members v (above ++ m ∷ below))) (StandsFor size (record v { members = above ++ m ∷ below; links = links })) []) → IsGood (silent m.node)
+  silently : (HasPassed from (slot_of m) envelope [] v.links links → Plays size (MembersStand size (with_members v (above ++ m ∷ below))) (MembersStand size (record v { members = above ++ m ∷ below; links = links })) []) → IsGood (silent m.node)
   silently plays has out =
-      subst (Plays size (StandsFor size (with_members v (above ++ m ∷ below))) (StandsFor size (record v { members = above ++ m ∷ below; links = links }))) (sym out) (plays has)
+      subst (Plays size (MembersStand size (with_members v (above ++ m ∷ below))) (MembersStand size (record v { members = above ++ m ∷ below; links = links }))) (sym out) (plays has)
 
   module _ (runs : m.node.stopped ≡ None) where
     old_one : envelope.epoch < epoch_of m.node → IsGood (silent m.node)
@@ -89,7 +89,7 @@ module _ (size : ℕ) (v : View) (above : List Member) (m : Member) (below : Lis
                 let above_it : last_of m.node < n = grind (arith, nat_tests) in
                 let near : n ≤ last_of m.node + 1 = grind (arith, nat_tests) in
                 subst IsGood (same_step (apply n origin write m.node) stepped same)
-                (λ has out. subst (Plays size (StandsFor size (with_members v (above ++ m ∷ below))) (StandsFor size (record v { members = above ++ record m { node = (apply n origin write m.node).node } ∷ below; links = links }))) (sym out)
+                (λ has out. subst (Plays size (MembersStand size (with_members v (above ++ m ∷ below))) (MembersStand size (record v { members = above ++ record m { node = (apply n origin write m.node).node } ∷ below; links = links }))) (sym out)
                 (applies_put size v above m below runs from envelope links now n origin write is (omega arith) has))
           ]
         ]

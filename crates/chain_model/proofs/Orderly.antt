@@ -25,7 +25,7 @@ use Rattle.world_model.specs.Chain.{looked_by, raised_by}
 use Rattle.world_model.proofs.Counting.{all_at, all_behind, flat_split}
 use Rattle.world_model.specs.Machine.{State}
 use Rattle.world_model.specs.Requests as requests
-use Rattle.chain_model.specs.Chain.{Belongs, BelongsToHead, IsForHead, IsTold, StandsFor}
+use Rattle.chain_model.specs.Chain.{Belongs, BelongsToHead, IsForHead, IsTold, MembersStand, StandsFor}
 use Rattle.chain_model.specs.Laws.{HasPassed, with_members}
 use Rattle.chain_model.proofs.Linking.{IsProper, IsProperSubmit}
 use Rattle.chain_model.proofs.MemberSteps.{reach}
@@ -48,33 +48,33 @@ causes_apart causes.Disorder = inl refl
 -- ---- what is committed
 
 -- what a member that runs has of the line
-reach_there : (size : ℕ) (v : View) (above : List Member) (m : Member) (below : List Member) (s : State) (stands : StandsFor size (with_members v (above ++ m ∷ below)) s) → m.node.stopped ≡ None → Reach v.told.front stands.0 m.node
+reach_there : (size : ℕ) (v : View) (above : List Member) (m : Member) (below : List Member) (s : State) (stands : MembersStand size (with_members v (above ++ m ∷ below)) s) → m.node.stopped ≡ None → Reach v.told.front stands.0 m.node
 reach_there size v above m below s stands runs = reach size v above m below s stands.0 stands.1 runs stands.2
 
 -- its durable front, its known commit, the committed front and its last write come in this order
 pub committed_fronts : (size : ℕ) (v : View) (above : List Member) (m : Member) (below : List Member) (s : State) → StandsFor size (with_members v (above ++ m ∷ below)) s → m.node.stopped ≡ None
     → (m.node.table.forgotten ≤ m.node.known) × (m.node.known ≤ v.told.front) × (v.told.front ≤ last_of m.node)
-committed_fronts size v above m below s stands runs = let reached = reach_there size v above m below s stands runs in (reached.within, reached.known, reached.has)
+committed_fronts size v above m below s stands runs = let reached = reach_there size v above m below s stands.0 runs in (reached.within, reached.known, reached.has)
 
 -- a front that it raised is committed, so that it has all of it
 pub raised_in_order : (size : ℕ) (v : View) (above : List Member) (m : Member) (below : List Member) (s : State) (front : FoundFront) → StandsFor size (with_members v (above ++ m ∷ below)) s → m.node.stopped ≡ None
     → m.node.found ≡ Some (Raised front) → front.number ≤ last_of m.node
 raised_in_order size v above m below s front stands runs found =
     let P : ℕ → Type 0 = λ f. f ≤ v.told.front in
-    let behind = all_behind P (flat_map raised_of above) (raised_of m ++ flat_map raised_of below) (subst (All P) (flat_split raised_of above m below) stands.2.raised) in
+    let behind = all_behind P (flat_map raised_of above) (raised_of m ++ flat_map raised_of below) (subst (All P) (flat_split raised_of above m below) stands.0.2.raised) in
     let committed : front.number ≤ v.told.front = All-head P front.number (flat_map raised_of below) (subst (λ (o : Option Found). All P (raised_by o ++ flat_map raised_of below)) found behind) in
-    omega (arith, committed, (reach_there size v above m below s stands runs).has)
+    omega (arith, committed, (reach_there size v above m below s stands.0 runs).has)
 
 -- and so is one that it looked up
 pub looked_in_order : (size : ℕ) (v : View) (above : List Member) (m : Member) (below : List Member) (s : State) (front : FoundFront) → StandsFor size (with_members v (above ++ m ∷ below)) s → m.node.stopped ≡ None
     → m.node.found ≡ Some (Looked front) → front.number ≤ last_of m.node
 looked_in_order size v above m below s front stands runs found =
-    let names = stands.2.clients.0 in
+    let names = stands.0.2.clients.0 in
     let P : requests.Looked → Type 0 = requests.IsFresh v.told.front names.tokens in
-    let behind = all_behind P (flat_map looked_of above) (looked_of m ++ flat_map looked_of below) (subst (All P) (flat_split looked_of above m below) stands.2.clients.1.fresh) in
+    let behind = all_behind P (flat_map looked_of above) (looked_of m ++ flat_map looked_of below) (subst (All P) (flat_split looked_of above m below) stands.0.2.clients.1.fresh) in
     let committed : front.number ≤ v.told.front =
     (All-head P (record { slot = slot_of m; front = front.number }) (flat_map looked_of below) (subst (λ (o : Option Found). All P (looked_by (slot_of m) o ++ flat_map looked_of below)) found behind)).committed in
-    omega (arith, committed, (reach_there size v above m below s stands runs).has)
+    omega (arith, committed, (reach_there size v above m below s stands.0 runs).has)
 
 -- ---- who is recorded
 
@@ -82,7 +82,7 @@ looked_in_order size v above m below s front stands runs found =
 pub counted_at : (size : ℕ) (v : View) (above : List Member) (m : Member) (below : List Member) (s : State) → StandsFor size (with_members v (above ++ m ∷ below)) s → m.node.stopped ≡ None
     → may_be_recorded v.recorded v.writing m.node ≡ true
 counted_at size v above m below s stands runs =
-    let told : IsTold v.recorded v.before m.node = all_at (λ x. IsTold v.recorded v.before x.node) above m below stands.2.places.told in
+    let told : IsTold v.recorded v.before m.node = all_at (λ x. IsTold v.recorded v.before x.node) above m below stands.0.2.places.told in
     let here : is_in v.recorded (slot_of m) m.node.incarnation ≡ true = ap (is_it m.node.incarnation) (told.there runs) ∙ eq-eqb m.node.incarnation m.node.incarnation refl in
     or_left (is_in v.recorded (slot_of m) m.node.incarnation) (is_in_some v.writing (slot_of m) m.node.incarnation) here
 
@@ -186,16 +186,16 @@ pub message_in_order : (size : ℕ) (v : View) (above : List Member) (m : Member
 message_in_order size v above m below s from envelope rest stands runs apart first taken = let (now, same) = of_now m.node runs from envelope taken in by now envelope.message refl same
   where
     belongs : Belongs v.recorded v.before v.told.front envelope.epoch from (slot_of m) envelope.message
-    belongs = (All-head (IsProper v.recorded v.before v.told.front from (slot_of m)) envelope rest (subst (All (IsProper v.recorded v.before v.told.front from (slot_of m))) first (stands.2.links.links_of from (slot_of m)))).1
+    belongs = (All-head (IsProper v.recorded v.before v.told.front from (slot_of m)) envelope rest (subst (All (IsProper v.recorded v.before v.told.front from (slot_of m))) first (stands.0.2.links.links_of from (slot_of m)))).1
 
     by : envelope.epoch ≡ epoch_of m.node → (message : Message) → envelope.message ≡ message → take_message from message m.node ≡ Taken (stop Disorder m.node) → ⊥
     by now (messages.Put n origin write) is same =
         let near : n ≤ suc (last_of m.node) = not_further size v above m below runs from envelope (without_first from (slot_of m) rest v.links) now n origin write is m refl [] [] (sends_nothing m.node)
-        (first_passed from (slot_of m) envelope rest v.links apart first) s stands in
+        (first_passed from (slot_of m) envelope rest v.links apart first) s stands.0 in
         omega (arith, near, put_far m.node runs n origin write same)
     by now (messages.Ack front) is same =
         let committed : front ≤ v.told.front = subst (Belongs v.recorded v.before v.told.front envelope.epoch from (slot_of m)) is belongs in
-        omega (arith, committed, (reach_there size v above m below s stands runs).has, ack_far m.node runs front same)
+        omega (arith, committed, (reach_there size v above m below s stands.0 runs).has, ack_far m.node runs front same)
     by now (messages.Turn last) is same = turn_not m.node runs same
     by now (messages.Submit ticket write) is same = subst (Belongs v.recorded v.before v.told.front envelope.epoch from (slot_of m)) is belongs
 
@@ -205,10 +205,10 @@ pub submit_in_order : (size : ℕ) (v : View) (above : List Member) (m : Member)
 submit_in_order size v above m below s from envelope rest stands runs first taken = let (now, same) = of_now m.node runs from envelope taken in by now envelope.message refl same
   where
     told : IsTold v.recorded v.before m.node
-    told = all_at (λ x. IsTold v.recorded v.before x.node) above m below stands.2.places.told
+    told = all_at (λ x. IsTold v.recorded v.before x.node) above m below stands.0.2.places.told
 
     belongs : BelongsToHead v.recorded v.before envelope.epoch from (slot_of m) envelope.message
-    belongs = (All-head (IsProperSubmit v.recorded v.before from (slot_of m)) envelope rest (subst (All (IsProperSubmit v.recorded v.before from (slot_of m))) first (stands.2.links.submits_of from (slot_of m)))).1
+    belongs = (All-head (IsProperSubmit v.recorded v.before from (slot_of m)) envelope rest (subst (All (IsProperSubmit v.recorded v.before from (slot_of m))) first (stands.0.2.links.submits_of from (slot_of m)))).1
 
     in_chain : envelope.epoch ≡ epoch_of m.node → IsForHead v.recorded v.before envelope.epoch from (slot_of m) → (incarnation_in m.node.place.chain from ≢ None) × (head_of m.node.place.chain ≡ Some (slot_of m))
     in_chain now is = elim (told_one v.recorded v.before m.node told runs) [

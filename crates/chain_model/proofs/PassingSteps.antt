@@ -29,7 +29,7 @@ use Rattle.world_model.specs.Requests as requests
 use Rattle.world_model.proofs.Runs.{plays_nothing}
 use Rattle.world_model.proofs.Standing.{Shows}
 use Rattle.chain_model.proofs.Answering.{answers_committed, applied_left, refuses_those}
-use Rattle.chain_model.specs.Chain.{AreLinked, HasApplied, HasVolume, IsTold, StandsFor, StandsWith}
+use Rattle.chain_model.specs.Chain.{AreLinked, HasApplied, HasVolume, IsBehind, IsTold, MembersStand, StandsWith}
 use Rattle.chain_model.proofs.Changing.{Fits, all_changed, are, changes, requests_split, were}
 use Rattle.chain_model.specs.Laws.{HasPassed, HasSent, sent_to, with_members}
 use Rattle.chain_model.proofs.Linking.{IsProper, all_sent, linked_passed, linked_sent}
@@ -57,6 +57,7 @@ module _ (size : ℕ) (v : View) (above : List Member) (m g : Member) (below : L
     pub order : InOrder v.told.front line (hops_of (net_of v.recorded links (above ++ g ∷ below)))
     pub volume : HasVolume size v.told.front line m → HasVolume size v.told.front line g
     pub told : IsTold v.recorded v.before g.node
+    pub behind : IsBehind v.recorded g.node → IsBehind v.recorded m.node
     pub linked : AreLinked v.recorded v.before v.told.front links submits
     pub numbers : HasApplied g
     pub next : next_of g ≡ next_of m
@@ -74,6 +75,7 @@ module _ (size : ℕ) (v : View) (above : List Member) (m g : Member) (below : L
     order = fit.order;
     volumes = all_changed (HasVolume size v.told.front line) above m g below fit.volume stands.volumes;
     told = fit.told;
+    behind = fit.behind;
     linked = fit.linked;
     numbers = fit.numbers;
     disks = subst (λ (ds : List Disk). IsBacked v.told.front v.told.mask v.told.gauges v.told.receipts v.told.musters ds) (sym (flat_same (disk_in v.recorded v.writing) above m g below fit.disk)) stands.disks;
@@ -82,6 +84,7 @@ module _ (size : ℕ) (v : View) (above : List Member) (m g : Member) (below : L
     tickets = subst (All (AreBefore (are size v above m g below links submits events line))) (sym (maps_same next_of above m g below fit.next))
         (All-weaker (AreBefore (were size v above m g below links submits events line)) (AreBefore (are size v above m g below links submits events line)) tickets_then (map next_of (above ++ m ∷ below))
         (subst (λ (r : Requests). All (AreBefore r) (map next_of (above ++ m ∷ below))) (requests_split v line above m below) stands.tickets));
+    origins = stands.origins;
     clients = fit.clients;
   }
     where
@@ -106,7 +109,7 @@ its_raised size v above m below s line backed stands =
 pub links_change : (size : ℕ) (v : View) (above : List Member) (m : Member) (below : List Member) (links : ℕ → ℕ → List Envelope)
     → ((s : State) (line : List Kept) (backed : ℕ) → StandsWith size (with_members v (above ++ m ∷ below)) s line backed
     → InOrder v.told.front line (hops_of (net_of v.recorded links (above ++ m ∷ below))) × AreLinked v.recorded v.before v.told.front links v.submits)
-    → Plays size (StandsFor size (with_members v (above ++ m ∷ below))) (StandsFor size (record v { members = above ++ m ∷ below; links = links })) []
+    → Plays size (MembersStand size (with_members v (above ++ m ∷ below))) (MembersStand size (record v { members = above ++ m ∷ below; links = links })) []
 links_change size v above m below links shown = changes size v above m m below links v.submits []
     (λ s line backed stands.
     let (order, linked) = shown s line backed stands in (
@@ -118,6 +121,7 @@ links_change size v above m below links shown = changes size v above m m below l
         order = order;
         volume = λ is. is;
         told = all_at (λ x. IsTold v.recorded v.before x.node) above m below stands.places.told;
+        behind = λ late. late;
         linked = linked;
         numbers = all_at HasApplied above m below stands.numbers;
         next = refl;
@@ -136,7 +140,7 @@ module _ (size : ℕ) (v : View) (above : List Member) (m : Member) (below : Lis
   its_told s line backed stands = all_at (λ x. IsTold v.recorded v.before x.node) above m below stands.places.told
 
   pub stops : (cause : Cause) (events : List ClientEvent) → ArePutOut (stop cause m.node).out.replies events
-      → Plays size (StandsFor size (with_members v (above ++ m ∷ below))) (StandsFor size (with_members v (above ++ record m { node = (stop cause m.node).node } ∷ below))) events
+      → Plays size (MembersStand size (with_members v (above ++ m ∷ below))) (MembersStand size (with_members v (above ++ record m { node = (stop cause m.node).node } ∷ below))) events
   stops cause events out = changes size v above m (record m { node = (stop cause m.node).node }) below v.links v.submits events
       (λ s line backed stands. (
         line,
@@ -150,6 +154,7 @@ module _ (size : ℕ) (v : View) (above : List Member) (m : Member) (below : Lis
               (stands.order, stands.holders) refl;
           volume = λ is. is;
           told = (let is = its_told s line backed stands in record { within = is.within; now = is.now; old = is.old; near = λ no. absurd cc; there = λ no. absurd cc; itself = λ no. absurd cc });
+          behind = λ (still, late). absurd cc;
           linked = stands.links;
           numbers = record { applied = λ i w lt. absurd (omega (arith, lt)); none = λ stops i w lt. absurd (omega (arith, lt)) };
           next = refl;
@@ -205,6 +210,7 @@ module _ (size : ℕ) (v : View) (above : List Member) (m : Member) (below : Lis
           (ap (λ k. record (node_of m.node) { known = k }) more);
       volume = λ is. is;
       told = its_told s line backed stands;
+      behind = λ late. late;
       linked = linked;
       numbers = record { applied = applied_left (last_of m.node) (λ w. not (is_committed known w)) m.node.waiting (all_at HasApplied above m below stands.numbers).applied; none = λ stops. absurd (stops runs) };
       next = refl;
@@ -219,7 +225,7 @@ module _ (size : ℕ) (v : View) (above : List Member) (m : Member) (below : Lis
 
     -- it sends the Ack
     pub knows_itself : HasSent (slot_of m) (know told known m.node).out.messages v.links links
-        → Plays size (StandsFor size (with_members v (above ++ m ∷ below))) (StandsFor size (record v { members = above ++ record m { node = (know told known m.node).node } ∷ below; links = links })) events
+        → Plays size (MembersStand size (with_members v (above ++ m ∷ below))) (MembersStand size (record v { members = above ++ record m { node = (know told known m.node).node } ∷ below; links = links })) events
     knows_itself has = changes size v above m (record m { node = (know told known m.node).node }) below links v.submits events
         (λ s line backed stands. (
           line,
@@ -233,7 +239,7 @@ module _ (size : ℕ) (v : View) (above : List Member) (m : Member) (below : Lis
 
     -- it takes an Ack from a link, and sends it on
     pub knows_of : (from : ℕ) (envelope : Envelope) → stamped_in envelope ≡ [] → HasPassed from (slot_of m) envelope (know told known m.node).out.messages v.links links
-        → Plays size (StandsFor size (with_members v (above ++ m ∷ below))) (StandsFor size (record v { members = above ++ record m { node = (know told known m.node).node } ∷ below; links = links })) events
+        → Plays size (MembersStand size (with_members v (above ++ m ∷ below))) (MembersStand size (record v { members = above ++ record m { node = (know told known m.node).node } ∷ below; links = links })) events
     knows_of from envelope none has = changes size v above m (record m { node = (know told known m.node).node }) below links v.submits events
         (λ s line backed stands. (
           line,

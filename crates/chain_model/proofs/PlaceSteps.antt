@@ -102,7 +102,7 @@ none_first : (o : Option ℕ) → is_first (option_map suc o) ≡ false
 none_first None = refl
 none_first (Some at) = ne_eqb (suc at) 0 (λ is. absurd (omega arith))
 
-some_next : (o : Option ℕ) → is_some (option_map suc o) ≡ is_some o
+pub some_next : (o : Option ℕ) → is_some (option_map suc o) ≡ is_some o
 some_next None = refl
 some_next (Some at) = refl
 
@@ -110,7 +110,7 @@ from_next : (o : Option ℕ) (at : ℕ) → option_map suc o ≡ Some at → (k 
 from_next None at is = absurd cc
 from_next (Some k) at is = (k, refl)
 
-contains_first : (x : ℕ) (xs : List ℕ) (s : ℕ) → x ≡ s → Contains (x ∷ xs) s
+pub contains_first : (x : ℕ) (xs : List ℕ) (s : ℕ) → x ≡ s → Contains (x ∷ xs) s
 contains_first x xs s is = (0, omega arith, is)
 
 contains_next : (x : ℕ) (xs : List ℕ) (s : ℕ) → Contains xs s → Contains (x ∷ xs) s
@@ -127,7 +127,7 @@ placed_there (x ∷ xs) s at is = elim (cases_eq x.slot s) [
   | inr other ↦ let (k, below) = from_next (place_of xs s) at (sym (place_further x xs s other) ∙ is) in contains_next x.slot (slots xs) s (placed_there xs s k below)
 ]
 
-is_placed : (ms : List Member) (s : ℕ) → Contains (slots ms) s → is_some (place_of ms s) ≡ true
+pub is_placed : (ms : List Member) (s : ℕ) → Contains (slots ms) s → is_some (place_of ms s) ≡ true
 is_placed [] s (k, lt, is) = absurd (omega arith)
 is_placed (x ∷ xs) s there = elim (cases_eq x.slot s) [
   | inl same ↦ ap is_some (place_here x xs s same)
@@ -160,7 +160,7 @@ end_is : (vs : List ℕ) → not (is_some (first_of vs)) ≡ is_end vs
 end_is [] = refl
 end_is (v ∷ vs) = refl
 
-tail_is : (r : Record) (us : List ℕ) (s : ℕ) (vs : List ℕ) → Apart (chain_of r) → chain_of r ≡ us ++ s ∷ vs
+pub tail_is : (r : Record) (us : List ℕ) (s : ℕ) (vs : List ℕ) → Apart (chain_of r) → chain_of r ≡ us ++ s ∷ vs
     → (successor_of (record { slot = s; chain = r }) ≡ first_of vs) × (is_tail (record { slot = s; chain = r }) ≡ is_end vs)
 tail_is r us s vs apart chain =
     let there : Contains (chain_of r) s = subst (λ (c : List ℕ). Contains c s) (sym chain) (Contains-append_right us (s ∷ vs) s (contains_first s vs s refl)) in

@@ -33,7 +33,7 @@ use Rattle.world_model.specs.Machine.{Plays, State}
 use Rattle.chain_model.specs.Replicas as replicas
 use Rattle.world_model.proofs.Standing.{shows_stay}
 use Rattle.chain_model.proofs.Answering.{applied_left, refuses_those}
-use Rattle.chain_model.specs.Chain.{ArePlaced, Belongs, HasApplied, IsAbove, IsApplied, IsTold, StandsFor, StandsWith}
+use Rattle.chain_model.specs.Chain.{ArePlaced, Belongs, HasApplied, IsAbove, IsApplied, IsTold, MembersStand, StandsWith}
 use Rattle.chain_model.proofs.Changing.{are, changes, were}
 use Rattle.chain_model.proofs.Delivering.{order_delivers, order_passes_turn, put_is}
 use Rattle.chain_model.specs.Laws.{HasPassed, sent_to, with_members}
@@ -210,7 +210,7 @@ module _ (size : ℕ) (v : View) (above : List Member) (m : Member) (below : Lis
             one_at_most (messages.Turn applied) k j ms is = cc
             one_at_most (messages.Submit ticket write) k j ms is = cc
 
-    pub drops_old : Plays size (StandsFor size (with_members v (above ++ m ∷ below))) (StandsFor size (record v { members = above ++ m ∷ below; links = links })) []
+    pub drops_old : Plays size (MembersStand size (with_members v (above ++ m ∷ below))) (MembersStand size (record v { members = above ++ m ∷ below; links = links })) []
     drops_old = links_change size v above m below links (λ s line backed stands. (
       subst (InOrder v.told.front line) (sym (order_drops s line backed stands)) (stands.order, stands.holders),
       linked_passed v.recorded v.before v.told.front from (slot_of m) envelope [] v.links links v.submits has (λ to. All-nil (IsProper v.recorded v.before v.told.front (slot_of m) to)) stands.links,
@@ -254,7 +254,7 @@ module _ (size : ℕ) (v : View) (above : List Member) (m : Member) (below : Lis
 
       -- it has it
       pub passes_put : n ≤ last_of m.node → HasPassed from (slot_of m) envelope [] v.links links
-          → Plays size (StandsFor size (with_members v (above ++ m ∷ below))) (StandsFor size (record v { members = above ++ m ∷ below; links = links })) []
+          → Plays size (MembersStand size (with_members v (above ++ m ∷ below))) (MembersStand size (record v { members = above ++ m ∷ below; links = links })) []
       passes_put has_it has = links_change size v above m below links (λ s line backed stands.
           let step = takes m refl [] [] (sends_nothing m.node) (replicas.Put entry) passed has s line backed stands (above_it [] has s line backed stands) in
           let was = was_there m refl s line backed stands in (
@@ -265,7 +265,7 @@ module _ (size : ℕ) (v : View) (above : List Member) (m : Member) (below : Lis
 
       -- it is the next one: it is applied, and sent on
       pub applies_put : n ≡ suc (last_of m.node) → HasPassed from (slot_of m) envelope (apply n origin write m.node).out.messages v.links links
-          → Plays size (StandsFor size (with_members v (above ++ m ∷ below))) (StandsFor size (record v { members = above ++ record m { node = (apply n origin write m.node).node } ∷ below; links = links })) []
+          → Plays size (MembersStand size (with_members v (above ++ m ∷ below))) (MembersStand size (record v { members = above ++ record m { node = (apply n origin write m.node).node } ∷ below; links = links })) []
       applies_put follows has = changes size v above m (record m { node = (apply n origin write m.node).node }) below links v.submits []
           (λ s line backed stands.
           let g : Member = record m { node = (apply n origin write m.node).node } in
@@ -290,6 +290,7 @@ module _ (size : ℕ) (v : View) (above : List Member) (m : Member) (below : Lis
                   )));
               volume = λ is. is;
               told = its_told s line backed stands;
+              behind = λ late. late;
               linked = linked_passed v.recorded v.before v.told.front from (slot_of m) envelope (apply n origin write m.node).out.messages v.links links v.submits has (put_proper n origin write s line backed stands) stands.links;
               numbers = record { applied = told_applied n origin m.node (last_of (apply n origin write m.node).node) (omega (arith, follows, length_push m.node.table.kept entry)) (omega (arith, length_push m.node.table.kept entry)) (all_at HasApplied above m below stands.numbers).applied; none = λ stops. absurd (stops runs) };
               next = refl;
@@ -304,7 +305,7 @@ module _ (size : ℕ) (v : View) (above : List Member) (m : Member) (below : Lis
 
       -- none is further ahead
       pub not_further : (g : Member) → g.node.place ≡ m.node.place → (sent : List Sent) (sends : List replicas.Message) → SendsDown m.node sent sends → HasPassed from (slot_of m) envelope sent v.links links
-          → (s : State) → StandsFor size (with_members v (above ++ m ∷ below)) s → n ≤ suc (last_of m.node)
+          → (s : State) → MembersStand size (with_members v (above ++ m ∷ below)) s → n ≤ suc (last_of m.node)
       not_further g place sent sends down has s (line, backed, stands) =
           let step = takes g place sent sends down (replicas.Put entry) passed has s line backed stands (above_it sent has s line backed stands) in
           (put_is v.recorded v.before above m g below stands.slots place v.links links stands.places runs v.told.front line (stands.order, stands.holders) entry sends step).near_it
@@ -323,7 +324,7 @@ module _ (size : ℕ) (v : View) (above : List Member) (m : Member) (below : Lis
 
       -- a second one is passed over
       pub passes_turn : m.node.turned ≡ true → HasPassed from (slot_of m) envelope [] v.links links
-          → Plays size (StandsFor size (with_members v (above ++ m ∷ below))) (StandsFor size (record v { members = above ++ m ∷ below; links = links })) []
+          → Plays size (MembersStand size (with_members v (above ++ m ∷ below))) (MembersStand size (record v { members = above ++ m ∷ below; links = links })) []
       passes_turn turned has = links_change size v above m below links (λ s line backed stands. (
         order_passes_turn v.recorded v.before above m m below stands.slots refl v.links links stands.places runs v.told.front line (stands.order, stands.holders)
             (takes m refl [] [] (sends_nothing m.node) replicas.Turn turn_passed has s line backed stands (turn_above [] has s line backed stands)) refl turned,
@@ -332,7 +333,7 @@ module _ (size : ℕ) (v : View) (above : List Member) (m : Member) (below : Lis
 
       -- the first one: writes of an older epoch that have no number are refused, and what it doesn't know to be committed is sent again
       pub takes_turn : (events : List ClientEvent) → m.node.turned ≡ false → HasPassed from (slot_of m) envelope (turn m.node).out.messages v.links links → ArePutOut (turn m.node).out.replies events
-          → Plays size (StandsFor size (with_members v (above ++ m ∷ below))) (StandsFor size (record v { members = above ++ record m { node = (turn m.node).node } ∷ below; links = links })) events
+          → Plays size (MembersStand size (with_members v (above ++ m ∷ below))) (MembersStand size (record v { members = above ++ record m { node = (turn m.node).node } ∷ below; links = links })) events
       takes_turn events unturned has out = changes size v above m (record m { node = (turn m.node).node }) below links v.submits events
           (λ s line backed stands.
           let g : Member = record m { node = (turn m.node).node } in
@@ -351,6 +352,7 @@ module _ (size : ℕ) (v : View) (above : List Member) (m : Member) (below : Lis
                   )));
               volume = λ is. is;
               told = its_told s line backed stands;
+              behind = λ late. late;
               linked = linked_passed v.recorded v.before v.told.front from (slot_of m) envelope (turn m.node).out.messages v.links links v.submits has (again_proper s line backed stands) stands.links;
               numbers = record { applied = applied_left (last_of m.node) (λ w. not (is_outdated (epoch_of m.node) w)) m.node.waiting (all_at HasApplied above m below stands.numbers).applied; none = λ stops. absurd (stops runs) };
               next = refl;

@@ -1,8 +1,8 @@
 -- The next record is being written, and recorded: what a chain stands for stays. Lemmas.
-use Rattle.std.proofs.Common.{if◌then◌else◌, ◌≡◌, ◌≢◌, inl, inr, ℕ, suc, ◌==◌, ◌≤◌, Bool, true, false, ◌||◌, is_some, Option, None, Some, List, [], ◌∷◌, ◌++◌, get_or, length, map, option_map, refl, sym, ◌∙◌, ap, subst, arith}
+use Rattle.std.proofs.Common.{if◌then◌else◌, ◌≡◌, ◌≢◌, inl, inr, ℕ, suc, ◌==◌, ◌≤◌, Bool, true, false, ◌||◌, is_some, Option, None, Some, List, [], ◌∷◌, ◌++◌, get_or, length, map, refl, sym, ◌∙◌, ap, subst, arith}
 use Rattle.std.specs.Prelude.{All}
 use Rattle.std.specs.List.{Contains}
-use Rattle.std.proofs.lemmas.Bool.{cases_Bool, cases_eq, cond-false, cond-true, ne_eqb}
+use Rattle.std.proofs.lemmas.Bool.{cases_Bool, cond-false, cond-true, ne_eqb}
 use Rattle.std.proofs.lemmas.List.{append_assoc, map-append}
 use Rattle.std.proofs.lemmas.List.Elements.{All-cons, All-contains, All-contains_itself, All-head, All-tail, All-weaker, Contains-append_right}
 use Rattle.std.proofs.lemmas.Option.{same_Some}
@@ -13,7 +13,7 @@ use Rattle.gate_journal.specs.Receipt.{Receipt}
 use Rattle.version_table.specs.declared.kept.Kept.{Kept}
 use Rattle.version_table.specs.declared.kept.Origin.{Origin}
 use Rattle.chain_steps.specs.Node.{NodeState, epoch_of}
-use Rattle.chain_steps.specs.Place.{head_of, incarnation_in, is_it, member_at, predecessor_of}
+use Rattle.chain_steps.specs.Place.{head_of, incarnation_in, is_it, predecessor_of}
 use Rattle.chain_steps.specs.declared.cause.Cause.{Cause}
 use Rattle.chain_steps.specs.declared.message.Envelope.{Envelope}
 use Rattle.chain_steps.specs.declared.message.Message.{Message}
@@ -22,6 +22,7 @@ use Rattle.world_model.specs.Backing.{Disk, IsBacked, IsMustered, IsOnDisk, Must
 use Rattle.world_model.specs.Chain.{IsBefore}
 use Rattle.world_model.proofs.Counting.{all_at, all_before, all_behind, all_without}
 use Rattle.chain_model.specs.Links.{AllTold, Net, Node, Records, Stamped, at_epoch, hops_from, hops_of, stamped}
+use Rattle.chain_model.proofs.Incarnations.{of_any_epoch, same_without, slots, with_entries}
 use Rattle.chain_model.proofs.InOrder.{InOrder, alike_in_order, record_in_order}
 use Rattle.chain_model.proofs.LinkSteps.{remove_shows, same_shows, told_stage}
 use Rattle.world_model.specs.Machine.{State}
@@ -32,50 +33,13 @@ use Rattle.chain_model.specs.Replicas as replicas
 use Rattle.world_model.specs.Requests.{Requests}
 use Rattle.chain_model.specs.TurningSteps.{is_untold}
 use Rattle.chain_model.specs.TurningSteps as turning
-use Rattle.chain_model.specs.Chain.{AreLinked, ArePlaced, Belongs, BelongsToHead, IsAbove, IsTold, StandsWith}
+use Rattle.chain_model.specs.Chain.{AreLinked, ArePlaced, Belongs, BelongsToHead, IsAbove, IsDated, IsTold, StandsWith}
 use Rattle.chain_model.proofs.Changing.{plays_of}
 use Rattle.chain_model.specs.Laws.{BeginsRecord, EndsRecord, IsNext, IsWithout}
 use Rattle.chain_model.proofs.NetSteps.{StandsAt, stands_at}
-use Rattle.chain_model.proofs.PlaceSteps.{is_among, place_further, place_here, place_of, placed_behind, placed_first}
+use Rattle.chain_model.proofs.PlaceSteps.{is_among, place_of, placed_behind, placed_first}
 use Rattle.chain_model.proofs.SubmitSteps.{fewer_recorded, recorded_submits}
 use Rattle.chain_model.specs.View.{Member, View, chain_of, disk_in, disk_of, disks_of, is_in, net_of, next_of, passed_in, passed_on, requests_of, slot_of, slots_of}
-
--- ---- the incarnation at a slot, one member further
-
-abbrev with_entries : ℕ → List entries.Member → Record
-with_entries e ms = record { epoch = e; members = ms }
-
-abbrev slots : List entries.Member → List ℕ
-slots ms = map (λ m. m.slot) ms
-
-abbrev incarnation_at_place : ℕ → List entries.Member → Option ℕ → Option ℕ
-incarnation_at_place e ms o = option_map (λ (m : entries.Member). m.incarnation) (member_at (with_entries e ms) o)
-
--- what stands at a place, one member further
-at_shift : (e : ℕ) (x : entries.Member) (xs : List entries.Member) (o : Option ℕ) → incarnation_at_place e (x ∷ xs) (option_map suc o) ≡ incarnation_at_place e xs o
-at_shift e x xs None = refl
-at_shift e x xs (Some k) = refl
-
--- of the first one's slot it is its incarnation, and of any other slot that of the rest
-incarnation_here : (e : ℕ) (x : entries.Member) (xs : List entries.Member) (s : ℕ) → x.slot ≡ s → incarnation_in (with_entries e (x ∷ xs)) s ≡ Some x.incarnation
-incarnation_here e x xs s is = ap (incarnation_at_place e (x ∷ xs)) (place_here x xs s is)
-
-incarnation_further : (e : ℕ) (x : entries.Member) (xs : List entries.Member) (s : ℕ) → x.slot ≢ s → incarnation_in (with_entries e (x ∷ xs)) s ≡ incarnation_in (with_entries e xs) s
-incarnation_further e x xs s apart = ap (incarnation_at_place e (x ∷ xs)) (place_further x xs s apart) ∙ at_shift e x xs (place_of xs s)
-
--- the epoch is no matter
-of_any_epoch : (e f : ℕ) (ms : List entries.Member) (o : Option ℕ) → incarnation_at_place e ms o ≡ incarnation_at_place f ms o
-of_any_epoch e f ms None = refl
-of_any_epoch e f ms (Some k) = refl
-
--- without one member the others are as they were
-same_without : (e : ℕ) (before : List entries.Member) (removed : entries.Member) (behind : List entries.Member) (s : ℕ) → removed.slot ≢ s
-    → incarnation_in (with_entries e (before ++ behind)) s ≡ incarnation_in (with_entries e (before ++ removed ∷ behind)) s
-same_without e [] removed behind s apart = sym (incarnation_further e removed behind s apart)
-same_without e (x ∷ before) removed behind s apart = elim (cases_eq x.slot s) [
-  | inl here ↦ incarnation_here e x (before ++ behind) s here ∙ sym (incarnation_here e x (before ++ removed ∷ behind) s here)
-  | inr other ↦ incarnation_further e x (before ++ behind) s other ∙ same_without e before removed behind s apart ∙ sym (incarnation_further e x (before ++ removed ∷ behind) s other)
-]
 
 -- ---- a list of slots without one
 
@@ -149,6 +113,17 @@ without_one v next out apart =
 succeeds : (v : View) (next : Record) → IsNext v next → Apart (chain_of v.recorded) → Succeeds v.recorded next v.members
 succeeds v next is apart = elim is.members [ inl out ↦ without_one v next out apart | inr same ↦ same_members v.recorded next v.members same apart ]
 
+-- ---- incarnations
+
+-- the next record has none that the recorded one hasn't
+next_dated : (v : View) (next : Record) → IsNext v next → IsDated v.youngest v.recorded → IsDated v.youngest next
+next_dated v next is dated = elim is.members [
+  | inl out ↦
+      let P = λ (m : entries.Member). m.incarnation ≤ v.youngest in
+      subst (All P) (sym out.are) (all_without P out.before out.removed out.behind (subst (All P) out.were dated))
+  | inr same ↦ subst (All (λ (m : entries.Member). m.incarnation ≤ v.youngest)) (sym same) dated
+]
+
 -- ---- disks
 
 -- whoever is in the next record is in the recorded one
@@ -178,7 +153,7 @@ disk_by true b d is = refl
 disk_by false b d is = cond-true b (d ∷ []) [] is
 
 -- and its disks are some of those that a stop may leave recorded while it is written
-fewer_disks : (P : Disk → Type 0) (recorded next : Record) (ms : List Member) → All P (disks_of recorded (Some next) ms) → All P (disks_of next None ms)
+pub fewer_disks : (P : Disk → Type 0) (recorded next : Record) (ms : List Member) → All P (disks_of recorded (Some next) ms) → All P (disks_of next None ms)
 fewer_disks P recorded next [] all = all
 fewer_disks P recorded next (m ∷ ms) all =
     let rest : All P (disks_of next None ms) = fewer_disks P recorded next ms (all_behind P (disk_in recorded (Some next) m) (disks_of recorded (Some next) ms) all) in
@@ -192,7 +167,7 @@ fewer_disks P recorded next (m ∷ ms) all =
     ]
 
 -- what the board tells of disks is so of some of them
-backs_fewer : (committed mask : ℕ) (gauges receipts : List Receipt) (musters : List Muster) (ds es : List Disk) → ((P : Disk → Type 0) → All P ds → All P es) → IsBacked committed mask gauges receipts musters ds
+pub backs_fewer : (committed mask : ℕ) (gauges receipts : List Receipt) (musters : List Muster) (ds es : List Disk) → ((P : Disk → Type 0) → All P ds → All P es) → IsBacked committed mask gauges receipts musters ds
     → IsBacked committed mask gauges receipts musters es
 backs_fewer committed mask gauges receipts musters ds es fewer is = record {
   mask_covers = fewer (λ d. counts mask d.slot ≡ true) is.mask_covers;
@@ -227,12 +202,16 @@ begins_record size v next is writing = plays_of size v (record v { writing = Som
           links = stands.links;
           numbers = stands.numbers;
           disks = subst (IsBacked v.told.front v.told.mask v.told.gauges v.told.receipts v.told.musters) disks stands.disks;
+          within = stands.within;
           backs = subst (All (λ d. backed ≤ d.durable)) disks stands.backs;
           fronts = stands.fronts;
           raised = stands.raised;
           clients = stands.clients;
           slots = stands.slots;
           tickets = stands.tickets;
+          dated = stands.dated;
+          dated_before = stands.dated_before;
+          origins = stands.origins;
         }
 
 -- ---- all were told
@@ -282,11 +261,11 @@ module _ (recorded before : Record) (links : ℕ → ℕ → List Envelope) (mem
       let (told, within) = told_there y None there (placed_first recorded y ys places.apart chain).0 in
       (told, within, told_behind [] y ys chain)
 
-  all_told : AllTold net None (chain_of recorded)
+  pub all_told : AllTold net None (chain_of recorded)
   all_told = told_from (chain_of recorded) refl
 
 -- so it is seen
-hops_told : (w : Net) (prev : Option ℕ) (ys : List ℕ) → AllTold w prev ys → turning.AllTold (hops_from w prev ys)
+pub hops_told : (w : Net) (prev : Option ℕ) (ys : List ℕ) → AllTold w prev ys → turning.AllTold (hops_from w prev ys)
 hops_told w prev [] all = tt
 hops_told w prev (y ∷ ys) (told, within, rest) = (λ runs. told_stage w.epoch (w.nodes y).epoch (w.nodes y).turned (told runs).0, hops_told w (Some y) ys rest)
 
@@ -300,7 +279,7 @@ none_here e at (messages.Turn applied) rest other = cond-false (at == e) (replic
 none_here e at (messages.Submit ticket write) rest other = refl
 
 -- and so on a whole link
-none_later : (epoch : ℕ) (link : List Envelope) → All (λ e. e.epoch ≤ epoch) link → at_epoch (suc epoch) (passed_on link) ≡ []
+pub none_later : (epoch : ℕ) (link : List Envelope) → All (λ e. e.epoch ≤ epoch) link → at_epoch (suc epoch) (passed_on link) ≡ []
 none_later epoch [] all = refl
 none_later epoch (e ∷ es) all =
     none_here (suc epoch) e.epoch e.message (passed_on es) (λ is. let le = All-head (λ (x : Envelope). x.epoch ≤ epoch) e es all in omega arith) ∙ none_later epoch es (All-tail (λ (x : Envelope). x.epoch ≤ epoch) e es all)
@@ -326,7 +305,7 @@ submit_belongs_then recorded before next epoch from to (messages.Turn applied) l
 submit_belongs_then recorded before next epoch from to (messages.Submit ticket write) later le is = record { now = λ same. absurd (omega (arith, later, same)); old = λ same. is.now (omega (arith, later, same)) }
 
 -- and so are all on the links
-linked_then : (recorded before next : Record) (front : ℕ) (links submits : ℕ → ℕ → List Envelope) → next.epoch ≡ suc recorded.epoch → AreLinked recorded before front links submits → AreLinked next recorded front links submits
+pub linked_then : (recorded before next : Record) (front : ℕ) (links submits : ℕ → ℕ → List Envelope) → next.epoch ≡ suc recorded.epoch → AreLinked recorded before front links submits → AreLinked next recorded front links submits
 linked_then recorded before next front links submits later is = record {
   links_of = λ from to k d lt.
       let (le, belongs) = is.links_of from to k d lt in
@@ -337,7 +316,7 @@ linked_then recorded before next front links submits later is = record {
 }
 
 -- who was told the recorded chain, and is in the next one if it runs
-told_then : (recorded before next : Record) (node : NodeState) → next.epoch ≡ suc recorded.epoch → IsTold recorded before node → (node.stopped ≡ None → epoch_of node ≡ recorded.epoch)
+pub told_then : (recorded before next : Record) (node : NodeState) → next.epoch ≡ suc recorded.epoch → IsTold recorded before node → (node.stopped ≡ None → epoch_of node ≡ recorded.epoch)
     → (node.stopped ≡ None → incarnation_in next node.place.slot ≡ incarnation_in recorded node.place.slot) → IsTold next recorded node
 told_then recorded before next node later told now stays = record {
   within = omega (arith, told.within, later);
@@ -359,7 +338,7 @@ module _ (v : View) (next : Record) (is : IsNext v next) (places : ArePlaced v.r
         close = follows.close;
         first = follows.first;
         stands = All-weaker (Contains (chain_of v.recorded)) (Contains (slots_of v.members)) (λ s there. All-contains (Contains (slots_of v.members)) (chain_of v.recorded) s places.stands there) (chain_of next) follows.some;
-        stood = places.stands;
+        stood = λ k d lt late. places.stands;
         told = λ k d lt. told_then v.recorded v.before next (get_or v.members k d).node is.epoch (places.told k d lt) (all k d lt) (follows.stays k d lt);
       }
 
@@ -414,6 +393,7 @@ ends_record size v next is writing all = plays_of size v (record v { recorded = 
           numbers = stands.numbers;
           disks = backs_fewer v.told.front v.told.mask v.told.gauges v.told.receipts v.told.musters disks (disks_of next None v.members) (λ P. fewer_disks P v.recorded next v.members)
               (subst (λ (o : Option Record). IsBacked v.told.front v.told.mask v.told.gauges v.told.receipts v.told.musters (disks_of v.recorded o v.members)) writing stands.disks);
+          within = stands.within;
           backs = fewer_disks (λ d. backed ≤ d.durable) v.recorded next v.members (subst (λ (o : Option Record). All (λ d. backed ≤ d.durable) (disks_of v.recorded o v.members)) writing stands.backs);
           fronts = stands.fronts;
           raised = stands.raised;
@@ -423,4 +403,7 @@ ends_record size v next is writing all = plays_of size v (record v { recorded = 
               let was = stands.tickets k d lt in
               let origin : Origin = get_or (map next_of v.members) k d in
               record { line = was.line; submits = fewer_recorded (λ x. IsBefore origin x.origin) v.recorded v.before next v.submits (slots_of v.members) is.epoch within was.submits; tokens = was.tokens };
+          dated = next_dated v next is stands.dated;
+          dated_before = stands.dated;
+          origins = stands.origins;
         }

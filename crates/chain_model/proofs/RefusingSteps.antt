@@ -22,15 +22,15 @@ use Rattle.chain_steps.specs.declared.message.Message.{Message}
 use Rattle.chain_steps.specs.declared.message.Message.TheVariants as messages
 use Rattle.chain_steps.specs.declared.waiting.Waiting.{Waiting}
 use Rattle.world_model.specs.Chain.{ArePutOut, reply_event}
-use Rattle.world_model.proofs.Counting.{all_at}
+use Rattle.world_model.proofs.Counting.{all_at, all_without}
 use Rattle.world_model.specs.Event.{Answered, ClientEvent, Failed}
 use Rattle.world_model.specs.Machine.{State}
 use Rattle.world_model.specs.Requests.{Held, sent_event}
-use Rattle.chain_model.specs.Chain.{AreLinked, Belongs, BelongsToHead, IsForHead, IsTold, StandsFor}
+use Rattle.chain_model.specs.Chain.{AreLinked, Belongs, BelongsToHead, IsForHead, IsTold, MembersStand, StandsFor}
 use Rattle.chain_model.proofs.Changing.{all_changed}
 use Rattle.chain_model.proofs.HeldSteps.{each_held}
 use Rattle.chain_model.specs.Laws.{HasPassed, HasTaken, with_members}
-use Rattle.chain_model.specs.Life.{Answer, AnswerFloor, AnswerFront, Ask, BeginCommit, BoardTells, Does, Doing, Drop, EndCommit, FrontHeld, FrontRaised, KeepRaised, LookUp, MemberDoes, MemberSubmits, MemberTakes, MemberTold, MessageTaken, RaisedKnown, RecordBegun, RecordEnded, Refuse, RequestsSent, RequestsTakenUp, SessionBegins, SessionEnds, Stop, SubmitTaken, Takes, Taking, Wait}
+use Rattle.chain_model.specs.Life.{Answer, AnswerFloor, AnswerFront, Ask, BeginCommit, BoardTells, Does, Doing, Drop, EndCommit, FrontHeld, FrontRaised, JoinBegun, JoinEnded, JoinerCounted, JoinerLeft, KeepRaised, LookUp, MemberDoes, MemberForgotten, MemberSubmits, MemberTakes, MemberTold, MessageTaken, RaisedKnown, RecordBegun, RecordEnded, Refuse, RequestsSent, RequestsTakenUp, SessionBegins, SessionEnds, Stop, SubmitTaken, Takes, Taking, Wait}
 use Rattle.chain_model.proofs.Linking.{IsProperSubmit, first_proper}
 use Rattle.chain_model.proofs.MemberSteps.{reach}
 use Rattle.chain_model.proofs.MessageSteps.{same_step, taken_step}
@@ -43,14 +43,14 @@ use Rattle.chain_model.specs.View.{Member, View, slot_of}
 -- ---- the steps that a message brings about
 
 -- What holds of each step that a message may bring about holds of the one that it does; the steps that stop the member say why.
-record Each (P : Stepped → Type 0) (from : ℕ) (envelope : Envelope) (node : NodeState) : Type 0 where
-  quiet : P (silent node)
-  applies : (n : ℕ) (origin : Origin) (write : Placed) → P (apply n origin write node)
-  knows : (told known : ℕ) → P (know told known node)
-  turns : P (turn node)
-  further : node.stopped ≡ None → envelope.epoch ≡ epoch_of node → (n : ℕ) (origin : Origin) (write : Placed) → envelope.message ≡ messages.Put n origin write → last_of node + 1 < n → P (stop Disorder node)
-  above : node.stopped ≡ None → envelope.epoch ≡ epoch_of node → (front : ℕ) → envelope.message ≡ messages.Ack front → last_of node < front → P (stop Disorder node)
-  astray : node.stopped ≡ None → envelope.epoch ≡ epoch_of node → (ticket : ℕ) (write : Placed) → envelope.message ≡ messages.Submit ticket write
+pub record Each (P : Stepped → Type 0) (from : ℕ) (envelope : Envelope) (node : NodeState) : Type 0 where
+  pub quiet : P (silent node)
+  pub applies : (n : ℕ) (origin : Origin) (write : Placed) → P (apply n origin write node)
+  pub knows : (told known : ℕ) → P (know told known node)
+  pub turns : P (turn node)
+  pub further : node.stopped ≡ None → envelope.epoch ≡ epoch_of node → (n : ℕ) (origin : Origin) (write : Placed) → envelope.message ≡ messages.Put n origin write → last_of node + 1 < n → P (stop Disorder node)
+  pub above : node.stopped ≡ None → envelope.epoch ≡ epoch_of node → (front : ℕ) → envelope.message ≡ messages.Ack front → last_of node < front → P (stop Disorder node)
+  pub astray : node.stopped ≡ None → envelope.epoch ≡ epoch_of node → (ticket : ℕ) (write : Placed) → envelope.message ≡ messages.Submit ticket write
       → (is_head node.place ≡ false) ⊎ (incarnation_in node.place.chain from ≡ None) → P (stop Disorder node)
 
 module _ (P : Stepped → Type 0) (from : ℕ) (envelope : Envelope) (node : NodeState) (each : Each P from envelope node) where
@@ -110,11 +110,11 @@ module _ (P : Stepped → Type 0) (from : ℕ) (envelope : Envelope) (node : Nod
     one_of (messages.Turn last) stepped is taken = turn_one stepped taken
     one_of (messages.Submit ticket write) stepped is taken = number_one ticket write stepped is taken
 
-  each_delivery : (stepped : Stepped) → deliver from envelope node ≡ Taken stepped → P stepped
+  pub each_delivery : (stepped : Stepped) → deliver from envelope node ≡ Taken stepped → P stepped
   each_delivery stepped taken = taken_step P from envelope node stepped taken (λ runs before. each.quiet) (λ runs now is. one_of runs now envelope.message stepped refl is)
 
 -- and what holds of those that a record brings about
-each_told : (P : Stepped → Type 0) (chain : Record) (node : NodeState) → P (silent node) → P (silent (placed chain node)) → P (turn (placed chain node)) → (stepped : Stepped) → told chain node ≡ Taken stepped → P stepped
+pub each_told : (P : Stepped → Type 0) (chain : Record) (node : NodeState) → P (silent node) → P (silent (placed chain node)) → P (turn (placed chain node)) → (stepped : Stepped) → told chain node ≡ Taken stepped → P stepped
 each_told P chain node quiet waits turns stepped taken = elim (cases_Bool (is_stopped node)) [
   | inl stopped ↦ let no : Refused 154 ≡ Taken stepped = rw stopped at taken in absurd cc
   | inr running ↦ elim (cases_Bool (nat_le chain.epoch (epoch_of node))) [
@@ -177,7 +177,7 @@ module _ (v w : View) (above : List Member) (m g : Member) (below : List Member)
   all_outdated : g.node.turned ≡ true → All HasExcuse (map (reply_to (Some Io)) (filter (is_outdated (epoch_of g.node)) m.node.waiting))
   all_outdated turned = All-map HasExcuse (reply_to (Some Io)) (filter (is_outdated (epoch_of g.node)) m.node.waiting)
       (All-weaker (λ t. Contains m.node.waiting t × (is_outdated (epoch_of g.node) t ≡ true)) (λ t. HasExcuse (reply_to (Some Io) t))
-      (λ t ((k, lt, is), old). inr (record { changed = changed; turns = turned; waited = (k, t, lt, is, ((refl, refl), old)) })) (filter (is_outdated (epoch_of g.node)) m.node.waiting)
+      (λ t ((k, lt, is), old). inr (inl (record { changed = changed; turns = turned; waited = (k, t, lt, is, ((refl, refl), old)) }))) (filter (is_outdated (epoch_of g.node)) m.node.waiting)
       (λ i d lt. (All-filter (is_outdated (epoch_of g.node)) (Contains m.node.waiting) m.node.waiting (All-contains_itself m.node.waiting) i d lt, filter_passes (is_outdated (epoch_of g.node)) m.node.waiting i d lt)))
 
   -- the events that are put out
@@ -189,11 +189,13 @@ module _ (v w : View) (above : List Member) (m g : Member) (below : List Member)
 
   takes : (size : ℕ) (taking : Taking) (d : Held) (rest : List Held) (events : List ClientEvent) → m.demands ≡ d ∷ rest → Takes size taking d rest m g events → All (HasPlea v w) events
   takes size Drop d rest events first (is, shows) = none_put_out (HasPlea v w) events shows
-  takes size (Refuse Io) d rest events first (may, is, shows) = rw shows (All-cons (HasPlea v w) (Answered d.session d.cookie (Failed Io)) [] (inl (record {
-    changed = changed;
-    stopped = subst (λ (x : Member). x.node.stopped ≢ None) (sym is) may;
-    waited = inl (subst (λ (ds : List Held). Any (IsDemandOf d.session d.cookie) ds) (sym first) (0, d, omega arith, refl, (refl, refl)));
-  })) (All-nil (HasPlea v w)))
+  takes size (Refuse Io) d rest events first (may, is, shows) = rw shows (All-cons (HasPlea v w) (Answered d.session d.cookie (Failed Io)) [] (elim may [
+    | inl stopped ↦ inl (record { changed = changed; stopped = subst (λ (x : Member). x.node.stopped ≢ None) (sym is) stopped; waited = inl asked })
+    | inr newcomer ↦ inr (inr (record { changed = changed; newcomer = newcomer; waited = asked }))
+  ]) (All-nil (HasPlea v w)))
+    where
+      asked : Any (IsDemandOf d.session d.cookie) m.demands
+      asked = subst (λ (ds : List Held). Any (IsDemandOf d.session d.cookie) ds) (sym first) (0, d, omega arith, refl, (refl, refl))
   takes size (Refuse NoMemory) d rest events first (may, is, shows) = rw shows (All-cons (HasPlea v w) (Answered d.session d.cookie (Failed NoMemory)) [] tt (All-nil (HasPlea v w)))
   takes size (Answer offset len) d rest events first (runs, asked, clean, sized, inside, is, shows) = rw shows (All-cons (HasPlea v w) _ [] tt (All-nil (HasPlea v w)))
   takes size (Ask offset len token) d rest events first (asked, session, cookie, is, shows) = none_put_out (HasPlea v w) events shows
@@ -260,6 +262,11 @@ refusals_have_pleas size v w FrontRaised events (is, shows) = none_put_out (HasP
 refusals_have_pleas size v w BoardTells events (is, shows) = none_put_out (HasPlea v w) events shows
 refusals_have_pleas size v w RecordBegun events (is, shows) = none_put_out (HasPlea v w) events shows
 refusals_have_pleas size v w RecordEnded events (is, shows) = none_put_out (HasPlea v w) events shows
+refusals_have_pleas size v w JoinerCounted events (is, shows) = none_put_out (HasPlea v w) events shows
+refusals_have_pleas size v w JoinerLeft events (is, shows) = none_put_out (HasPlea v w) events shows
+refusals_have_pleas size v w JoinBegun events (is, shows) = none_put_out (HasPlea v w) events shows
+refusals_have_pleas size v w JoinEnded events (is, shows) = none_put_out (HasPlea v w) events shows
+refusals_have_pleas size v w MemberForgotten events (is, shows) = none_put_out (HasPlea v w) events shows
 refusals_have_pleas size v w MemberTold events is = told_of v w is.above is.member is.below is.were v.recorded is.stepped events is.taken (ap (λ (x : View). x.members) is.are) is.out
 refusals_have_pleas size v w SessionBegins events (at, are, shows) = none_put_out (HasPlea v w) events shows
 refusals_have_pleas size v w SessionEnds events (at, are, shows) = none_put_out (HasPlea v w) events shows
@@ -302,7 +309,7 @@ module _ (v : View) (above : List Member) (m g : Member) (below : List Member) w
       same_cause cause is = cc
 
 -- a step that a message brings about stops nobody
-module _ (size : ℕ) (v : View) (above : List Member) (m : Member) (below : List Member) (from : ℕ) (envelope : Envelope) (s : State) (stands : StandsFor size (with_members v (above ++ m ∷ below)) s) where
+module _ (size : ℕ) (v : View) (above : List Member) (m : Member) (below : List Member) (from : ℕ) (envelope : Envelope) (s : State) (stands : MembersStand size (with_members v (above ++ m ∷ below)) s) where
   its_told : IsTold v.recorded v.before m.node
   its_told = all_at (λ x. IsTold v.recorded v.before x.node) above m below stands.2.places.told
 
@@ -359,8 +366,8 @@ module _ (size : ℕ) (v : View) (above : List Member) (m : Member) (below : Lis
 stay : (v w : View) → w.members ≡ v.members → HasNoDisorder v → HasNoDisorder w
 stay v w same all = subst (All (λ x. x.node.stopped ≢ Some Disorder)) (sym same) all
 
-standing : (size : ℕ) (v : View) (members : List Member) (s : State) → v.members ≡ members → StandsFor size v s → StandsFor size (with_members v members) s
-standing size v members s were stands = subst (λ (ms : List Member). StandsFor size (with_members v ms) s) were stands
+standing : (size : ℕ) (v : View) (members : List Member) (s : State) → v.members ≡ members → StandsFor size v s → MembersStand size (with_members v members) s
+standing size v members s were stands = subst (λ (ms : List Member). MembersStand size (with_members v ms) s) were stands.0
 
 pub stops_have_causes : StopsHaveCauses
 stops_have_causes size v w s (MemberTakes taking) events stands one =
@@ -389,6 +396,16 @@ stops_have_causes size v w s FrontRaised events stands (is, shows) = stay v w (a
 stops_have_causes size v w s BoardTells events stands (is, shows) = stay v w (ap (λ (x : View). x.members) is.are)
 stops_have_causes size v w s RecordBegun events stands (is, shows) = stay v w (ap (λ (x : View). x.members) is.are)
 stops_have_causes size v w s RecordEnded events stands (is, shows) = stay v w (ap (λ (x : View). x.members) is.are)
+stops_have_causes size v w s JoinerCounted events stands (is, shows) = stay v w (ap (λ (x : View). x.members) is.are)
+stops_have_causes size v w s JoinerLeft events stands (is, shows) = stay v w (ap (λ (x : View). x.members) is.are)
+stops_have_causes size v w s JoinBegun events stands (is, shows) = stay v w (ap (λ (x : View). x.members) is.are)
+stops_have_causes size v w s JoinEnded events stands (is, shows) = λ all.
+    let P : Member → Type 0 = λ x. x.node.stopped ≢ Some Disorder in
+    let runs : is.member.node.stopped ≢ Some Disorder = λ disorder. let no : None ≡ Some Disorder = sym is.starts.idle.runs ∙ disorder in cc in
+    subst (All P) (sym (ap (λ (x : View). x.members) is.are)) (All-append P v.members (is.member ∷ []) all (All-cons P is.member [] runs (All-nil P)))
+stops_have_causes size v w s MemberForgotten events stands (is, shows) = λ all.
+    let P : Member → Type 0 = λ x. x.node.stopped ≢ Some Disorder in
+    subst (All P) (sym (ap (λ (x : View). x.members) is.are)) (all_without P is.above is.member is.below (subst (All P) is.were all))
 stops_have_causes size v w s MemberTold events stands is =
     one_goes v is.above is.member (record is.member { node = is.stepped.node }) is.below w is.were (ap (λ (x : View). x.members) is.are)
     (each_told (λ x. is.member.node.stopped ≢ Some Disorder → x.node.stopped ≢ Some Disorder) v.recorded is.member.node (λ other. other) (λ other. other) (λ other. other) is.stepped is.taken)

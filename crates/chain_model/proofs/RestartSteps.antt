@@ -10,6 +10,7 @@ use Rattle.std.proofs.lemmas.Option.{slice_get-get_or, slice_get-map}
 use Rattle.board.specs.Mask.{counts}
 use Rattle.configurations.specs.Record.{Record}
 use Rattle.configurations.specs.declared.member.Member as recorded
+use Rattle.gate_journal.specs.Receipt.{Receipt}
 use Rattle.version_table.specs.Held.{Held as Table, writes_upto}
 use Rattle.version_table.specs.declared.kept.Kept.{Kept}
 use Rattle.version_table.specs.declared.kept.Origin.{Origin}
@@ -18,23 +19,24 @@ use Rattle.chain_steps.specs.Node.{last_of}
 use Rattle.chain_steps.specs.Place.{Standing, head_of, incarnation_in, is_tail, member_at, place_in, predecessor_of, successor_of}
 use Rattle.chain_steps.specs.declared.cause.Cause.{Cause}
 use Rattle.chain_steps.specs.declared.message.Envelope.{Envelope}
-use Rattle.world_model.specs.Backing.{Disk, IsMustered}
+use Rattle.world_model.specs.Backing.{Disk, IsMustered, Muster}
 use Rattle.world_model.specs.Chain.{AreBefore, IsBefore, IsTokenBefore, looked_by, owing_at, raised_by}
 use Rattle.world_model.proofs.Counting.{count-cons, one_if, one_if-same}
+use Rattle.chain_model.proofs.Incarnations.{is_itself}
 use Rattle.chain_model.proofs.InOrder.{InOrder, start_in_order}
 use Rattle.chain_model.specs.Links.{Net, Node, at_epoch, first_of, from_slot, hop_at, hop_of, hops_from, hops_of, is_end, is_slot}
-use Rattle.world_model.specs.Machine.{Restart, State, Waits, after, start}
+use Rattle.world_model.specs.Machine.{May, Restart, State, Waits, after, start}
 use Rattle.world_model.specs.Order.{AreNumberedFrom, volume_after}
 use Rattle.chain_model.specs.Placed.{Apart, Close}
 use Rattle.chain_model.specs.Replicas.{Hop}
 use Rattle.world_model.specs.Requests.{Bound, Entry, Held, IsBound, IsFresh, IsSent, Looked, Owing, Requests, Sending, Submitted, count_line, count_submits, count_tokens, named_writes}
 use Rattle.world_model.specs.Requests as requests
 use Rattle.world_model.proofs.Standing.{no_map}
-use Rattle.world_model.proofs.TokenSteps.{restarts, starts}
+use Rattle.world_model.proofs.TokenSteps.{first_writes_are, restarts, starts}
 use Rattle.chain_model.specs.TurningLaws.{fresh, started}
 use Rattle.chain_model.proofs.BoardSteps.{is_on_each_disk, reach_recorded, volume_recorded}
-use Rattle.chain_model.specs.Chain.{ArePlaced, Belongs, BelongsToHead, HasApplied, HasVolume, IsApplied, IsTold, LeavesRecorded, StandsFor}
-use Rattle.chain_model.specs.Laws.{FirstChain, IsBeginning, IsIdle, RestartsChain, recorded_as, with_members}
+use Rattle.chain_model.specs.Chain.{ArePlaced, Belongs, BelongsToHead, HasApplied, HasVolume, IsApplied, IsDated, IsIfThere, IsJoining, IsTold, LeavesRecorded, MembersStand, StandsFor, StandsWith}
+use Rattle.chain_model.specs.Laws.{FirstChain, IsBeginning, IsIdle, RestartsChain, RestartsFromJoiner, recorded_as, with_members}
 use Rattle.chain_model.proofs.NetSteps.{node_here}
 use Rattle.chain_model.proofs.PlaceSteps.{placed_behind, placed_first}
 use Rattle.chain_model.specs.View.{Member, View, chain_of, disk_in, disk_of, disks_of, looked_of, may_be_recorded, net_of, next_of, node_at, node_of, passed_on, raised_of, requests_of, slot_of, slots_of, submitted_among, submitted_from, submitted_on, tokens_of}
@@ -244,7 +246,7 @@ module _ (r before : Record) (front : ℕ) (volume : List ℕ) (ms : List Member
         old = λ at. absurd (omega (arith, epoch, at));
         near = λ runs. omega (arith, epoch);
         there = λ runs. there;
-        itself = λ runs. subst (λ (c : Record). incarnation_in c (slot_of m) ≡ Some m.node.incarnation) (sym is.told) there;
+        itself = λ runs. subst (IsIfThere m.node.incarnation) (sym (subst (λ (c : Record). incarnation_in c (slot_of m) ≡ Some m.node.incarnation) (sym is.told) there)) (is_itself m.node.incarnation);
       }
 
   placed_idle : ArePlaced r before ms
@@ -254,7 +256,7 @@ module _ (r before : Record) (front : ℕ) (volume : List ℕ) (ms : List Member
     close = subst (λ (c : Record). Close (chain_of c) (chain_of r)) (sym same) (λ y t in_y in_t is. is);
     first = λ s is there. ap head_of (sym same) ∙ is;
     stands = subst (λ (c : List ℕ). All (λ s. Contains (slots_of ms) s) c) (sym chain_is) (All-contains_itself (slots_of ms));
-    stood = subst (λ (c : Record). All (λ s. Contains (slots_of ms) s) (chain_of c)) (sym same) (subst (λ (c : List ℕ). All (λ s. Contains (slots_of ms) s) c) (sym chain_is) (All-contains_itself (slots_of ms)));
+    stood = λ i d lt late. subst (λ (c : Record). All (λ s. Contains (slots_of ms) s) (chain_of c)) (sym same) (subst (λ (c : List ℕ). All (λ s. Contains (slots_of ms) s) c) (sym chain_is) (All-contains_itself (slots_of ms)));
     told = λ i d lt. told_idle (get_or ms i d) (idle i d lt) (recorded_at r ms are slots i d lt);
   }
 
@@ -308,9 +310,9 @@ module _ (size front : ℕ) (volume : List ℕ) (v : View) (line : List Kept) (i
           let here : P (disk_of m) = subst (λ (t : Table). P (record { slot = m.node.place.slot; durable = t.forgotten })) (sym idle.table) (holds m.node.place.slot) in
           All-cons P (disk_of m) (map disk_of ms) here (go ms (All-tail (IsIdle v.recorded front volume) m ms all))
 
-  -- it stands for what the line alone stands for, where all origins are past
+  -- its members stand for what the line alone stands for, where all origins are past
   beginning_stands : (s : State) → AreNumberedFrom 1 line → front ≡ length line → volume ≡ volume_after size line → All (λ k. k.origin.incarnation ≡ 0) line → requests.StandsFor front (line_alone front line) s
-      → StandsFor size v s
+      → MembersStand size v s
   beginning_stands s numbered long volume_is gone clients = (
     line,
     front,
@@ -334,12 +336,20 @@ module _ (size front : ℕ) (volume : List ℕ) (v : View) (line : List Kept) (i
             (All-nil (λ r. All (λ d. d.slot ≡ r.slot → r.front ≤ d.durable) (disks_of v.recorded v.writing v.members)));
         mustered = subst (All (IsMustered v.told.front (disks_of v.recorded v.writing v.members))) (sym is.no_musters) (All-nil (IsMustered v.told.front (disks_of v.recorded v.writing v.members)));
       };
+      within = record {
+        gauges_within = subst (λ f. All (λ r. r.front ≤ f) v.told.gauges) (sym is.told) is.gauges;
+        receipts_within = subst (All (λ r. r.front ≤ v.told.front)) (sym is.no_receipts) (All-nil (λ (r : Receipt). r.front ≤ v.told.front));
+        musters_within = subst (All (λ m. All (λ r. r.front ≤ v.told.front) m.gauges)) (sym is.no_musters) (All-nil (λ (m : Muster). All (λ r. r.front ≤ v.told.front) m.gauges));
+      };
       backs = idle_disks (λ d. front ≤ d.durable) (λ slot. omega arith);
       fronts = subst (All (λ f. f ≤ v.told.front)) (sym is.no_fronts) (All-nil (λ f. f ≤ v.told.front));
       raised = subst (All (λ f. f ≤ v.told.front)) (sym (flat_none (IsIdle v.recorded front volume) raised_of (λ m idle. ap raised_by idle.found) v.members is.idle)) (All-nil (λ f. f ≤ v.told.front));
       clients = subst (λ (r : Requests). requests.StandsFor front r s) (sym beginning_requests) clients;
       slots = is.slots;
       tickets = nexts v.members is.idle;
+      dated = is.dated;
+      dated_before = subst (IsDated v.youngest) (sym is.before_is) is.dated;
+      origins = All-weaker (λ (k : Kept). k.origin.incarnation ≡ 0) (λ k. k.origin.incarnation ≤ v.youngest) (λ k none. omega (arith, none)) line gone;
     },
   )
     where
@@ -370,8 +380,12 @@ module _ (size front : ℕ) (volume : List ℕ) (v : View) (line : List Kept) (i
 
 -- ---- the laws
 
+-- where nobody joins, the members are all
+nobody_joins : (size : ℕ) (v : View) (s : State) → MembersStand size v s → v.joiner ≡ None → StandsFor size v s
+nobody_joins size v s stands none = (stands, λ j is. let no : None ≡ Some j = sym none ∙ is in cc)
+
 pub first_chain : FirstChain
-first_chain size v is = beginning_stands size 0 (volume_of size []) v [] is start tt refl refl (All-nil (λ k. k.origin.incarnation ≡ 0)) starts
+first_chain size v is = nobody_joins size v start (beginning_stands size 0 (volume_of size []) v [] is start tt refl refl (All-nil (λ k. k.origin.incarnation ≡ 0)) starts) is.no_joiner
 
 numbered_passed : (n : ℕ) (ks : List Kept) → AreNumberedFrom n ks → AreNumberedFrom n (map passed ks)
 numbered_passed n [] numbered = tt
@@ -393,15 +407,32 @@ passed_volume size ks = ap (volume_of size) (written ks)
     written [] = refl
     written (x ∷ xs) = ap (λ (l : List Placed). x.write ∷ l) (written xs)
 
-pub restarts_chain : RestartsChain
-restarts_chain size v above m below s p w (line, backed, stands) may from upto is =
-    let (owed, taken, same_volume) = is_on_each_disk size v above m below s p (line, backed, stands) may from upto in
-    let reach = reach_recorded size v above m below s line backed stands may in
-    let volume = volume_recorded size v above m below s line backed p stands reach from upto in
-    let within : p ≤ v.told.front = omega (arith, upto, reach.known) in
+-- a chain goes on from a front that is committed, with all that is owed, and the volume there
+goes_on_at : (size : ℕ) (v : View) (s : State) (line : List Kept) (backed : ℕ) (p : ℕ) (volume : List ℕ) (w : View) → StandsWith size v s line backed → s.owed ≤ p → p ≤ v.told.front → volume ≡ volume_after size (take p line)
+    → IsBeginning p volume w → May s (Restart p) × StandsFor size w (after s (Restart p))
+goes_on_at size v s line backed p volume w stands owed within volume_is is =
+    let taken : p ≤ length s.taken = omega (arith, within, stands.clients.1.committed) in
     let long : p ≡ length (take p line) = sym (length-take-le p line (omega (arith, within, stands.order.within))) in
-    let alone = forgets_origins p (take p line) (after s (Restart p)) (restarts backed (requests_of (with_members v (above ++ m ∷ below)) line) p s stands.clients owed within) long in (
+    let alone = forgets_origins p (take p line) (after s (Restart p)) (restarts backed (requests_of v line) p s stands.clients owed within) long in (
       (owed, taken),
-      beginning_stands size p (fold patched m.volume (writes_upto m.node.table p)) w (map passed (take p line)) is (after s (Restart p))
-          (numbered_passed 1 (take p line) (numbered_taken 1 p line stands.order.numbered)) (omega (arith, long, length-map (take p line) passed)) (volume ∙ sym (passed_volume size (take p line))) (passed_gone (take p line)) alone,
+      nobody_joins size w (after s (Restart p))
+          (beginning_stands size p volume w (map passed (take p line)) is (after s (Restart p)) (numbered_passed 1 (take p line) (numbered_taken 1 p line stands.order.numbered)) (omega (arith, long, length-map (take p line) passed))
+          (volume_is ∙ sym (passed_volume size (take p line))) (passed_gone (take p line)) alone)
+          is.no_joiner,
     )
+
+pub restarts_chain : RestartsChain
+restarts_chain size v above m below s p w ((line, backed, stands), joins) may from upto is =
+    let (owed, taken, same_volume) = is_on_each_disk size v above m below s p ((line, backed, stands), joins) may from upto in
+    let reach = reach_recorded size v above m below s line backed stands may in
+    goes_on_at size (with_members v (above ++ m ∷ below)) s line backed p (fold patched m.volume (writes_upto m.node.table p)) w stands owed (omega (arith, upto, reach.known))
+    (volume_recorded size v above m below s line backed p stands reach from upto) is
+
+-- the joiner's disk has all that is committed
+pub restarts_from_joiner : RestartsFromJoiner
+restarts_from_joiner size v j s w ((line, backed, stands), joins) here is =
+    let it : IsJoining size v s j = joins j here in
+    let (names, clients) = stands.clients in
+    let within : j.front ≤ v.told.front = omega (arith, it.held) in
+    goes_on_at size v s line backed j.front j.volume w stands (omega (arith, clients.sound.owed_taken, clients.committed, it.held)) within
+    (it.volume ∙ ap (volume_of size) (first_writes_are backed (requests_of v line) s names clients j.front within)) is

@@ -1,5 +1,5 @@
 -- That a member submits a write, whose token waits under the next ticket, keeps what its chain stands for: lemmas.
-use Rattle.std.proofs.Common.{◌≡◌, ◌≢◌, ◌⊎◌, inl, inr, ℕ, zero, suc, ◌==◌, ◌<◌, ◌≤◌, Option, Some, None, List, [], ◌∷◌, ◌++◌, map, refl, sym, ◌∙◌, ap, subst, arith}
+use Rattle.std.proofs.Common.{◌≡◌, ◌≢◌, ◌⊎◌, inl, inr, ℕ, zero, suc, ◌==◌, ◌<◌, ◌≤◌, true, Option, Some, None, List, [], ◌∷◌, ◌++◌, map, refl, sym, ◌∙◌, ap, subst, arith, true}
 use Rattle.std.specs.Prelude.{if◌then◌else◌, All, AllPairs}
 use Rattle.std.specs.List.{Contains, flat_map}
 use Rattle.std.proofs.lemmas.Bool.{cases_eq, cond-false, cond-true, eq-eqb, ne_eqb}
@@ -12,7 +12,7 @@ use Rattle.version_table.specs.declared.kept.Kept.{Kept}
 use Rattle.version_table.specs.declared.kept.Origin.{Origin}
 use Rattle.volume.specs.Writes.{Placed}
 use Rattle.chain_steps.specs.Node.{NodeState, epoch_of, last_of}
-use Rattle.chain_steps.specs.Place.{head_of, incarnation_in}
+use Rattle.chain_steps.specs.Place.{head_of, incarnation_in, is_member}
 use Rattle.chain_steps.specs.Steps.{send, submit}
 use Rattle.chain_steps.specs.Waiting.{debt_of, waits_for}
 use Rattle.chain_steps.specs.declared.message.Envelope.{Envelope}
@@ -34,6 +34,7 @@ use Rattle.chain_model.proofs.InOrder.{InOrder}
 use Rattle.chain_model.specs.Chain.{HasApplied, HasVolume, IsApplied, IsTold, StandsWith}
 use Rattle.chain_model.proofs.Changing.{Fits, all_changed, are, changes, requests_split, were}
 use Rattle.chain_model.specs.Laws.{HasSent, SubmitsWrite, sent_to, with_members}
+use Rattle.chain_model.proofs.Incarnations.{its_own}
 use Rattle.chain_model.proofs.LineSteps.{loses_submits}
 use Rattle.chain_model.proofs.Linking.{IsProperSubmit, all_sent, goes_to_head, linked_submitted}
 use Rattle.chain_model.proofs.MemberSteps.{idle, it_drops_found}
@@ -78,7 +79,7 @@ sent_there to message node = cond-true (to == to) (record { epoch = epoch_of nod
 sent_elsewhere : (to : ℕ) (message : Message) (node : NodeState) (y : ℕ) → y ≢ to → sent_to y (send (Some to) message node) ≡ []
 sent_elsewhere to message node y other = cond-false (to == y) (record { epoch = epoch_of node; message = message } ∷ []) [] (ne_eqb to y (λ same. other (sym same)))
 
-module _ (recorded before : Record) (node : NodeState) (told : IsTold recorded before node) (runs : node.stopped ≡ None) where
+module _ (recorded before : Record) (node : NodeState) (told : IsTold recorded before node) (runs : node.stopped ≡ None) (placed : is_member node.place ≡ true) where
   -- messages of its epoch are its own incarnation's
   its_incarnation : incarnation_at recorded before (epoch_of node) node.place.slot ≡ Some node.incarnation
   its_incarnation = elim (told_one recorded before node told runs) [
@@ -89,7 +90,7 @@ module _ (recorded before : Record) (node : NodeState) (told : IsTold recorded b
         cond-false (epoch_of node == recorded.epoch) (incarnation_in recorded node.place.slot) (if suc (epoch_of node) == recorded.epoch then incarnation_in before node.place.slot else None)
         (ne_eqb (epoch_of node) recorded.epoch (λ same. absurd (omega (arith, same, old))))
         ∙ cond-true (suc (epoch_of node) == recorded.epoch) (incarnation_in before node.place.slot) None (eq-eqb (suc (epoch_of node)) recorded.epoch old)
-        ∙ subst (λ (r : Record). incarnation_in r node.place.slot ≡ Some node.incarnation) chain (told.itself runs)
+        ∙ subst (λ (r : Record). incarnation_in r node.place.slot ≡ Some node.incarnation) chain (its_own node.place node.incarnation placed (told.itself runs))
   ]
 
   module _ (write : Placed) where
@@ -273,7 +274,7 @@ module _ (size : ℕ) (v : View) (above : List Member) (m : Member) (below : Lis
 
   -- ---- the step
 
-  module _ (runs : m.node.stopped ≡ None) (writes : written d.request ≡ Some write) (kind : IsOfKind its_token d.request) (fresh : IsNew m.node.ticket its_token)
+  module _ (runs : m.node.stopped ≡ None) (placed : is_member m.node.place ≡ true) (writes : written d.request ≡ Some write) (kind : IsOfKind its_token d.request) (fresh : IsNew m.node.ticket its_token)
       (session : (debt_of its_token).session ≡ d.session) (cookie : (debt_of its_token).cookie ≡ d.cookie) (has : HasSent (slot_of m) (submit token write m.node).out.messages v.submits submits)
       (s : State) (line : List Kept) (backed : ℕ) (stands : StandsWith size (with_members v (above ++ m ∷ below)) s line backed) where
     told : IsTold v.recorded v.before m.node
@@ -285,7 +286,7 @@ module _ (size : ℕ) (v : View) (above : List Member) (m : Member) (below : Lis
         (Contains-append_right (map slot_of above) (slot_of m ∷ map slot_of below) (slot_of m) (0, omega arith, refl))
 
     shown : IsSameOrMore its_write old_submits new_submits
-    shown = shown_at v.recorded v.before m.node told runs write v.submits submits (slots_of (above ++ m ∷ below)) stands.slots among (head_of m.node.place.chain) has
+    shown = shown_at v.recorded v.before m.node told runs placed write v.submits submits (slots_of (above ++ m ∷ below)) stands.slots among (head_of m.node.place.chain) has
 
     before : All (AreBefore (were_there line)) (map next_of (above ++ m ∷ below))
     before = subst (λ (r : Requests). All (AreBefore r) (map next_of (above ++ m ∷ below))) (requests_split v line above m below) stands.tickets
@@ -301,20 +302,22 @@ module _ (size : ℕ) (v : View) (above : List Member) (m : Member) (below : Lis
           (sym (hops_same (net_of v.recorded v.links (above ++ m ∷ below)) (net_of v.recorded v.links (above ++ submitting ∷ below)) refl refl (λ x. nodes_same above m submitting below x refl refl) (λ x y. refl))) (stands.order, stands.holders);
       volumes = all_changed (HasVolume size v.told.front line) above m submitting below (λ is. is) stands.volumes;
       told = told;
+      behind = λ late. late;
       linked = linked_submitted v.recorded v.before v.told.front (slot_of m) (submit token write m.node).out.messages v.links v.submits submits has
           (all_sent (IsProperSubmit v.recorded v.before (slot_of m)) (head_of m.node.place.chain) (messages.Submit m.node.ticket write) m.node
-          (λ to is. (told.within, goes_to_head v.recorded v.before (above ++ m ∷ below) m.node stands.places told runs to is))) stands.links;
+          (λ to is. (told.within, goes_to_head v.recorded v.before (above ++ m ∷ below) m.node stands.places told runs placed to is))) stands.links;
       numbers = record { applied = applied_more (last_of m.node) m.node.waiting its_token (no_number (last_of m.node) m.node.ticket its_token fresh) (all_at HasApplied above m below stands.numbers).applied; none = λ stops. absurd (stops runs) };
       disks = subst (λ (ds : List Disk). IsBacked v.told.front v.told.mask v.told.gauges v.told.receipts v.told.musters ds) (sym (flat_same (disk_in v.recorded v.writing) above m submitting below refl)) stands.disks;
       backs = subst (All (λ x. backed ≤ x.durable)) (sym (flat_same (disk_in v.recorded v.writing) above m submitting below refl)) stands.backs;
       raised = All-nil (λ front. front ≤ v.told.front);
       tickets = tickets_then line stands.slots fresh shown before;
+      origins = stands.origins;
       clients = shows_stay size backed (were_there line) (are_there line)
           (λ t is. subst (λ (os : List Owing). requests.StandsFor backed (record (waiting_with line new_submits) { tokens = os }) t) (sym (one_more size v above m below d rest first its_token))
           (waits_so line backed writes kind fresh session cookie mine shown t (it_drops_found size v above m below line backed t is)));
     }
 
 pub submits_write : SubmitsWrite
-submits_write size v above m below d rest token write submits runs first writes kind fresh session cookie has =
+submits_write size v above m below d rest token write submits runs placed first writes kind fresh session cookie has =
     changes size v above m (submitting size v above m below d rest first token write submits) below v.links submits []
-    (λ s line backed stands. (line, backed, fits size v above m below d rest first token write submits runs writes kind fresh session cookie has s line backed stands))
+    (λ s line backed stands. (line, backed, fits size v above m below d rest first token write submits runs placed writes kind fresh session cookie has s line backed stands))

@@ -198,12 +198,46 @@ module _ (Q : List Submitted → Type 0) (loses : (one some other : List Submitt
         keeps_flat (λ e. submitted_in x (incarnation_at recorded before e.epoch x) e.message) (λ e. submitted_in x (incarnation_at next recorded e.epoch x) e.message) (submits x y)
         (λ k d lt. keeps_envelope x (get_or (submits x y) k d) (within x y k d lt)))
 
--- ---- a message is taken
+-- ---- what is left stands for the same
 
 -- it stands for a state of the machine with fewer of them
 stands_with_fewer : (backed : ℕ) (r : Requests) (s : State) (one some other : List Submitted) → StandsFor backed (record r { submits = one ++ (some ++ other) }) s
     → StandsFor backed (record r { submits = one ++ other }) s
 stands_with_fewer backed r s one some other stands = loses_submits backed (record r { submits = one ++ (some ++ other) }) one some other refl s stands
+
+-- What holds of the writes between some slots holds of those between fewer.
+module _ (Q : List Submitted → Type 0) (loses : (one some other : List Submitted) → Q (one ++ (some ++ other)) → Q (one ++ other)) (recorded before : Record) (submits : ℕ → ℕ → List Envelope) (xs : List ℕ) (y : ℕ) (ys : List ℕ) where
+  -- to fewer
+  keeps_from : (from : ℕ) → Keeps Q (submitted_from recorded before submits (xs ++ y ∷ ys) from) (submitted_from recorded before submits (xs ++ ys) from)
+  keeps_from from one other holds =
+      let f = λ (to : ℕ). submitted_on recorded before from (submits from to) in
+      let whole : one ++ (flat_map f (xs ++ y ∷ ys) ++ other) ≡ (one ++ flat_map f xs) ++ (f y ++ (flat_map f ys ++ other)) =
+      ap (λ (l : List Submitted). one ++ (l ++ other)) (flat_map-append f xs (y ∷ ys)) ∙ ap (λ (l : List Submitted). one ++ l) (append_assoc (flat_map f xs) (f y ++ flat_map f ys) other)
+      ∙ sym (append_assoc one (flat_map f xs) ((f y ++ flat_map f ys) ++ other)) ∙ ap (λ (l : List Submitted). (one ++ flat_map f xs) ++ l) (append_assoc (f y) (flat_map f ys) other) in
+      let left : (one ++ flat_map f xs) ++ (flat_map f ys ++ other) ≡ one ++ (flat_map f (xs ++ ys) ++ other) =
+      append_assoc one (flat_map f xs) (flat_map f ys ++ other) ∙ ap (λ (l : List Submitted). one ++ l) (sym (append_assoc (flat_map f xs) (flat_map f ys) other))
+      ∙ ap (λ (l : List Submitted). one ++ (l ++ other)) (sym (flat_map-append f xs ys)) in
+      subst Q left (loses (one ++ flat_map f xs) (f y) (flat_map f ys ++ other) (subst Q whole holds))
+
+  -- and from fewer
+  keeps_fewer : Q (submitted_among recorded before submits (xs ++ y ∷ ys)) → Q (submitted_among recorded before submits (xs ++ ys))
+  keeps_fewer holds =
+      let old = submitted_from recorded before submits (xs ++ y ∷ ys) in
+      let new = submitted_from recorded before submits (xs ++ ys) in
+      let one : Q (flat_map old xs ++ (old y ++ flat_map old ys)) = subst Q (flat_map-append old xs (y ∷ ys)) holds in
+      let less : Q (flat_map old (xs ++ ys)) = subst Q (sym (flat_map-append old xs ys)) (loses (flat_map old xs) (old y) (flat_map old ys) one) in
+      let each : Keeps Q (flat_map old (xs ++ ys)) (flat_map new (xs ++ ys)) = keeps_flat Q loses old new (xs ++ ys) (λ k d lt. keeps_from (get_or (xs ++ ys) k d)) in
+      subst Q (append-nil (flat_map new (xs ++ ys))) (each [] [] (subst Q (sym (append-nil (flat_map old (xs ++ ys)))) less))
+
+pub slots_submits : (backed : ℕ) (r : Requests) (recorded before : Record) (submits : ℕ → ℕ → List Envelope) (xs : List ℕ) (y : ℕ) (ys : List ℕ)
+    → Stays backed (record r { submits = submitted_among recorded before submits (xs ++ y ∷ ys) }) (record r { submits = submitted_among recorded before submits (xs ++ ys) })
+slots_submits backed r recorded before submits xs y ys s = keeps_fewer (λ l. StandsFor backed (record r { submits = l }) s) (stands_with_fewer backed r s) recorded before submits xs y ys
+
+pub fewer_slots : (P : Submitted → Type 0) (recorded before : Record) (submits : ℕ → ℕ → List Envelope) (xs : List ℕ) (y : ℕ) (ys : List ℕ)
+    → All P (submitted_among recorded before submits (xs ++ y ∷ ys)) → All P (submitted_among recorded before submits (xs ++ ys))
+fewer_slots P recorded before submits xs y ys = keeps_fewer (All P) (all_without_some P) recorded before submits xs y ys
+
+-- ---- a message is taken
 
 -- Its write is lost, if it is one that counts.
 pub takes_submit : (backed : ℕ) (r : Requests) (recorded before : Record) (old new : ℕ → ℕ → List Envelope) (slots : List ℕ) (from to : ℕ) (envelope : Envelope)

@@ -30,10 +30,11 @@ use Rattle.world_model.specs.Requests.{Requests, Submitted}
 use Rattle.world_model.specs.Requests as requests
 use Rattle.world_model.proofs.Standing.{Stays, shows_stay}
 use Rattle.world_model.proofs.TokenSteps.{numbers}
-use Rattle.chain_model.specs.Chain.{ArePlaced, BelongsToHead, HasApplied, HasVolume, IsForHead, IsTold, StandsFor, StandsWith}
+use Rattle.chain_model.specs.Chain.{ArePlaced, BelongsToHead, HasApplied, HasVolume, IsBehind, IsDated, IsForHead, IsTold, MembersStand, StandsWith}
 use Rattle.chain_model.proofs.Changing.{all_changed, are, around, changes, requests_split, were}
 use Rattle.chain_model.proofs.Delivering.{order_numbers}
 use Rattle.chain_model.specs.Laws.{HasSent, HasTaken, TakesSubmit, with_members}
+use Rattle.chain_model.proofs.Incarnations.{dated_in}
 use Rattle.chain_model.proofs.Linking.{IsProper, IsProperSubmit, linked_sent, linked_taken}
 use Rattle.chain_model.proofs.MemberSteps.{idle}
 use Rattle.chain_model.proofs.MessageSteps.{same_step, taken_step}
@@ -62,7 +63,7 @@ module _ (size : ℕ) (v : View) (above : List Member) (m : Member) (below : Lis
   -- with this step, clients see the events
   abbrev IsGood : Stepped → Type 0
   IsGood stepped = HasSent (slot_of m) stepped.out.messages v.links links → ArePutOut stepped.out.replies events
-      → Plays size (StandsFor size (with_members v (above ++ m ∷ below))) (StandsFor size (record v { members = above ++ record m { node = stepped.node } ∷ below; links = links; submits = submits })) events
+      → Plays size (MembersStand size (with_members v (above ++ m ∷ below))) (MembersStand size (record v { members = above ++ record m { node = stepped.node } ∷ below; links = links; submits = submits })) events
 
   -- the Submit is where it belongs
   belongs : (s : State) (line : List Kept) (backed : ℕ) → StandsWith size (with_members v (above ++ m ∷ below)) s line backed → IsProperSubmit v.recorded v.before from (slot_of m) envelope
@@ -73,7 +74,7 @@ module _ (size : ℕ) (v : View) (above : List Member) (m : Member) (below : Lis
 
   drops_submit : IsGood (silent m.node)
   drops_submit has out =
-      subst (Plays size (StandsFor size (with_members v (above ++ m ∷ below))) (StandsFor size (record v { members = above ++ m ∷ below; links = links; submits = submits }))) (sym out)
+      subst (Plays size (MembersStand size (with_members v (above ++ m ∷ below))) (MembersStand size (record v { members = above ++ m ∷ below; links = links; submits = submits }))) (sym out)
       (changes size v above m m below links submits []
       (λ s line backed stands. (
         line,
@@ -84,6 +85,7 @@ module _ (size : ℕ) (v : View) (above : List Member) (m : Member) (below : Lis
           order = subst (InOrder v.told.front line) (sym (hops_same (net_of v.recorded v.links (above ++ m ∷ below)) (net_of v.recorded links (above ++ m ∷ below)) refl refl (λ x. refl) (λ x y. ap passed_on (unsent x y)))) (stands.order, stands.holders);
           volume = λ is. is;
           told = its_told s line backed stands;
+          behind = λ late. late;
           linked = linked_taken v.recorded v.before v.told.front from (slot_of m) envelope links v.submits submits gone
               (linked_sent v.recorded v.before v.told.front (slot_of m) [] v.links links v.submits has (λ to. All-nil (IsProper v.recorded v.before v.told.front (slot_of m) to)) stands.links);
           numbers = all_at HasApplied above m below stands.numbers;
@@ -135,7 +137,14 @@ module _ (size : ℕ) (v : View) (above : List Member) (m : Member) (below : Lis
     stands_there : ArePlaced v.recorded v.before (above ++ m ∷ below) → IsTold v.recorded v.before m.node → Contains (slots_of (above ++ m ∷ below)) from
     stands_there places told = elim (told_one v.recorded v.before m.node told runs) [
       | inl (here, chain) ↦ All-contains (Contains slots) (chain_of v.recorded) from places.stands (is_among v.recorded from incarnation (ap (λ (r : Record). incarnation_in r from) (sym chain) ∙ from_there))
-      | inr (old, chain) ↦ All-contains (Contains slots) (chain_of v.before) from places.stood (is_among v.before from incarnation (ap (λ (r : Record). incarnation_in r from) (sym chain) ∙ from_there))
+      | inr (old, chain) ↦ All-contains (Contains slots) (chain_of v.before) from (all_at (λ x. IsBehind v.recorded x.node → All (λ s. Contains slots s) (chain_of v.before)) above m below places.stood (runs, old)) (is_among v.before from incarnation (ap (λ (r : Record). incarnation_in r from) (sym chain) ∙ from_there))
+    ]
+
+    -- of an incarnation up to the youngest
+    dated_there : IsDated v.youngest v.recorded → IsDated v.youngest v.before → IsTold v.recorded v.before m.node → incarnation ≤ v.youngest
+    dated_there dated dated_before told = elim (told_one v.recorded v.before m.node told runs) [
+      | inl (here, chain) ↦ dated_in v.youngest v.recorded from incarnation dated (ap (λ (r : Record). incarnation_in r from) (sym chain) ∙ from_there)
+      | inr (old, chain) ↦ dated_in v.youngest v.before from incarnation dated_before (ap (λ (r : Record). incarnation_in r from) (sym chain) ∙ from_there)
     ]
 
     it_stands : Contains (slots_of (above ++ m ∷ below)) (slot_of m)
@@ -163,8 +172,8 @@ module _ (size : ℕ) (v : View) (above : List Member) (m : Member) (below : Lis
         }
 
     numbers_write : HasSent (slot_of m) (apply (last_of m.node + 1) (origin_of from incarnation ticket) write m.node).out.messages v.links links
-        → Plays size (StandsFor size (with_members v (above ++ m ∷ below)))
-        (StandsFor size (record v { members = above ++ record m { node = (apply (last_of m.node + 1) (origin_of from incarnation ticket) write m.node).node } ∷ below; links = links; submits = submits })) []
+        → Plays size (MembersStand size (with_members v (above ++ m ∷ below)))
+        (MembersStand size (record v { members = above ++ record m { node = (apply (last_of m.node + 1) (origin_of from incarnation ticket) write m.node).node } ∷ below; links = links; submits = submits })) []
     numbers_write has = changes size v above m numbering below links submits []
         (λ s line backed stands.
         let told = its_told s line backed stands in
@@ -189,6 +198,7 @@ module _ (size : ℕ) (v : View) (above : List Member) (m : Member) (below : Lis
                 (λ x is. record { committed = is.committed; is = is.is ∙ ap (volume_after size) (sym (take-append-le x.node.table.forgotten line (entry ∷ []) (omega (arith, is.committed, stands.order.within)))) })
                 (above ++ numbering ∷ below) (all_changed (HasVolume size v.told.front line) above m numbering below (λ is. is) stands.volumes);
             told = told;
+            behind = λ late. late;
             linked = linked_taken v.recorded v.before v.told.front from (slot_of m) envelope links v.submits submits gone
                 (linked_sent v.recorded v.before v.told.front (slot_of m) (apply (last_of m.node + 1) (origin_of from incarnation ticket) write m.node).out.messages v.links links v.submits has
                 (put_proper size v above m below runs from envelope links (last_of m.node + 1) (origin_of from incarnation ticket) write s line backed stands) stands.links);
@@ -199,6 +209,7 @@ module _ (size : ℕ) (v : View) (above : List Member) (m : Member) (below : Lis
             tickets = subst (All (AreBefore (are size v above m numbering below links submits [] longer))) (sym (maps_same next_of above m numbering below refl))
                 (All-weaker (AreBefore (were size v above m numbering below links submits [] line)) (AreBefore (are size v above m numbering below links submits [] longer)) (tickets_then line backed part) (map next_of (above ++ m ∷ below))
                 (subst (λ (r : Requests). All (AreBefore r) (map next_of (above ++ m ∷ below))) (requests_split v line above m below) stands.tickets));
+            origins = All-push (λ k. k.origin.incarnation ≤ v.youngest) line entry stands.origins (dated_there stands.dated stands.dated_before told);
             clients = shows_stay size backed (were size v above m numbering below links submits [] line) (are size v above m numbering below links submits [] longer) (numbered line backed part far);
           },
         ))
@@ -249,8 +260,8 @@ module _ (size : ℕ) (v : View) (above : List Member) (m : Member) (below : Lis
       | inr room ↦
           let same : Taken (apply (last_of m.node + 1) (origin_of from incarnation ticket) write m.node) ≡ Taken stepped = rw room at taken in
           subst IsGood (same_step (apply (last_of m.node + 1) (origin_of from incarnation ticket) write m.node) stepped same)
-          (λ has out. subst (Plays size (StandsFor size (with_members v (above ++ m ∷ below)))
-          (StandsFor size (record v { members = above ++ record m { node = (apply (last_of m.node + 1) (origin_of from incarnation ticket) write m.node).node } ∷ below; links = links; submits = submits }))) (sym out)
+          (λ has out. subst (Plays size (MembersStand size (with_members v (above ++ m ∷ below)))
+          (MembersStand size (record v { members = above ++ record m { node = (apply (last_of m.node + 1) (origin_of from incarnation ticket) write m.node).node } ∷ below; links = links; submits = submits }))) (sym out)
           (numbers_write now runs ticket write incarnation is head there has))
     ]
 

@@ -25,7 +25,7 @@ use Rattle.world_model.proofs.OrderSteps.{clean_range}
 use Rattle.world_model.specs.Requests.{Held, Owing, Requests, ticket_of}
 use Rattle.world_model.specs.Requests as requests
 use Rattle.world_model.proofs.Standing.{Stays, shows_stay}
-use Rattle.chain_model.specs.Chain.{IsApplied, StandsFor, StandsWith}
+use Rattle.chain_model.specs.Chain.{IsApplied, MembersStand, StandsWith}
 use Rattle.chain_model.proofs.Changing.{changes_requests}
 use Rattle.chain_model.proofs.MemberSteps.{around_it, chain_with, idle, it_drops_found, reach, volume_is}
 use Rattle.chain_model.specs.View.{Member, View, looked_of, slot_of, slots_of, tokens_of}
@@ -55,7 +55,7 @@ module _ (size : ℕ) (v : View) (above : List Member) (m : Member) (below : Lis
   only_demands : (events : List ClientEvent)
       → ((line : List Kept) (backed : ℕ) (s : State) → StandsWith size (chain_with size v above m below m) s line backed
       → Plays size (requests.StandsFor backed (its line m)) (requests.StandsFor backed (its line (record m { demands = rest }))) events)
-      → Plays size (StandsFor size (chain_with size v above m below m)) (StandsFor size (chain_with size v above m below (record m { demands = rest }))) events
+      → Plays size (MembersStand size (chain_with size v above m below m)) (MembersStand size (chain_with size v above m below (record m { demands = rest }))) events
   only_demands events clients = changes_requests size v above m below m.node.found m.node.commit m.node.waiting rest events
       (λ s line backed stands. record {
         numbers = λ last all. all;
@@ -65,19 +65,19 @@ module _ (size : ℕ) (v : View) (above : List Member) (m : Member) (below : Lis
       })
 
   -- it is taken, and its client hears nothing
-  pub drops : Plays size (StandsFor size (chain_with size v above m below m)) (StandsFor size (chain_with size v above m below (record m { demands = rest }))) []
+  pub drops : Plays size (MembersStand size (chain_with size v above m below m)) (MembersStand size (chain_with size v above m below (record m { demands = rest }))) []
   drops = only_demands [] (λ line backed s stands. shows_stay size backed (its line m) (its line (record m { demands = rest }))
       (drops_demand size backed (its line m) d (flat_map (λ x. x.demands) above) (rest ++ flat_map (λ x. x.demands) below) (split line)))
 
   -- it is refused
-  pub refuses : (error : ErrorCode) → Plays size (StandsFor size (chain_with size v above m below m)) (StandsFor size (chain_with size v above m below (record m { demands = rest })))
+  pub refuses : (error : ErrorCode) → Plays size (MembersStand size (chain_with size v above m below m)) (MembersStand size (chain_with size v above m below (record m { demands = rest })))
       (Answered d.session d.cookie (Failed error) ∷ [])
   refuses error = only_demands (Answered d.session d.cookie (Failed error) ∷ []) (λ line backed s stands.
       refuses_demand size backed (its line m) d (flat_map (λ x. x.demands) above) (rest ++ flat_map (λ x. x.demands) below) (split line) error)
 
   -- a READ of a clean range is answered at the member's known commit: no later write reaches it
   pub reads_clean : (offset len : ℕ) → m.node.stopped ≡ None → d.request ≡ Read offset len → IsClean m.node.table offset len m.node.known → length m.volume ≡ size → All (λ k. Fits size k.write) m.node.table.kept
-      → Plays size (StandsFor size (chain_with size v above m below m)) (StandsFor size (chain_with size v above m below (record m { demands = rest })))
+      → Plays size (MembersStand size (chain_with size v above m below m)) (MembersStand size (chain_with size v above m below (record m { demands = rest })))
       (Answered d.session d.cookie (Done (take len (drop offset (fold patched m.volume (writes_upto m.node.table m.node.known))))) ∷ [])
   reads_clean offset len runs asked clean sized inside =
       only_demands (Answered d.session d.cookie (Done (take len (drop offset (fold patched m.volume (writes_upto m.node.table m.node.known))))) ∷ []) (λ line backed s stands.
@@ -134,8 +134,8 @@ module _ (size : ℕ) (v : View) (above : List Member) (m : Member) (below : Lis
         demands = flat_map (λ x. x.demands) above ++ (rest ++ flat_map (λ x. x.demands) below);
         tokens = (flat_map tokens_of above ++ owing_at m.node m.node.waiting) ++ at_member m.node w ∷ flat_map tokens_of below;
       }))
-      → Plays size (StandsFor size (chain_with size v above m below m))
-      (StandsFor size (chain_with size v above m below (record m { node = record m.node { waiting = m.node.waiting ++ w ∷ []; found = None }; demands = rest }))) []
+      → Plays size (MembersStand size (chain_with size v above m below m))
+      (MembersStand size (chain_with size v above m below (record m { node = record m.node { waiting = m.node.waiting ++ w ∷ []; found = None }; demands = rest }))) []
   waits w none numberless takes = changes_requests size v above m below None m.node.commit (m.node.waiting ++ w ∷ []) rest []
       (λ s line backed stands. record {
         numbers = λ last all. applied_more last m.node.waiting w (numberless last) all;
@@ -148,14 +148,14 @@ module _ (size : ℕ) (v : View) (above : List Member) (m : Member) (below : Lis
 
   -- a READ of a range that isn't clean waits
   pub asks_for : (offset len : ℕ) (token : Owed) → d.request ≡ Read offset len → token.session ≡ d.session → token.cookie ≡ d.cookie
-      → Plays size (StandsFor size (chain_with size v above m below m)) (StandsFor size (chain_with size v above m below (record m { node = (read_asked offset len token m.node).node; demands = rest }))) []
+      → Plays size (MembersStand size (chain_with size v above m below m)) (MembersStand size (chain_with size v above m below (record m { node = (read_asked offset len token m.node).node; demands = rest }))) []
   asks_for offset len token asked session cookie = waits (tokens.Read offset len token) refl (λ last. tt) (λ line backed apart.
       asks size backed (its_idle line) d (flat_map (λ x. x.demands) above) (rest ++ flat_map (λ x. x.demands) below) (split line) offset len m.node.place.slot m.node.incarnation token
       (flat_map tokens_of above ++ owing_at m.node m.node.waiting) (flat_map tokens_of below) asked session cookie (tokens_as_they_are line) apart)
 
   -- a FLUSH waits
   pub flushes_for : (token : OwedAt) → IsFlush d.request → token.session ≡ d.session → token.cookie ≡ d.cookie → token.number ≡ None
-      → Plays size (StandsFor size (chain_with size v above m below m)) (StandsFor size (chain_with size v above m below (record m { node = (flush token m.node).node; demands = rest }))) []
+      → Plays size (MembersStand size (chain_with size v above m below m)) (MembersStand size (chain_with size v above m below (record m { node = (flush token m.node).node; demands = rest }))) []
   flushes_for token asked session cookie unbound = waits (tokens.Flush token) refl (λ last. tt) (λ line backed apart.
       flushes size backed (its_idle line) d (flat_map (λ x. x.demands) above) (rest ++ flat_map (λ x. x.demands) below) (split line) m.node.place.slot m.node.incarnation token
       (flat_map tokens_of above ++ owing_at m.node m.node.waiting) (flat_map tokens_of below) asked session cookie unbound (tokens_as_they_are line) apart)

@@ -24,6 +24,7 @@ use Rattle.world_model.specs.Chain.{AreBefore, ArePutOut, IsBefore, IsTokenBefor
 use Rattle.world_model.proofs.Counting.{all_at, all_before, all_between, flat_same, maps_same}
 use Rattle.world_model.specs.Event.{ClientEvent}
 use Rattle.world_model.proofs.MemberSteps.{drops_found, stays_then, tokens_left}
+use Rattle.chain_model.proofs.Incarnations.{is_itself}
 use Rattle.chain_model.proofs.InOrder.{InOrder, head_told_in_order, told_in_order}
 use Rattle.chain_model.proofs.LinkSteps.{head_learn_shows, learn_shows}
 use Rattle.chain_model.specs.Links.{Learns, Net, Node, Works, first_of, hops_of, is_end, sent_again}
@@ -36,7 +37,7 @@ use Rattle.world_model.proofs.Standing.{Stays, shows_stay}
 use Rattle.chain_model.specs.Turning.{Begins, Stands}
 use Rattle.chain_model.specs.TurningSteps.{HeadIsTold}
 use Rattle.chain_model.proofs.Answering.{applied_left, refuses_those}
-use Rattle.chain_model.specs.Chain.{ArePlaced, HasApplied, HasVolume, IsApplied, IsTold, StandsFor, StandsWith}
+use Rattle.chain_model.specs.Chain.{ArePlaced, HasApplied, HasVolume, IsApplied, IsIfThere, IsTold, MembersStand, StandsWith}
 use Rattle.chain_model.proofs.Changing.{all_changed, are, around, changes, places_changed, requests_split, were}
 use Rattle.chain_model.specs.Laws.{HasSent, TellsMember, with_members}
 use Rattle.chain_model.proofs.LineSteps.{shrinks}
@@ -83,11 +84,11 @@ module _ (size : ℕ) (v : View) (above : List Member) (m : Member) (below : Lis
       old = λ before. absurd (omega (arith, before));
       near = λ still. omega arith;
       there = λ still. was_told.there runs;
-      itself = λ still. was_told.there runs;
+      itself = λ still. subst (IsIfThere m.node.incarnation) (sym (was_told.there runs)) (is_itself m.node.incarnation);
     }
 
     pub places_then : ArePlaced v.recorded v.before (above ++ record m { node = placed v.recorded m.node } ∷ below)
-    places_then = places_changed v.recorded v.before above m (record m { node = placed v.recorded m.node }) below refl is_told stands.places
+    places_then = places_changed v.recorded v.before above m (record m { node = placed v.recorded m.node }) below refl is_told (λ (still, late). absurd (omega (arith, late))) stands.places
 
     slots_then : AllPairs (λ slot other. slot ≢ other) (slots_of (above ++ record m { node = placed v.recorded m.node } ∷ below))
     slots_then = subst (AllPairs (λ slot other. slot ≢ other)) (sym (maps_same slot_of above m (record m { node = placed v.recorded m.node }) below refl)) stands.slots
@@ -226,7 +227,7 @@ module _ (size : ℕ) (v : View) (above : List Member) (m : Member) (below : Lis
   -- with this step, clients see the events
   abbrev IsGood : Stepped → Type 0
   IsGood stepped = HasSent (slot_of m) stepped.out.messages v.links links → ArePutOut stepped.out.replies events
-      → Plays size (StandsFor size (with_members v (above ++ m ∷ below))) (StandsFor size (record v { members = above ++ record m { node = stepped.node } ∷ below; links = links })) events
+      → Plays size (MembersStand size (with_members v (above ++ m ∷ below))) (MembersStand size (record v { members = above ++ record m { node = stepped.node } ∷ below; links = links })) events
 
   same_links : HasSent (slot_of m) [] v.links links → (x y : ℕ) → links x y ≡ v.links x y
   same_links has x y = elim (cases_eq x (slot_of m)) [
@@ -237,7 +238,7 @@ module _ (size : ℕ) (v : View) (above : List Member) (m : Member) (below : Lis
   -- it was told already
   nothing_new : IsGood (silent m.node)
   nothing_new has out =
-      subst (Plays size (StandsFor size (with_members v (above ++ m ∷ below))) (StandsFor size (record v { members = above ++ m ∷ below; links = links }))) (sym out)
+      subst (Plays size (MembersStand size (with_members v (above ++ m ∷ below))) (MembersStand size (record v { members = above ++ m ∷ below; links = links }))) (sym out)
       (links_change size v above m below links (λ s line backed stands. (
         subst (InOrder v.told.front line) (sym (hops_same (net_of v.recorded v.links (above ++ m ∷ below)) (net_of v.recorded links (above ++ m ∷ below)) refl refl (λ x. refl) (λ x y. ap passed_on (same_links has x y)))) (stands.order, stands.holders),
         linked_sent v.recorded v.before v.told.front (slot_of m) [] v.links links v.submits has (λ to. All-nil (IsProper v.recorded v.before v.told.front (slot_of m) to)) stands.links,
@@ -247,7 +248,7 @@ module _ (size : ℕ) (v : View) (above : List Member) (m : Member) (below : Lis
     -- one below the head waits for the Turn
     below_told : is_head (record { slot = m.node.place.slot; chain = v.recorded }) ≡ false → IsGood (silent (placed v.recorded m.node))
     below_told other has out =
-        subst (Plays size (StandsFor size (with_members v (above ++ m ∷ below))) (StandsFor size (record v { members = above ++ record m { node = placed v.recorded m.node } ∷ below; links = links }))) (sym out)
+        subst (Plays size (MembersStand size (with_members v (above ++ m ∷ below))) (MembersStand size (record v { members = above ++ record m { node = placed v.recorded m.node } ∷ below; links = links }))) (sym out)
         (changes size v above m (record m { node = placed v.recorded m.node }) below links v.submits []
         (λ s line backed stands. (
           line,
@@ -258,6 +259,7 @@ module _ (size : ℕ) (v : View) (above : List Member) (m : Member) (below : Lis
             order = order_told size v above m below runs later links s line backed stands other (same_links has);
             volume = λ is. is;
             told = is_told size v above m below runs later links s line backed stands;
+            behind = λ (still, late). absurd (omega (arith, late));
             linked = linked_sent v.recorded v.before v.told.front (slot_of m) [] v.links links v.submits has (λ to. All-nil (IsProper v.recorded v.before v.told.front (slot_of m) to)) stands.links;
             numbers = all_at HasApplied above m below stands.numbers;
             next = refl;
@@ -277,7 +279,7 @@ module _ (size : ℕ) (v : View) (above : List Member) (m : Member) (below : Lis
         let told_it = is_told size v above m below runs later links s line backed stands in
         let places = places_then size v above m below runs later links s line backed stands in
         let (shorter, begins, order) = order_head size v above m below runs later links s line backed stands head has in
-        let places_last = places_changed v.recorded v.before above m g below refl told_it stands.places in
+        let places_last = places_changed v.recorded v.before above m g below refl told_it (λ (still, late). absurd (omega (arith, late))) stands.places in
         let slots_last = subst (AllPairs (λ slot other. slot ≢ other)) (sym (maps_same slot_of above m g below refl)) stands.slots in
         let (rest, whole) = begins in
         let within_new : All (IsWithin (length shorter)) (above ++ g ∷ below) = within_line v.recorded v.before links (above ++ g ∷ below) v.told.front shorter places_last slots_last order.0 in
@@ -291,6 +293,7 @@ module _ (size : ℕ) (v : View) (above : List Member) (m : Member) (below : Lis
             volumes = All-weaker (HasVolume size v.told.front line) (HasVolume size v.told.front shorter) (λ x is. shorter_volume line shorter rest whole order.0.within x is) (above ++ g ∷ below)
                 (all_changed (HasVolume size v.told.front line) above m g below (λ is. is) stands.volumes);
             told = told_it;
+            behind = λ (still, late). absurd (omega (arith, late));
             linked = linked_sent v.recorded v.before v.told.front (slot_of m) (turn (placed v.recorded m.node)).out.messages v.links links v.submits has
                 (again_belongs v.recorded v.before v.told.front (above ++ record m { node = placed v.recorded m.node } ∷ below) (placed v.recorded m.node) places told_it runs) stands.links;
             numbers = (
@@ -303,6 +306,7 @@ module _ (size : ℕ) (v : View) (above : List Member) (m : Member) (below : Lis
             tickets = subst (All (AreBefore (are size v above m g below links v.submits events shorter))) (sym (maps_same next_of above m g below refl))
                 (All-weaker (AreBefore (were size v above m g below links v.submits events line)) (AreBefore (are size v above m g below links v.submits events shorter)) (tickets_then line shorter rest whole) (map next_of (above ++ m ∷ below))
                 (subst (λ (r : Requests). All (AreBefore r) (map next_of (above ++ m ∷ below))) (requests_split v line above m below) stands.tickets));
+            origins = all_before (λ k. k.origin.incarnation ≤ v.youngest) shorter rest (subst (All (λ k. k.origin.incarnation ≤ v.youngest)) (sym whole) stands.origins);
             clients = refused line shorter backed begins order.0.within (all_both (length shorter) (above ++ m ∷ below) stands.numbers within_old);
           },
         ))

@@ -1,6 +1,8 @@
 -- The life of a chain: whatever its members, its clients, its board and its manager do, one thing after another, with cuts in between.
-use Rattle.std.specs.Prelude.{◌≡◌, ◌≢◌, ℕ, ◌<◌, ◌≤◌, true, false, Option, None, Some, List, [], ◌∷◌, ◌++◌, length, map, take, drop, set, fold, slice_get, All}
+use Rattle.std.specs.Prelude.{◌≡◌, ◌≢◌, ◌⊎◌, ℕ, ◌<◌, ◌≤◌, true, false, Option, None, Some, List, [], ◌∷◌, ◌++◌, length, map, take, drop, set, fold, slice_get, All}
 use Rattle.std.specs.List.{insert}
+use Rattle.std.specs.Option.{ForSome}
+use Rattle.board.specs.Mask.{counts}
 use Rattle.board.specs.Seats.{FoundFront}
 use Rattle.configurations.specs.Record.{Record}
 use Rattle.flush_barrier.specs.Owed.{Owed, OwedAt}
@@ -9,7 +11,7 @@ use Rattle.flush_barrier.specs.declared.error_code.ErrorCode.TheVariants.{Io, No
 use Rattle.version_table.specs.Held.{IsClean, writes_upto}
 use Rattle.volume.specs.Writes.{Fits, Placed, patched, volume_of}
 use Rattle.chain_steps.specs.Node.{Commit, NodeState, Stepped, Taken, epoch_of, last_of}
-use Rattle.chain_steps.specs.Place.{is_tail}
+use Rattle.chain_steps.specs.Place.{is_member, is_tail}
 use Rattle.chain_steps.specs.Steps.{answer_at, answer_floor, deliver, ended, flush, hold, know, read_asked, stop, submit, told}
 use Rattle.chain_steps.specs.Waiting.{debt_of, waits_for}
 use Rattle.chain_steps.specs.declared.cause.Cause.{Cause}
@@ -23,9 +25,9 @@ use Rattle.world_model.specs.Event.{Answered, ClientEvent, Done, Failed, Read}
 use Rattle.world_model.specs.Life.{all_events}
 use Rattle.world_model.specs.Machine.{IsFlush, May, Move, Plays, Restart, RunsOn, State, after, shown, start, written}
 use Rattle.world_model.specs.Requests.{Held, IsNew, IsOfKind, sent_event}
-use Rattle.chain_model.specs.Chain.{StandsFor}
-use Rattle.chain_model.specs.Laws.{HasPassed, HasSent, HasTaken, IsBeginning, IsNext, with_members}
-use Rattle.chain_model.specs.View.{Member, View, disks_of, may_be_recorded, slot_of}
+use Rattle.chain_model.specs.Chain.{IsAtRest, IsWithin, StandsFor}
+use Rattle.chain_model.specs.Laws.{HasPassed, HasSent, HasTaken, IsBeginning, IsGone, IsNewcomer, IsNext, IsWith, with_members}
+use Rattle.chain_model.specs.View.{Joiner, Member, View, disks_of, is_in_some, may_be_recorded, slot_of}
 
 -- ---- what one member does
 
@@ -47,10 +49,10 @@ pub data Doing : Type 0 where
   EndCommit : (p : ℕ) → Doing
   Stop : (cause : Cause) → Doing
 
--- a member may refuse a request: for memory; or with EIO, once it has stopped
+-- a member may refuse a request: for memory; or with EIO, once it has stopped, and before it was told the record by which it joined
 abbrev pub MayRefuse : ErrorCode → NodeState → Type 0
 MayRefuse NoMemory node = Unit {0}
-MayRefuse Io node = node.stopped ≢ None
+MayRefuse Io node = (node.stopped ≢ None) ⊎ (is_member node.place ≡ false)
 
 -- the demand may be taken so, and the member is this then
 abbrev pub Takes : ℕ → Taking → Held → List Held → Member → Member → List ClientEvent → Type 0
@@ -92,6 +94,11 @@ pub data Happening : Type 0 where
   BoardTells : Happening
   RecordBegun : Happening
   RecordEnded : Happening
+  JoinerCounted : Happening
+  JoinerLeft : Happening
+  JoinBegun : Happening
+  JoinEnded : Happening
+  MemberForgotten : Happening
   MemberTold : Happening
   SessionBegins : Happening
   SessionEnds : Happening
@@ -115,7 +122,7 @@ pub record IsTaken (size : ℕ) (taking : Taking) (events : List ClientEvent) (m
   pub first : m.demands ≡ demand ∷ rest
   pub takes : Takes size taking demand rest m g events
 
--- a member takes the first demand, a write, and submits it
+-- a member that is in the chain that it was told takes the first demand, a write, and submits it
 pub record IsSubmitted (v w : View) : Type 0 where
   pub above : List Member
   pub member : Member
@@ -127,6 +134,7 @@ pub record IsSubmitted (v w : View) : Type 0 where
   pub submits : ℕ → ℕ → List Envelope
   pub were : v.members ≡ above ++ member ∷ below
   pub runs : member.node.stopped ≡ None
+  pub placed : is_member member.node.place ≡ true
   pub first : member.demands ≡ demand ∷ rest
   pub writes : written demand.request ≡ Some write
   pub kind : IsOfKind (waits_for member.node.ticket (epoch_of member.node) token) demand.request
@@ -212,16 +220,18 @@ pub record IsRaised (v w : View) : Type 0 where
   pub ends : is_tail tail.node.place ≡ true
   pub are : w ≡ record v { told = record v.told { front = last_of tail.node } }
 
--- what of the board is in use changes, but not its front, and what it tells of the disks is so
+-- what of the board is in use changes, but not its front; what it tells of the disks is so, and within that; and who joins is counted
 pub record IsToldOfDisks (v w : View) : Type 0 where
   pub told : BoardInUse
   pub front : told.front ≡ v.told.front
+  pub within : IsWithin v.told.front v.told.gauges v.told.receipts v.told.musters → IsWithin told.front told.gauges told.receipts told.musters
+  pub joiner : ForSome v.joiner (λ j. counts v.told.mask j.slot ≡ true → counts told.mask j.slot ≡ true)
   pub backed : IsBacked v.told.front v.told.mask v.told.gauges v.told.receipts v.told.musters (disks_of v.recorded v.writing v.members)
       → IsBacked told.front told.mask told.gauges told.receipts told.musters (disks_of v.recorded v.writing v.members)
   pub fronts : All (λ f. f ≤ v.told.front) v.told.fronts → All (λ f. f ≤ told.front) told.fronts
   pub are : w ≡ record v { told = told }
 
--- the next record is being written, and is recorded then
+-- the next record is being written, and is recorded then, while nobody joins
 pub record IsBegun (v w : View) : Type 0 where
   pub next : Record
   pub follows : IsNext v next
@@ -232,8 +242,63 @@ pub record IsEnded (v w : View) : Type 0 where
   pub next : Record
   pub follows : IsNext v next
   pub begun : v.writing ≡ Some next
+  pub alone : v.joiner ≡ None
   pub told : All (λ m. m.node.stopped ≡ None → epoch_of m.node ≡ v.recorded.epoch) v.members
   pub are : w ≡ record v { recorded = next; before = v.recorded; writing = None }
+
+-- A joiner of a new incarnation is counted, with the volume that the tail holds for it. All that run were told the recorded chain, and no
+-- record is being written.
+pub record IsCounted (v w : View) : Type 0 where
+  pub above : List Member
+  pub tail : Member
+  pub below : List Member
+  pub joiner : Joiner
+  pub were : v.members ≡ above ++ tail ∷ below
+  pub runs : tail.node.stopped ≡ None
+  pub holds : tail.node.holds ≡ true
+  pub front : joiner.front ≡ tail.node.known
+  pub volume : joiner.volume ≡ fold patched tail.volume (writes_upto tail.node.table joiner.front)
+  pub incarnation : v.youngest < joiner.incarnation
+  pub apart : All (λ m. slot_of m ≢ joiner.slot) v.members
+  pub rests : All (IsAtRest v.recorded) v.members
+  pub counted : counts v.told.mask joiner.slot ≡ true
+  pub alone : v.joiner ≡ None
+  pub none : v.writing ≡ None
+  pub are : w ≡ record v { joiner = Some joiner }
+
+-- it is given up, while no record is being written
+pub record IsGivenUp (v w : View) : Type 0 where
+  pub none : v.writing ≡ None
+  pub are : w ≡ record v { joiner = None }
+
+-- the record with the joiner is being written, and is recorded then: it is a member, who wasn't told that yet
+pub record IsJoinBegun (v w : View) : Type 0 where
+  pub joiner : Joiner
+  pub next : Record
+  pub joins : v.joiner ≡ Some joiner
+  pub follows : IsWith v joiner next
+  pub none : v.writing ≡ None
+  pub are : w ≡ record v { writing = Some next }
+
+pub record IsJoinEnded (v w : View) : Type 0 where
+  pub joiner : Joiner
+  pub next : Record
+  pub member : Member
+  pub joins : v.joiner ≡ Some joiner
+  pub follows : IsWith v joiner next
+  pub begun : v.writing ≡ Some next
+  pub starts : IsNewcomer v.recorded joiner member
+  pub are : w ≡ record v { recorded = next; before = v.recorded; writing = None; youngest = joiner.incarnation; joiner = None; members = v.members ++ member ∷ [] }
+
+-- a removed member is forgotten, once all that run were told the recorded chain, and nothing waits for it
+pub record IsForgotten (v w : View) : Type 0 where
+  pub above : List Member
+  pub member : Member
+  pub below : List Member
+  pub were : v.members ≡ above ++ member ∷ below
+  pub idle : IsGone v.recorded member
+  pub told : All (λ m. m.node.stopped ≡ None → epoch_of m.node ≡ v.recorded.epoch) v.members
+  pub are : w ≡ with_members v (above ++ below)
 
 -- a member is told the recorded chain
 pub record IsTold (v w : View) (events : List ClientEvent) : Type 0 where
@@ -282,6 +347,11 @@ Happens size FrontRaised v w events = IsRaised v w × (events ≡ [])
 Happens size BoardTells v w events = IsToldOfDisks v w × (events ≡ [])
 Happens size RecordBegun v w events = IsBegun v w × (events ≡ [])
 Happens size RecordEnded v w events = IsEnded v w × (events ≡ [])
+Happens size JoinerCounted v w events = IsCounted v w × (events ≡ [])
+Happens size JoinerLeft v w events = IsGivenUp v w × (events ≡ [])
+Happens size JoinBegun v w events = IsJoinBegun v w × (events ≡ [])
+Happens size JoinEnded v w events = IsJoinEnded v w × (events ≡ [])
+Happens size MemberForgotten v w events = IsForgotten v w × (events ≡ [])
 Happens size MemberTold v w events = IsTold v w events
 Happens size SessionBegins v w events = (at : ℕ) × (w ≡ record v { kept = insert v.kept at [] }) × (events ≡ [])
 Happens size SessionEnds v w events = (at : ℕ) × (w ≡ record v { kept = set v.kept at [] }) × (events ≡ [])
@@ -308,12 +378,19 @@ pub record IsCut (v w : View) : Type 0 where
   pub known : front ≤ member.node.known
   pub begins : IsBeginning front (fold patched member.volume (writes_upto member.node.table front)) w
 
+-- or it is the disk of a joiner that goes on, while the record with it is being written
+pub record IsCutToJoiner (v w : View) : Type 0 where
+  pub joiner : Joiner
+  pub joins : v.joiner ≡ Some joiner
+  pub among : is_in_some v.writing joiner.slot joiner.incarnation ≡ true
+  pub begins : IsBeginning joiner.front joiner.volume w
+
 -- a life: eras, with a cut between two
 abbrev pub Life : ℕ → View → List (List Happening) → View → List (List (List ClientEvent)) → Type 0
 Life size v [] w events = (w ≡ v) × (events ≡ [])
 Life size v (era ∷ []) w events = (now : List (List ClientEvent)) × (events ≡ now ∷ []) × Era size v era w now
 Life size v (era ∷ next ∷ eras) w events =
-    (end begun : View) × (now : List (List ClientEvent)) × (later : List (List (List ClientEvent))) × (events ≡ now ∷ later) × Era size v era end now × IsCut end begun × Life size begun (next ∷ eras) w later
+    (end begun : View) × (now : List (List ClientEvent)) × (later : List (List (List ClientEvent))) × (events ≡ now ∷ later) × Era size v era end now × (IsCut end begun ⊎ IsCutToJoiner end begun) × Life size begun (next ∷ eras) w later
 
 -- one run for each era, none of them with a restart, and one restart between two: they show what clients see of each
 abbrev pub RunsEras : ℕ → State → List (List (List ClientEvent)) → State → Type 0
@@ -326,7 +403,7 @@ RunsEras size s (era ∷ next ∷ eras) t =
 abbrev pub HappeningsAreOfOneVolume : Type 0
 HappeningsAreOfOneVolume = (size : ℕ) (v w : View) (h : Happening) (events : List ClientEvent) → Happens size h v w events → Plays size (StandsFor size v) (StandsFor size w) events
 
--- Every life of a chain that begins over zeros, with members removed and records cut short, is one of the one volume: what was answered
+-- Every life of a chain that begins over zeros, with members removed, with others that join, and with records cut short, is one of the one volume: what was answered
 -- with FUA, or before a FLUSH was sent that was answered, is there after each cut.
 abbrev pub LivesAreOfOneVolume : Type 0
 LivesAreOfOneVolume = (size : ℕ) (v w : View) (eras : List (List Happening)) (events : List (List (List ClientEvent))) → IsBeginning 0 (volume_of size []) v → Life size v eras w events

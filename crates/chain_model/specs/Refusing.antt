@@ -1,8 +1,9 @@
 -- Why members of a chain stop, and which requests are refused.
-use Rattle.std.specs.Prelude.{◌≡◌, ◌≢◌, ◌⊎◌, ℕ, true, None, Some, List, ◌∷◌, ◌++◌, All, Any}
+use Rattle.std.specs.Prelude.{◌≡◌, ◌≢◌, ◌⊎◌, ℕ, true, false, None, Some, List, ◌∷◌, ◌++◌, All, Any}
 use Rattle.flush_barrier.specs.declared.error_code.ErrorCode.TheVariants.{Io, NoMemory}
 use Rattle.flush_barrier.specs.declared.session_id.SessionId.{SessionId}
 use Rattle.chain_steps.specs.Node.{epoch_of}
+use Rattle.chain_steps.specs.Place.{is_member}
 use Rattle.chain_steps.specs.Waiting.{debt_of, is_outdated}
 use Rattle.chain_steps.specs.declared.cause.Cause.TheVariants.{Disorder}
 use Rattle.chain_steps.specs.declared.waiting.Waiting.{Waiting}
@@ -41,12 +42,19 @@ pub record IsOutdated (v w : View) (session : SessionId) (cookie : ℕ) : Type 0
   pub turns : changed.new.node.turned ≡ true
   pub waited : Any (λ t. IsTokenOf session cookie t × (is_outdated (epoch_of changed.new.node) t ≡ true)) changed.old.node.waiting
 
--- A request was refused for memory; or with EIO, since its member has stopped, or since it had no number at a Turn.
+-- Its member isn't in the chain that it was told: it has joined, and wasn't told that.
+pub record IsOfNewcomer (v w : View) (session : SessionId) (cookie : ℕ) : Type 0 where
+  pub changed : OneChanged v w
+  pub newcomer : is_member changed.old.node.place ≡ false
+  pub waited : Any (IsDemandOf session cookie) changed.old.demands
+
+-- A request was refused for memory; or with EIO, since its member has stopped, since it had no number at a Turn, or since its member wasn't
+-- told the record by which it joined.
 abbrev pub HasPlea : View → View → ClientEvent → Type 0
 HasPlea v w (Sent session cookie request) = Unit {0}
 HasPlea v w (Answered session cookie (Done bytes)) = Unit {0}
 HasPlea v w (Answered session cookie (Failed NoMemory)) = Unit {0}
-HasPlea v w (Answered session cookie (Failed Io)) = IsOfStopped v w session cookie ⊎ IsOutdated v w session cookie
+HasPlea v w (Answered session cookie (Failed Io)) = IsOfStopped v w session cookie ⊎ (IsOutdated v w session cookie ⊎ IsOfNewcomer v w session cookie)
 
 -- No request is refused with EIO but for such a reason.
 abbrev pub RefusalsHavePleas : Type 0

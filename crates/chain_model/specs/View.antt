@@ -21,14 +21,23 @@ pub record Member : Type 0 where
   pub volume : List ℕ
   pub demands : List Held
 
--- A chain: its board; the recorded chain, the one recorded before it, and the record that is being written; whoever stands at the
--- slots; the chain link and the submit link from each slot to each; and for each session the requests that stand whole in its kept
--- input.
+-- Who joins: its slot and incarnation, and the volume on its disk, which is that of so many writes.
+pub record Joiner : Type 0 where
+  pub slot : ℕ
+  pub incarnation : ℕ
+  pub front : ℕ
+  pub volume : List ℕ
+
+-- A chain: its board; the recorded chain, the one recorded before it, and the record that is being written; the greatest incarnation that
+-- was recorded since it began; who is counted and not recorded yet, if somebody joins; whoever stands at the slots; the chain link and the submit link from each slot to each; and for each
+-- session the requests that stand whole in its kept input.
 pub record View : Type 0 where
   pub told : BoardInUse
   pub recorded : Record
   pub before : Record
   pub writing : Option Record
+  pub youngest : ℕ
+  pub joiner : Option Joiner
   pub members : List Member
   pub links : ℕ → ℕ → List Envelope
   pub submits : ℕ → ℕ → List Envelope

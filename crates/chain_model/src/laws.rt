@@ -1,6 +1,6 @@
 //! That each kind of step of a chain whose record changes is of the one volume. The functions do nothing.
 
-ghost use Rattle.chain_model.specs.Laws.{AnswersFloor, AnswersFront, AsksFront, BeginsCommit, BeginsRecord, Connects, DropsDemand, EndsCommit, EndsRecord, FirstChain, Forgets, HeldStays, HoldsFront, IsOnEachDisk, KeepsRaised, KnowsRaised, LooksUp, RaisesFront, ReadsClean, RefusesDemand, RestartsChain, SendsAll, Stops, SubmitsWrite, TakesFlush, TakesMessage, TakesSubmit, TakesUp, TellsDisks, TellsMember};
+ghost use Rattle.chain_model.specs.Laws.{AnswersFloor, AnswersFront, AsksFront, BeginsCommit, BeginsJoin, BeginsRecord, Connects, DisksAgree, DropsDemand, EndsCommit, EndsJoin, EndsRecord, FirstChain, ForgetsMember, Forgets, HeldStays, HoldsFront, IsOnEachDisk, JoinerAgrees, KeepsRaised, KnowsRaised, LooksUp, RaisesFront, ReadsClean, RefusesDemand, RestartsChain, RestartsFromJoiner, SendsAll, Stops, SubmitsWrite, TakesFlush, TakesMessage, TakesSubmit, TakesUp, TellsDisks, TellsMember};
 ghost use Rattle.chain_model.specs.Life.{HappeningsAreOfOneVolume, LivesAreOfOneVolume};
 ghost use Rattle.chain_model.specs.Refusing.{RefusalsHavePleas, StopsHaveCauses};
 
@@ -41,11 +41,18 @@ pub fn commits_are_of_one_volume()
 {}
 
 /// The next record, without a member that has stopped or of the same members: it is being written, it is recorded, and a member is
-/// told it.
+/// told it. One that was removed is forgotten.
 pub fn records_are_of_one_volume()
     ensures begins { BeginsRecord }
     ensures ends { EndsRecord }
     ensures tells { TellsMember }
+    ensures forgets { ForgetsMember }
+{}
+
+/// The next record with one that joins behind the tail: it is being written, and it is recorded.
+pub fn joins_are_of_one_volume()
+    ensures begins { BeginsJoin }
+    ensures ends { EndsJoin }
 {}
 
 /// What sessions send and keep.
@@ -56,15 +63,18 @@ pub fn sessions_are_of_one_volume()
     ensures takes_up { TakesUp }
 {}
 
-/// What a stop leaves of the disk of a member that may be recorded then.
+/// What a stop leaves of the disk of a member that may be recorded then; and that such disks agree.
 pub fn each_disk_has_what_is_owed()
-    ensures { IsOnEachDisk }
+    ensures owed { IsOnEachDisk }
+    ensures agree { DisksAgree }
+    ensures joiner { JoinerAgrees }
 {}
 
-/// How a chain begins, and begins again after a cut.
+/// How a chain begins, and begins again after a cut, from a member's disk or from a joiner's.
 pub fn chains_begin_again()
     ensures first { FirstChain }
     ensures restarts { RestartsChain }
+    ensures joiner { RestartsFromJoiner }
 {}
 
 /// The headline, of a chain whose record changes: whatever its members, its clients, its board and its manager do, with cuts in

@@ -17,9 +17,9 @@ mod order_laws;
 
 pub use laws::{
     chains_begin_again, commits_are_of_one_volume, demands_are_of_one_volume,
-    each_disk_has_what_is_owed, fronts_are_of_one_volume, lives_are_of_one_volume,
-    messages_are_of_one_volume, records_are_of_one_volume, refusals_have_pleas,
-    sessions_are_of_one_volume,
+    each_disk_has_what_is_owed, fronts_are_of_one_volume, joins_are_of_one_volume,
+    lives_are_of_one_volume, messages_are_of_one_volume, records_are_of_one_volume,
+    refusals_have_pleas, sessions_are_of_one_volume,
 };
 pub use order_laws::{
     changes_keep_order, joining_keeps_order, members_keep_order, order_agrees, order_begins,

@@ -134,7 +134,7 @@ module _ (mid : Managed IsStore) (cut : Cut) (disks : List (SlotDisk MemDisk)) (
         let own_a = (all_at (HasOwnDisk about_of_store) mid.world.chain.members i a owners here).slot in
         let own_b = (all_at (HasOwnDisk about_of_store) mid.world.chain.members j b owners there).slot in
         let slots : slot_of x ≡ slot_of y = ap slot_of is_x.is ∙ sym own_a ∙ same ∙ own_b ∙ sym (ap slot_of is_y.is) in
-        apart_in (slots_of v.members) i j (slot_of y) stands.2.slots (slice_get-map slot_of v.members i ∙ ap (option_map slot_of) at_x ∙ ap Some slots) (slice_get-map slot_of v.members j ∙ ap (option_map slot_of) at_y)
+        apart_in (slots_of v.members) i j (slot_of y) stands.0.2.slots (slice_get-map slot_of v.members i ∙ ap (option_map slot_of) at_x ∙ ap Some slots) (slice_get-map slot_of v.members j ∙ ap (option_map slot_of) at_y)
 
     -- another disk means another member than the source's
     pub others_differ : ((one other : Meaning) (bytes : List ℕ) → Means one bytes → Means other bytes → one ≡ other) → NoImpostor mid → (returned : List ℕ) (r : Record) (place : ℕ) → MayStand mid.world.chain r → (src : IsTheSource returned disks r place)

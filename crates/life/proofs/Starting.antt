@@ -104,6 +104,7 @@ no_clients : (front : ℕ) (volume : List ℕ) (v : View) → IsBeginning front 
 no_clients front volume v begun = record {
   none_wait = λ k d within. (begun.idle k d within).demands;
   none_kept = begun.no_sessions;
+  alone = begun.no_joiner;
 }
 
 -- the world of a chain that begins

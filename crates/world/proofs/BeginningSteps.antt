@@ -50,4 +50,5 @@ module _ {S : Type 0} (c : Chained S) (export : Export) (queues : List (List Dem
         ∙ ap (λ (n : ℕ). replicate n []) (AllZip-long (IsShown about keeps may_leave_now (bytes_of c)) c.members v.members shows.members)
         ∙ sym (none_held (length c.members)) ∙ ap (map (map held_of)) (sym none);
     kept = subst (AreTakenUp []) (sym has.none_kept) (record { many = refl; none = All-nil (λ held. held ≡ []) });
+    alone = has.alone;
   }

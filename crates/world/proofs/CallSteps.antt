@@ -15,7 +15,7 @@ use Rattle.clients.specs.Clients.{Sessions, held_of, no_one}
 use Rattle.world.specs.Telling.{Answers, Moves, Tells, handed_by, handed_if, handed_in, handed_some, has_room, outputs_of}
 use Rattle.world.specs.World.{IsJoined, IsOfOneVolume, Seen}
 use Rattle.world.specs.declared.told.Told.{Told}
-use Rattle.world.proofs.InnerSteps.{IsAlike, answers_so, joined_so, moves_so, rests_so}
+use Rattle.world.proofs.InnerSteps.{IsAlike, answers_so, joined_so, moves_alone, moves_so, rests_so}
 use Rattle.world.proofs.TellingSteps.{places_still, told_places}
 
 module _ {S : Type 0} (before after : Chained S) (sessions : Sessions) (queues : List (List Demand)) where
@@ -56,6 +56,10 @@ module _ {S : Type 0} (before after : Chained S) (sessions : Sessions) (queues :
   pub moved_so : {about : S → About} {keeps : S → List ℕ → Type 0} {may_leave_now : S → List ℕ → Type 0} → chain.IsOfOneVolume about keeps may_leave_now before after []
       → IsOfOneVolume about keeps may_leave_now no_one no_one old moved
   moved_so {about} {keeps} {may_leave_now} lead = moves_so about keeps may_leave_now old moved lead refl
+
+  pub moved_alone : {about : S → About} {keeps : S → List ℕ → Type 0} {may_leave_now : S → List ℕ → Type 0} → chain.IsOfOneVolumeAlone about keeps may_leave_now before after []
+      → IsOfOneVolume about keeps may_leave_now no_one no_one old moved
+  moved_alone {about} {keeps} {may_leave_now} lead = moves_alone about keeps may_leave_now old moved lead refl
 
   -- the same, where the answer is a refusal
   pub refused_so : {about : S → About} {keeps : S → List ℕ → Type 0} {may_leave_now : S → List ℕ → Type 0} {V E : Type 0} (r : Result V E) (told : V → Told) → IsErr r

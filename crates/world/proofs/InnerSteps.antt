@@ -1,6 +1,6 @@
 -- What a call of members and the board is, with its replies told: what happens in the world, and what holds of it then.
 use Rattle.std.proofs.Common.{◌≡◌, ℕ, Bool, List, [], ◌∷◌, length, refl, ap, sym, subst, ◌∙◌, inl, inr}
-use Rattle.std.specs.Prelude.{◌<◌, ◌*◌, All, map, false, true}
+use Rattle.std.specs.Prelude.{◌<◌, ◌*◌, All, None, map, false, true}
 use Rattle.std.proofs.lemmas.List.Elements.{All-map}
 use Rattle.std.proofs.lemmas.List.{get_or-map, length-map}
 use Rattle.flush_barrier.specs.Reply.{GivenReply}
@@ -11,7 +11,7 @@ use Rattle.chain_model.specs.View.{View}
 use Rattle.world_model.specs.Event.{ClientEvent}
 use Rattle.chain.specs.Chain.{Chained, bytes_of}
 use Rattle.chain.specs.Chain as chain
-use Rattle.chain.proofs.Keeping.{goes_keeps}
+use Rattle.chain.proofs.Keeping.{goes_keeps, goes_leaves}
 use Rattle.clients.specs.Calls.{AreAtPlaces}
 use Rattle.clients.specs.Clients.{held_of, no_one}
 use Rattle.clients.specs.declared.output.Output.{Output}
@@ -37,16 +37,16 @@ module _ {S : Type 0} (about : S → About) (keeps : S → List ℕ → Type 0) 
   -- replies come to their sessions in a world that has come so far
   pub tells_so : (old new : Seen S) (room lost : Bool) (replies : List GivenReply) (outputs : List Output) (events : List ClientEvent) (v w : View)
       → AreTold room lost replies old.sessions new.sessions outputs events
-      → chain.Shows about keeps may_leave_now new.chain w → map (λ m. m.demands) w.members ≡ map (map held_of) new.queues → w.kept ≡ v.kept → AreTakenUp old.sessions.clients v.kept
+      → chain.Shows about keeps may_leave_now new.chain w → map (λ m. m.demands) w.members ≡ map (map held_of) new.queues → w.kept ≡ v.kept → AreTakenUp old.sessions.clients v.kept → w.joiner ≡ None
       → Goes (bytes_of old.chain) v w events
       → HappensSo about keeps may_leave_now old new no_one (handed_by outputs) v
-  tells_so old new room lost replies outputs events v w told shows demands kept are goes =
+  tells_so old new room lost replies outputs events v w told shows demands kept are alone goes =
       let places = told_places room lost replies old.sessions new.sessions outputs events told in
       record {
         w = w;
         events = events;
         asked = no_one;
-        shows = record { chain = shows; demands = demands; kept = taken_up_still old.sessions new.sessions w.kept places (rw kept are) };
+        shows = record { chain = shows; demands = demands; kept = taken_up_still old.sessions new.sessions w.kept places (rw kept are); alone = alone };
         goes = goes;
         go_on = told_go_on room lost replies old.sessions new.sessions outputs events told;
         sent = λ id. none_sent id replies events (told_put_out room lost replies old.sessions new.sessions outputs events told);
@@ -54,19 +54,32 @@ module _ {S : Type 0} (about : S → About) (keeps : S → List ℕ → Type 0) 
       }
 
   -- a call of the chain, with its replies
+  pub answers_alone : (old new : Seen S) (room lost : Bool) (replies : List GivenReply) (outputs : List Output) (events : List ClientEvent)
+      → chain.IsOfOneVolumeAlone about keeps may_leave_now old.chain new.chain replies → AreTold room lost replies old.sessions new.sessions outputs events → new.queues ≡ old.queues
+      → IsOfOneVolume about keeps may_leave_now no_one (handed_by outputs) old new
+  answers_alone old new room lost replies outputs events lead told queues v s shows stands =
+      let did = lead v s events shows.chain shows.alone stands (told_put_out room lost replies old.sessions new.sessions outputs events told) in
+      let stays = goes_keeps v did.0 events did.2 in
+      tells_so old new room lost replies outputs events v did.0 told did.1 (stays.1 ∙ shows.demands ∙ sym (ap (map (map held_of)) queues)) stays.0 shows.kept (goes_leaves v did.0 events did.2 ∙ shows.alone) (goes_as v did.0 events did.2)
+
+  -- which may be one of a chain that somebody joins, too
+  pub whoever_joins : (old new : Seen S) (replies : List GivenReply) → chain.IsOfOneVolume about keeps may_leave_now old.chain new.chain replies → chain.IsOfOneVolumeAlone about keeps may_leave_now old.chain new.chain replies
+  whoever_joins old new replies lead v s events shows alone stands out = lead v s events shows stands out
+
   pub answers_so : (old new : Seen S) (room lost : Bool) (replies : List GivenReply) (outputs : List Output) (events : List ClientEvent)
       → chain.IsOfOneVolume about keeps may_leave_now old.chain new.chain replies → AreTold room lost replies old.sessions new.sessions outputs events → new.queues ≡ old.queues
       → IsOfOneVolume about keeps may_leave_now no_one (handed_by outputs) old new
-  answers_so old new room lost replies outputs events lead told queues v s shows stands =
-      let did = lead v s events shows.chain stands (told_put_out room lost replies old.sessions new.sessions outputs events told) in
-      let stays = goes_keeps v did.0 events did.2 in
-      tells_so old new room lost replies outputs events v did.0 told did.1 (stays.1 ∙ shows.demands ∙ sym (ap (map (map held_of)) queues)) stays.0 shows.kept (goes_as v did.0 events did.2)
+  answers_so old new room lost replies outputs events lead = answers_alone old new room lost replies outputs events (whoever_joins old new replies lead)
 
   -- a call of the chain without a reply
+  pub moves_alone : (old new : Seen S) → chain.IsOfOneVolumeAlone about keeps may_leave_now old.chain new.chain [] → new ≡ record old { chain = new.chain }
+      → IsOfOneVolume about keeps may_leave_now no_one no_one old new
+  moves_alone old new lead are v s shows stands =
+      answers_alone old new true false [] [] [] lead (ap (λ w. w.sessions) are, refl, refl, refl) (ap (λ w. w.queues) are) v s shows stands
+
   pub moves_so : (old new : Seen S) → chain.IsOfOneVolume about keeps may_leave_now old.chain new.chain [] → new ≡ record old { chain = new.chain }
       → IsOfOneVolume about keeps may_leave_now no_one no_one old new
-  moves_so old new lead are v s shows stands =
-      answers_so old new true false [] [] [] lead (ap (λ w. w.sessions) are, refl, refl, refl) (ap (λ w. w.queues) are) v s shows stands
+  moves_so old new lead = moves_alone old new (whoever_joins old new [] lead)
 
   -- nothing changed
   pub rests_so : (old new : Seen S) → new ≡ old → IsOfOneVolume about keeps may_leave_now no_one no_one old new

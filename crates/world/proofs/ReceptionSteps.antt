@@ -146,13 +146,13 @@ come_behind old new id at begins = record {
 module _ {S : Type 0} (about : S → About) (keeps : S → List ℕ → Type 0) (may_leave_now : S → List ℕ → Type 0) where
   -- the chain is shown so, whatever its sessions keep
   chain_still : (c : Chained S) (v : View) (kept : List (List Held)) → chain.Shows about keeps may_leave_now c v → chain.Shows about keeps may_leave_now c (record v { kept = kept })
-  chain_still c v kept shows = record { told = shows.told; recorded = shows.recorded; before = shows.before; writing = shows.writing; members = shows.members; links = shows.links; submits = shows.submits }
+  chain_still c v kept shows = record { told = shows.told; recorded = shows.recorded; before = shows.before; writing = shows.writing; youngest = shows.youngest; members = shows.members; links = shows.links; submits = shows.submits }
 
   -- the places of the sessions changed, and nothing else
   shown_keeping : (old : Seen S) (sessions : Sessions) (v : View) (kept : List (List Held)) → Shows about keeps may_leave_now old v
       → AreTakenUp sessions.clients kept
       → Shows about keeps may_leave_now (record old { sessions = sessions }) (record v { kept = kept })
-  shown_keeping old sessions v kept shows are = record { chain = chain_still old.chain v kept shows.chain; demands = shows.demands; kept = are }
+  shown_keeping old sessions v kept shows are = record { chain = chain_still old.chain v kept shows.chain; demands = shows.demands; kept = are; alone = shows.alone }
 
   pub nothing_happens : (w : Seen S) → IsOfOneVolume about keeps may_leave_now no_one no_one w w
   nothing_happens w v s shows stands = record {
@@ -204,9 +204,10 @@ module _ {S : Type 0} (about : S → About) (keeps : S → List ℕ → Type 0) 
     events = map sent_event (map held_of fed.demands);
     asked = of_session id (map asked_by fed.demands);
     shows = record {
-      chain = record { told = shown.told; recorded = shown.recorded; before = shown.before; writing = shown.writing; members = shown.members; links = shown.links; submits = shown.submits };
+      chain = record { told = shown.told; recorded = shown.recorded; before = shown.before; writing = shown.writing; youngest = shown.youngest; members = shown.members; links = shown.links; submits = shown.submits };
       demands = wait_then;
       kept = taken_up_set sessions.clients fed.did.place v.kept (taken_up_still old.sessions sessions v.kept fed.places shows.kept);
+      alone = shows.alone;
     };
     goes = fed_goes (bytes_of old.chain) v at waits.member fed.did.place (map held_of fed.demands) waits.here (none_at old.sessions.clients fed.did.place fed.did.before v.kept shows.kept fed.did.here);
     go_on = go_on_sent old.sessions.clients sessions.clients (of_session id piece) no_one (of_session id (map asked_by fed.demands)) (map held_of fed.demands) fed.lawful;

@@ -22,7 +22,7 @@ use Rattle.chain.specs.Chain.{Chained, bytes_of}
 use Rattle.chain.specs.Chain as chain
 use Rattle.chain.specs.Member.{IsShown}
 use Rattle.chain.proofs.Cells.{place_of, zip_at}
-use Rattle.chain.proofs.Keeping.{goes_keeps}
+use Rattle.chain.proofs.Keeping.{goes_keeps, goes_leaves}
 use Rattle.clients.specs.Clients.{held_of, no_one}
 use Rattle.clients.specs.declared.output.Output.{Output}
 use Rattle.world.specs.Taking.{code_of, refusing}
@@ -75,6 +75,7 @@ shows_demands about keeps may_leave_now c v at m held here shows = record {
   recorded = shows.recorded;
   before = shows.before;
   writing = shows.writing;
+  youngest = shows.youngest;
   links = shows.links;
   submits = shows.submits;
   members = zip_with (IsShown about keeps may_leave_now (bytes_of c)) c.members v.members at m (record m { demands = held }) here (λ x so. record {
@@ -124,7 +125,7 @@ may_refuse about keeps may_leave_now c v at m refusals.Stopped shows here plea =
     let same : own ≡ m = cc both in
     let node : m.node ≡ plea.member.node.state = ap (λ (x : Member). x.node) (sym same) ∙ ap (λ (x : Member). x.node) so.is in
     let off : is_stopped m.node ≡ true = subst (λ (n : NodeState). is_stopped n ≡ true) (sym node) plea.stopped in
-    λ runs. let both : is_some m.node.stopped ≡ false = ap is_some runs in let clash : true ≡ false = sym off ∙ both in absurd cc
+    inl (λ runs. let both : is_some m.node.stopped ≡ false = ap is_some runs in let clash : true ≡ false = sym off ∙ both in absurd cc)
 may_refuse about keeps may_leave_now c v at m refusals.Full shows here plea = absurd plea
 may_refuse about keeps may_leave_now c v at m refusals.NotMember shows here plea = absurd plea
 may_refuse about keeps may_leave_now c v at m refusals.Early shows here plea = absurd plea
@@ -159,7 +160,7 @@ module _ {S : Type 0} (about : S → About) (keeps : S → List ℕ → Type 0) 
       let waits = waits_at v.members old.queues at (demand ∷ rest) shows.demands here in
       let did = takes v s events (map held_of rest) shows.chain stands (some_at v.members waits) (told_put_out room lost replies old.sessions new.sessions outputs events told) in
       tells_so about keeps may_leave_now old new room lost replies outputs events v did.0 told did.1
-      (did.2.demands ∙ ap (λ l. slice_set l at (map held_of rest)) shows.demands ∙ queues_then) did.2.kept shows.kept (goes_taking v did.0 events did.2)
+      (did.2.demands ∙ ap (λ l. slice_set l at (map held_of rest)) shows.demands ∙ queues_then) did.2.kept shows.kept (did.2.joiner ∙ shows.alone) (goes_taking v did.0 events did.2)
 
   pub refused_so : (room lost : Bool) (others : List GivenReply) (refusal : Refusal) → HasPleaAt at new.chain refusal → (outputs : List Output) (events : List ClientEvent) → chain.IsOfOneVolume about keeps may_leave_now old.chain new.chain others
       → AreTold room lost (others ++ refusing (owed_by demand) refusal ∷ []) old.sessions new.sessions outputs events → IsOfOneVolume about keeps may_leave_now no_one (handed_by outputs) old new
@@ -172,6 +173,6 @@ module _ {S : Type 0} (about : S → About) (keeps : S → List ℕ → Type 0) 
       tells_so about keeps may_leave_now old new room lost (others ++ refusing (owed_by demand) refusal ∷ []) outputs events v then told
       (shows_demands about keeps may_leave_now new.chain did.0 at waits.member (map held_of rest) waits.here did.1)
       (demands_then did.0 at waits.member (map held_of rest) ∙ ap (λ l. slice_set l at (map held_of rest)) (stays.1 ∙ shows.demands) ∙ queues_then)
-      stays.0 shows.kept
+      stays.0 shows.kept (goes_leaves v did.0 out.0 did.2 ∙ shows.alone)
       (goes_same v then (out.0 ++ out.1) events (sym out.4) (goes_on v did.0 then out.0 out.1 (goes_as v did.0 out.0 did.2) (refuses (bytes_of old.chain) did.0 at demand (map held_of rest) refusal waits.member out.1
       (may_refuse about keeps may_leave_now new.chain did.0 at waits.member refusal did.1 waits.here plea) waits.here waits.waits out.3)))

@@ -44,16 +44,18 @@ pub record AreTakenUp (clients : List Client) (kept : List (List Held)) : Type 0
   pub many : length kept ≡ length clients
   pub none : All (λ held. held ≡ []) kept
 
--- The world is shown so: its chain, the demands that wait for each member, and a place for each session.
+-- The world is shown so: its chain, the demands that wait for each member, and a place for each session. Nobody joins it yet.
 pub record Shows {S : Type 0} (about : S → About) (keeps : S → List ℕ → Type 0) (may_leave_now : S → List ℕ → Type 0) (w : Seen S) (v : View) : Type 0 where
   pub chain : chain.Shows about keeps may_leave_now w.chain v
   pub demands : map (λ m. m.demands) v.members ≡ map (map held_of) w.queues
   pub kept : AreTakenUp w.sessions.clients v.kept
+  pub alone : v.joiner ≡ None
 
--- nothing waits for a member of it, and it has no sessions
+-- nothing waits for a member of it, it has no sessions, and nobody joins it
 pub record HasNoClients (v : View) : Type 0 where
   pub none_wait : All (λ m. m.demands ≡ []) v.members
   pub none_kept : v.kept ≡ []
+  pub alone : v.joiner ≡ None
 
 -- some things happen, one after another, and clients see these events of them all
 pub record Goes (size : ℕ) (v w : View) (events : List ClientEvent) : Type 0 where

@@ -1,3 +1,4 @@
+use Rattle.chain_model.proofs.ForgettingSteps.{forgets_member}
 use Rattle.chain_model.proofs.RecordSteps.{begins_record, ends_record}
 use Rattle.chain_model.proofs.ToldSteps.{tells_member}
 use Rattle.chain_model.proofs.laws.records_are_of_one_volume.Goals as goal
@@ -10,3 +11,6 @@ returns-clause-ends c = ends_record
 
 pub returns-clause-tells : goal.returns-clause-tells
 returns-clause-tells c = tells_member
+
+pub returns-clause-forgets : goal.returns-clause-forgets
+returns-clause-forgets c = forgets_member

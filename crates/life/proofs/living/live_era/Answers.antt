@@ -97,7 +97,7 @@ returns-clause-lived c = λ export s fresh.
     let meant : from.recovers.meaning ≡ own.meaning =
     c.disks_mean_one.ensures from.recovers.meaning own.meaning (given_of from.source.disk) from.recovers.means (subst (λ (d : SlotDisk MemDisk). Means own.meaning (given_of d.disk)) same own.means) in
     era_leads (Unit {0}) about_of_store keeps_volume pends_in leaves_now moment_in left_in failures_in disk_in
-    c.lives_are_of_one_volume.ensures.happenings c.refusals_have_pleas.ensures.refusals c.refusals_have_pleas.ensures.stops c.chains_begin_again.ensures.restarts c.each_disk_has_what_is_owed.ensures
+    c.lives_are_of_one_volume.ensures.happenings c.refusals_have_pleas.ensures.refusals c.refusals_have_pleas.ensures.stops c.chains_begin_again.ensures.restarts c.each_disk_has_what_is_owed.ensures.owed
     c.sessions_are_lawful.ensures.first c.sessions_are_lawful.ensures.lawful c.disks_mean_one.ensures
     c.args.era.now c.in-Ok.told.items c.in-Ok.ensures.pass.0 c.args.managed end c.in_ok-next.next c.sound.ensures.joined c.sound-2.ensures.joined c.sound-2.ensures.sessions c.sound-2.ensures.disks configured (keep.in_step (rests_in_step c.args.managed c.requires.rests))
     (rw (← c.deref.ensures.value) c.in-Ok.ensures.plays)

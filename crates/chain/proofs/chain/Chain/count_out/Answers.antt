@@ -32,7 +32,7 @@ returns-clause-out g c = λ yes. (
 )
 
 pub returns-clause-one_volume : goal.returns-clause-one_volume
-returns-clause-one_volume g c = λ premise v s events shows stands put_out.
+returns-clause-one_volume g c = λ premise v s events shows alone stands put_out.
     let i = c.self.inside in
-    let old : Chained g.row.S.Denot = record { id = i.board.id; seat = i.board.seat; words = i.board.words; recorded = i.recorded; before = i.before; writing = i.writing; geometry = i.geometry; members = i.members.items; links = i.links; submits = i.submits } in
-    rw (← c.self.view_is, c.count_out.ensures.words) (counts_out_goes g.S.StoreLike.about g.S.StoreLike.keeps g.S.StoreLike.may_leave_now old v events (rw c.self.view_is shows) c.args.slot (gone g c) (none_written g c) c.count_out.ensures.others put_out)
+    let old : Chained g.row.S.Denot = record { id = i.board.id; seat = i.board.seat; words = i.board.words; recorded = i.recorded; before = i.before; writing = i.writing; youngest = i.youngest; geometry = i.geometry; members = i.members.items; links = i.links; submits = i.submits } in
+    rw (← c.self.view_is, c.count_out.ensures.words) (counts_out_goes g.S.StoreLike.about g.S.StoreLike.keeps g.S.StoreLike.may_leave_now old v events (rw c.self.view_is shows) alone c.args.slot (gone g c) (none_written g c) c.count_out.ensures.others put_out)

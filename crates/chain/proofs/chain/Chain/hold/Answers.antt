@@ -13,7 +13,7 @@ use Rattle.chain.proofs.chain.Chain.hold.Given.{Over}
 abbrev old_of : (g : Over) (c : goal.After-drop-link g) → Chained g.row.S.Denot
 old_of g c =
     let i = c.self.inside in
-    record { id = i.board.id; seat = i.board.seat; words = i.board.words; recorded = i.recorded; before = i.before; writing = i.writing; geometry = i.geometry; members = i.members.items; links = i.links; submits = i.submits }
+    record { id = i.board.id; seat = i.board.seat; words = i.board.words; recorded = i.recorded; before = i.before; writing = i.writing; youngest = i.youngest; geometry = i.geometry; members = i.members.items; links = i.links; submits = i.submits }
 
 -- the link that is lent
 lent : (g : Over) (c : goal.After-drop-link g) → IsLent (old_of g c) c.index_mut.result.now c.exchange.new.queue.items c.hold-replies.new.to.items c.exchange-2.new.self

@@ -4,7 +4,7 @@ use Rattle.std.proofs.lemmas.Option.{slice_get_read}
 use Rattle.configurations.specs.Record.{AreMembers, Record}
 use Rattle.configurations.specs.declared.member.Member.{Member}
 use Rattle.volume.specs.declared.geometry.Geometry.{Geometry}
-use Rattle.chain.specs.Opening.{beginning_of, recorded_in}
+use Rattle.chain.specs.Opening.{beginning_of, recorded_in, youngest_of}
 use Rattle.chain.proofs.BeginningSteps.{begins, begun_formed}
 use Rattle.chain.proofs.OpeningSteps.{all_unmapped, if_some, then_has, words_made}
 use Rattle.chain.proofs.chain.Chain.new.Goals as goal
@@ -55,7 +55,7 @@ returns-clause-begins g c = λ premise volume keep.
     c.in-Ok-new.ensures (sym (ap (λ w. w.front) c.in-Ok-new.ensures)) c.mask_of-mask.ensures c.members.ensures.members c.gauges_of-gauges.ensures c.members-2.ensures.members in
     let incarnations = all_unmapped (λ (m : Member). 0 < m.incarnation) (recorded_in about) c.args.stores.items (rw c.requires.recorded c.requires.incarnations) in
     begins about c.in-Ok-new.board.id told g.S.StoreLike.keeps g.S.StoreLike.may_leave_now (4096 * c.geometry-geometry.result.blocks) c.in-Ok-new.board.words.front volume _ c.args.stores.items
-    refl refl c.in-Ok-copy_of.ensures refl c.in-Ok-new-2.ensures c.in-Ok-new-3.ensures are c.requires.recorded are_members words refl
+    refl refl c.in-Ok-copy_of.ensures refl (c.youngest_of-youngest.ensures ∙ ap youngest_of c.members-3.ensures.members) c.in-Ok-new-2.ensures c.in-Ok-new-3.ensures are c.requires.recorded are_members words refl
     (λ k d less. record {
       front_is = (even k d less).0 ∙ sym front;
       incarnation = incarnations k d less;

@@ -30,7 +30,7 @@ returns-in_default-clause-none g c =
 pub pass-taken-requires : goal.pass-taken-requires
 pass-taken-requires g c =
     let i = c.self.inside in
-    let old : Chained g.row.S.Denot = record { id = i.board.id; seat = i.board.seat; words = i.board.words; recorded = i.recorded; before = i.before; writing = i.writing; geometry = i.geometry; members = i.members.items; links = i.links; submits = i.submits } in
+    let old : Chained g.row.S.Denot = record { id = i.board.id; seat = i.board.seat; words = i.board.words; recorded = i.recorded; before = i.before; writing = i.writing; youngest = i.youngest; geometry = i.geometry; members = i.members.items; links = i.links; submits = i.submits } in
     let m = c.behind-self-2.inside in
     let before : Linked g.row.S.Denot = record { node = m.node; front = m.front; muster = m.muster; receipt = m.receipt } in
     let here : slice_get old.members c.args.at ≡ Some before = read_at old c.args.self.now c.args.at _ c.self.view_is c.requires c.index_mut.ensures.value ∙ ap Some (sym c.behind-self-2.view_is) in
@@ -40,7 +40,7 @@ pass-taken-requires g c =
 
 -- the chain before, and its member at the place
 abbrev old_of : (g : Over) → goal.After-drop-link g → Chained g.row.S.Denot
-old_of g c = let i = c.self.inside in record { id = i.board.id; seat = i.board.seat; words = i.board.words; recorded = i.recorded; before = i.before; writing = i.writing; geometry = i.geometry; members = i.members.items; links = i.links; submits = i.submits }
+old_of g c = let i = c.self.inside in record { id = i.board.id; seat = i.board.seat; words = i.board.words; recorded = i.recorded; before = i.before; writing = i.writing; youngest = i.youngest; geometry = i.geometry; members = i.members.items; links = i.links; submits = i.submits }
 
 abbrev before_of : (g : Over) → goal.After-drop-link g → Linked g.row.S.Denot
 before_of g c = let m = c.behind-self-2.inside in record { node = m.node; front = m.front; muster = m.muster; receipt = m.receipt }

@@ -19,6 +19,7 @@ old g c = record {
   recorded = c.self.inside.recorded;
   before = c.self.inside.before;
   writing = c.self.inside.writing;
+  youngest = c.self.inside.youngest;
   geometry = c.self.inside.geometry;
   members = c.self.inside.members.items;
   links = c.self.inside.links;
@@ -72,7 +73,7 @@ pub returns-clause-takes : goal.returns-clause-takes
 returns-clause-takes g c = λ premise. rw (← c.self.view_is) (on_ok c.submit_to-taken.result
     (has_submitted (old g c) c.args.at (own g c) c.submit_to-taken.new.node c.exchange-2.new.self c.submit_to-taken.result c.args.token c.args.write (λ e. e.replies.items) (λ e. e.refusal) (lends g c) g.S.StoreLike.about c.self.invariant c.submit_to-taken.ensures.runs c.submit_to-taken.ensures.ticket)
     (λ did v s events rest shows stands first put_out.
-    submitted_goes g.S.StoreLike.about g.S.StoreLike.keeps g.S.StoreLike.may_leave_now (old g c) _ c.args.at c.args.token c.args.write did v events rest c.requires.unnumbered shows first put_out))
+    submitted_goes g.S.StoreLike.about g.S.StoreLike.keeps g.S.StoreLike.may_leave_now (old g c) _ c.args.at c.args.token c.args.write did (in_at g.S.StoreLike.about (old g c) c.args.at did.before did.here c.self.invariant).member v events rest c.requires.unnumbered shows first put_out))
 
 pub returns-clause-one_volume : goal.returns-clause-one_volume
 returns-clause-one_volume g c = λ premise. rw (← c.self.view_is) (if_err c.submit_to-taken.result

@@ -19,7 +19,7 @@ returns-then-is_some-clause-refused g c =
 pub invariant_of-self : goal.invariant_of-self
 invariant_of-self g c =
     let i = c.self.inside in
-    let old : Chained g.row.S.Denot = record { id = i.board.id; seat = i.board.seat; words = i.board.words; recorded = i.recorded; before = i.before; writing = i.writing; geometry = i.geometry; members = i.members.items; links = i.links; submits = i.submits } in
+    let old : Chained g.row.S.Denot = record { id = i.board.id; seat = i.board.seat; words = i.board.words; recorded = i.recorded; before = i.before; writing = i.writing; youngest = i.youngest; geometry = i.geometry; members = i.members.items; links = i.links; submits = i.submits } in
     let m = c.behind-self.inside in
     let before : Linked g.row.S.Denot = record { node = m.node; front = m.front; muster = m.muster; receipt = m.receipt } in
     let here : slice_get old.members c.args.at ≡ Some before = read_at old c.args.self.now c.args.at _ c.self.view_is c.requires c.index_mut.ensures.value ∙ ap Some (sym c.behind-self.view_is) in
@@ -28,7 +28,7 @@ invariant_of-self g c =
 pub returns-in_default-clause-told : goal.returns-in_default-clause-told
 returns-in_default-clause-told g c = rw (← c.self.view_is) (
     let i = c.self.inside in
-    let old : Chained g.row.S.Denot = record { id = i.board.id; seat = i.board.seat; words = i.board.words; recorded = i.recorded; before = i.before; writing = i.writing; geometry = i.geometry; members = i.members.items; links = i.links; submits = i.submits } in
+    let old : Chained g.row.S.Denot = record { id = i.board.id; seat = i.board.seat; words = i.board.words; recorded = i.recorded; before = i.before; writing = i.writing; youngest = i.youngest; geometry = i.geometry; members = i.members.items; links = i.links; submits = i.submits } in
     let m = c.behind-self.inside in
     let before : Linked g.row.S.Denot = record { node = m.node; front = m.front; muster = m.muster; receipt = m.receipt } in
     let here : slice_get old.members c.args.at ≡ Some before = read_at old c.args.self.now c.args.at _ c.self.view_is c.requires c.index_mut.ensures.value ∙ ap Some (sym c.behind-self.view_is) in
@@ -38,7 +38,7 @@ returns-in_default-clause-told g c = rw (← c.self.view_is) (
 pub returns-in_default-clause-one_volume : goal.returns-in_default-clause-one_volume
 returns-in_default-clause-one_volume g c = λ premise v s events shows stands put_out. rw (← c.self.view_is) (
     let i = c.self.inside in
-    let old : Chained g.row.S.Denot = record { id = i.board.id; seat = i.board.seat; words = i.board.words; recorded = i.recorded; before = i.before; writing = i.writing; geometry = i.geometry; members = i.members.items; links = i.links; submits = i.submits } in
+    let old : Chained g.row.S.Denot = record { id = i.board.id; seat = i.board.seat; words = i.board.words; recorded = i.recorded; before = i.before; writing = i.writing; youngest = i.youngest; geometry = i.geometry; members = i.members.items; links = i.links; submits = i.submits } in
     let m = c.behind-self.inside in
     let before : Linked g.row.S.Denot = record { node = m.node; front = m.front; muster = m.muster; receipt = m.receipt } in
     let here : slice_get old.members c.args.at ≡ Some before = read_at old c.args.self.now c.args.at _ c.self.view_is c.requires c.index_mut.ensures.value ∙ ap Some (sym c.behind-self.view_is) in
@@ -48,7 +48,7 @@ returns-in_default-clause-one_volume g c = λ premise v s events shows stands pu
 
 -- the chain before, and its member at the place
 abbrev old_of : (g : Over) → goal.After-drop-link g → Chained g.row.S.Denot
-old_of g c = let i = c.self.inside in record { id = i.board.id; seat = i.board.seat; words = i.board.words; recorded = i.recorded; before = i.before; writing = i.writing; geometry = i.geometry; members = i.members.items; links = i.links; submits = i.submits }
+old_of g c = let i = c.self.inside in record { id = i.board.id; seat = i.board.seat; words = i.board.words; recorded = i.recorded; before = i.before; writing = i.writing; youngest = i.youngest; geometry = i.geometry; members = i.members.items; links = i.links; submits = i.submits }
 
 abbrev before_of : (g : Over) → goal.After-drop-link g → Linked g.row.S.Denot
 before_of g c = let m = c.behind-self-2.inside in record { node = m.node; front = m.front; muster = m.muster; receipt = m.receipt }

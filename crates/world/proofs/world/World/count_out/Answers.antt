@@ -1,4 +1,4 @@
-use Rattle.world.proofs.CallSteps.{moved_did, moved_so, rested}
+use Rattle.world.proofs.CallSteps.{moved_did, moved_alone, rested}
 use Rattle.world.proofs.world.World.count_out.Goals as goal
 
 pub returns-clause-out : goal.returns-clause-out
@@ -10,4 +10,4 @@ returns-clause-idle g c = λ no. rw (← c.self.view_is) (
     (idle.0, rested _ _ _ _ idle.1))
 
 pub returns-clause-one_volume : goal.returns-clause-one_volume
-returns-clause-one_volume g c = λ premise. rw (← c.self.view_is) (moved_so _ _ _ _ (c.count_out.ensures.one_volume premise))
+returns-clause-one_volume g c = λ premise. rw (← c.self.view_is) (moved_alone _ _ _ _ (c.count_out.ensures.one_volume premise))
