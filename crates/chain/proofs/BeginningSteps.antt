@@ -3,14 +3,12 @@ use Rattle.std.proofs.Common.{Bool, cond, eqb, false, get_or, ◌≡◌, ◌≢�
 use Rattle.std.specs.Prelude.{All, AllPairs, max, None, Some, fold, nat_lt, not, replicate, slice_get, slice_index_or, slice_set, ◌*◌, ◌-◌, ◌^◌}
 use Rattle.std.specs.List.{AllZip, flat_map, position_or_len}
 use Rattle.std.specs.Option.{option_map}
-use Rattle.std.specs.Int.{bit_at}
 use Rattle.std.proofs.Math.Seq.{take-nil}
 use Rattle.std.proofs.lemmas.Bool.{cases_lt, cond-false, cond-true, eq-eqb, le-ltb, lt-ltb}
 use Rattle.std.proofs.lemmas.Option.{slice_get-map, slice_get_read}
-use Rattle.std.proofs.lemmas.List.Elements.{All-cons, All-head, All-map, All-nil, All-replicate, All-set, All-tail, All-weaker}
+use Rattle.std.proofs.lemmas.List.Elements.{All-cons, All-head, All-map, All-nil, All-replicate, All-set, All-tail}
 use Rattle.std.proofs.lemmas.List.{get_or_default, length-replicate}
 use Rattle.std.proofs.lemmas.List.Kept.{AllPairs-cons}
-use Rattle.std.proofs.lemmas.Nat.Bits.{bit_at-lt, bit_at-pow_same, bit_at_or}
 use Rattle.board.specs.Mask.{counts, with_slot}
 use Rattle.board.specs.Seats.{BoardId}
 use Rattle.configurations.specs.Record.{AreMembers, Record}
@@ -28,6 +26,7 @@ use Rattle.chain.specs.Chain.{Chained, IsFormed, IsIn, Shows, bytes_of, gauges_f
 use Rattle.chain.specs.Links.{link_at}
 use Rattle.chain.specs.Member.{IsShown, Linked, fronts_of, member_of, musters_of, receipts_of}
 use Rattle.chain.specs.Opening.{beginning_of, gauges_of, mask_of, recorded_in, words_of, youngest_of}
+use Rattle.chain.proofs.WordSteps.{counts_it, counts_still}
 
 -- ---- pairs of a list
 
@@ -45,25 +44,14 @@ pairs_map R f (x ∷ xs) pairs =
 -- ---- the mask
 
 mask_keeps : (slot : ℕ) (members : List recorded.Member) (mask : ℕ) → counts mask slot ≡ true → counts (fold (λ mask (m : recorded.Member). with_slot mask m.slot) mask members) slot ≡ true
-unfolding counts with_slot
 mask_keeps slot [] mask is = is
-mask_keeps slot (m ∷ members) mask is =
-    let bit : bit_at mask slot ≡ 1 = search (rules, is) in
-    mask_keeps slot members (with_slot mask m.slot) (
-    let or = bit_at_or mask (2 ^ m.slot) slot in
-    let low = bit_at-lt (2 ^ m.slot) slot in
-    let one : bit_at (with_slot mask m.slot) slot ≡ 1 = or ∙ omega (arith, bit, low) in
-    rw one refl)
+mask_keeps slot (m ∷ members) mask is = mask_keeps slot members (with_slot mask m.slot) (counts_still mask m.slot slot is)
 
 mask_counts : (members : List recorded.Member) (mask : ℕ) → All (λ m. counts (fold (λ mask (m : recorded.Member). with_slot mask m.slot) mask members) m.slot ≡ true) members
-unfolding counts with_slot
 mask_counts [] mask = All-nil (λ (m : recorded.Member). counts mask m.slot ≡ true)
 mask_counts (m ∷ members) mask =
-    let or = bit_at_or mask (2 ^ m.slot) m.slot in
-    let low = bit_at-lt mask m.slot in
-    let one : bit_at (with_slot mask m.slot) m.slot ≡ 1 = or ∙ omega (arith, bit_at-pow_same m.slot, low) in
     All-cons (λ (x : recorded.Member). counts (fold (λ mask (m : recorded.Member). with_slot mask m.slot) (with_slot mask m.slot) members) x.slot ≡ true) m members
-    (mask_keeps m.slot members (with_slot mask m.slot) (rw one refl)) (mask_counts members (with_slot mask m.slot))
+    (mask_keeps m.slot members (with_slot mask m.slot) (counts_it mask m.slot)) (mask_counts members (with_slot mask m.slot))
 
 -- ---- the gauges
 
@@ -103,7 +91,7 @@ step_on true n len within = omega arith
 step_on false n len within = omega (arith, within)
 
 -- a slot that is recorded is found
-found_in : (slot : ℕ) (ms : List recorded.Member) (at : ℕ) (x : recorded.Member) → slice_get ms at ≡ Some x → x.slot ≡ slot → position_or_len (λ (m : recorded.Member). eqb m.slot slot) ms < length ms
+pub found_in : (slot : ℕ) (ms : List recorded.Member) (at : ℕ) (x : recorded.Member) → slice_get ms at ≡ Some x → x.slot ≡ slot → position_or_len (λ (m : recorded.Member). eqb m.slot slot) ms < length ms
 found_in slot [] at x here is = let none : None ≡ Some x = here in absurd (cc)
 found_in slot (y ∷ ys) zero x here is =
     let both : Some y ≡ Some x = here in

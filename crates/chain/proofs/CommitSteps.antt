@@ -153,11 +153,11 @@ remains_by about old new replies same (inr (inr is)) = record {
 
 -- ---- the board tells
 
-raised_on : (front more durable : ℕ) → front ≤ durable → more ≤ durable → max front more ≤ durable
+pub raised_on : (front more durable : ℕ) → front ≤ durable → more ≤ durable → max front more ≤ durable
 raised_on front more durable one other = omega (arith, one, other)
 
 -- what holds of all gauges holds of them once a receipt's is raised
-gauge_raised : (P : Receipt → Type 0) (receipt : Receipt) → ((front : ℕ) → P (record { slot = receipt.slot; front = front }) → P (record { slot = receipt.slot; front = max front receipt.front }))
+pub gauge_raised : (P : Receipt → Type 0) (receipt : Receipt) → ((front : ℕ) → P (record { slot = receipt.slot; front = front }) → P (record { slot = receipt.slot; front = max front receipt.front }))
     → (slot : ℕ) (gauges : List ℕ) (at : ℕ) → slot + at ≡ receipt.slot → All P (gauges_from slot gauges) → All P (gauges_from slot (slice_set gauges at (max (slice_index gauges at) receipt.front)))
 gauge_raised P receipt rises slot [] at here all = all
 gauge_raised P receipt rises slot (gauge ∷ gauges) zero here all =

@@ -10,6 +10,7 @@ mod FloorSteps
 mod Following
 mod FrontSteps
 mod HoldingSteps
+mod JoiningSteps
 mod LentSteps
 mod Linkages
 mod MessageSteps
@@ -20,6 +21,7 @@ mod RaisedSteps
 mod ReadingSteps
 mod RecordingSteps
 mod Results
+mod Sizes
 mod Stepping
 mod WordSteps
 pub mod Cells

@@ -64,10 +64,6 @@ module _ (links : List (List Envelope)) (from to : ℕ) (queue : List Envelope) 
         ∙ sym (cond-false (nat_lt other 8) (slice_index_or links (8 * one + other) []) [] (le-ltb other 8 ge))
   ]
 
-  -- what stood there, put back
-  pub link_back : queue ≡ link_at links from to → (other : List Envelope) → slice_set (slice_set links (8 * from + to) other) (8 * from + to) queue ≡ links
-  link_back same other = set_again links (8 * from + to) other queue ∙ ap (slice_set links (8 * from + to)) (same ∙ at_place links from to to_lt) ∙ set_same links (8 * from + to) []
-
 pub one_back : (links : List (List Envelope)) (from to : ℕ) (queue : List Envelope) → from < 8 → to < 8 → queue ≡ link_at links from to → slice_set links (8 * from + to) queue ≡ links
 one_back links from to queue from_lt to_lt same = ap (slice_set links (8 * from + to)) (same ∙ at_place links from to to_lt) ∙ set_same links (8 * from + to) []
 
@@ -140,12 +136,6 @@ has_sent links slot to ms queue long slot_lt to_lt all is = record {
     | inr apart ↦ link_other links slot to queue slot_lt to_lt slot y (λ same. apart) ∙ sym (append-nil (link_at links slot y)) ∙ ap (λ l. link_at links slot y ++ l) (sym (sent_elsewhere to y ms apart all))
   ];
 }
-
--- and where there is nobody to tell, nothing is sent
-pub sent_none : (links : List (List Envelope)) (slot : ℕ) (ms : List Sent) → All (λ (m : Sent). None ≡ Some m.to) ms → HasSent slot ms (link_at links) (link_at links)
-sent_none links slot ms all =
-    subst (λ (l : List Sent). HasSent slot l (link_at links) (link_at links)) (sym (sent_nowhere ms all))
-    (record { others = λ x y apart. refl; its = λ y. sym (append-nil (link_at links slot y)) })
 
 -- the first message of a link is taken
 pub has_taken : (links : List (List Envelope)) (from slot : ℕ) (envelope : Envelope) (left : List Envelope) → length links ≡ 64 → from < 8 → slot < 8 → link_at links from slot ≡ envelope ∷ left

@@ -161,9 +161,6 @@ module _ {S : Type 0} (about : S → About) (keeps : S → List ℕ → Type 0) 
   abbrev IsSo : Linked S → Member → Type 0
   IsSo m shown = IsShown about keeps may_leave_now (bytes_of old) m shown
 
-  abbrev stepping : Linked S → NodeState → Linked S
-  stepping m state = record m { node = record { store = m.node.store; state = state } }
-
   -- whatever message it takes
   shown_then : (m : Linked S) (own : Member) → IsSo m own → m.node.state.known ≤ last_of m.node.state → (from : ℕ) (envelope : Envelope) (stepped : Stepped) → deliver from envelope m.node.state ≡ Taken stepped
       → m.node.state.stopped ≡ None → IsSo (record m { node = record { store = m.node.store; state = stepped.node } }) (record own { node = stepped.node })

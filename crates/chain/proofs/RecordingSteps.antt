@@ -253,7 +253,7 @@ module _ {S : Type 0} (old : Chained S) (at : ℕ) (before : Linked S) (here : s
 -- ---- what happens
 
 -- what is so of all members is so of all that are shown
-all_shown : {S : Type 0} (about : S → About) (keeps : S → List ℕ → Type 0) (may_leave_now : S → List ℕ → Type 0) (size : ℕ) (P : NodeState → Type 0) (ms : List (Linked S)) (shown : List Member) → AllZip (IsShown about keeps may_leave_now size) ms shown
+pub all_shown : {S : Type 0} (about : S → About) (keeps : S → List ℕ → Type 0) (may_leave_now : S → List ℕ → Type 0) (size : ℕ) (P : NodeState → Type 0) (ms : List (Linked S)) (shown : List Member) → AllZip (IsShown about keeps may_leave_now size) ms shown
     → All (λ (m : Linked S). P m.node.state) ms → All (λ (m : Member). P m.node) shown
 all_shown about keeps may_leave_now size P [] [] are all = All-nil (λ (m : Member). P m.node)
 all_shown about keeps may_leave_now size P [] (v ∷ vs) are all = absurd are

@@ -1,5 +1,5 @@
 -- What each step of its seat makes of the words of a board with one seat.
-use Rattle.std.proofs.Common.{◌≡◌, ◌≢◌, ℕ, zero, suc, ◌==◌, ◌+◌, ◌*◌, ◌^◌, ◌%◌, ◌<◌, max, true, false, List, [], ◌∷◌, ◌++◌, length, drop, refl, sym, ◌∙◌, ap, subst, inl, inr, arith}
+use Rattle.std.proofs.Common.{◌≡◌, ◌≢◌, ℕ, zero, suc, ◌==◌, ◌+◌, ◌*◌, ◌^◌, ◌%◌, ◌<◌, max, true, false, List, [], ◌∷◌, ◌++◌, length, drop, refl, sym, ◌∙◌, ap, subst, inl, inr, arith, rules}
 use mathlib.Core.Option.{some, some-injective, some-ne-none}
 use mir.Syntax.{w8}
 use mir.Val.{bits}
@@ -7,8 +7,8 @@ use lib.ListN.{get_elem?}
 use Rattle.std.specs.Int.{bit_at, bit_not}
 use Rattle.std.specs.Prelude.{bit_and, slice_index, slice_set}
 use Rattle.std.proofs.lemmas.Bool.{cases_lt}
-use Rattle.std.proofs.lemmas.Nat.Bits.{bit_at_above, bit_at_clear_other}
-use Rattle.board.specs.Mask.{counts, without_slot}
+use Rattle.std.proofs.lemmas.Nat.Bits.{bit_at-lt, bit_at-pow_same, bit_at_above, bit_at_clear_other, bit_at_or}
+use Rattle.board.specs.Mask.{counts, with_slot, without_slot}
 use Rattle.board.specs.Seats.{BoardId, IsAlone, IsRuled, SeatView, stepped}
 use Rattle.board.specs.Steps.{gauge_word, words_after, words_then}
 use Rattle.board.specs.declared.view.Step.{Step}
@@ -91,6 +91,24 @@ counts_others mask slot other byte within apart counted = elim (cases_lt other 8
     no_bit : (bit : ℕ) → bit ≡ 0 → (bit == 1) ≡ true → ⊥
     no_bit zero is counted = let both : false ≡ true = counted in absurd cc
     no_bit (suc k) is counted = let no : suc k ≡ 0 = is in absurd (omega (arith, no))
+
+-- Once a slot is counted it is, and so are the others that were.
+pub counts_it : (mask slot : ℕ) → counts (with_slot mask slot) slot ≡ true
+unfolding counts with_slot
+counts_it mask slot =
+    let or = bit_at_or mask (2 ^ slot) slot in
+    let low = bit_at-lt mask slot in
+    let one : bit_at (with_slot mask slot) slot ≡ 1 = or ∙ omega (arith, bit_at-pow_same slot, low) in
+    rw one refl
+
+pub counts_still : (mask slot other : ℕ) → counts mask other ≡ true → counts (with_slot mask slot) other ≡ true
+unfolding counts with_slot
+counts_still mask slot other is =
+    let bit : bit_at mask other ≡ 1 = search (rules, is) in
+    let or = bit_at_or mask (2 ^ slot) other in
+    let low = bit_at-lt (2 ^ slot) other in
+    let one : bit_at (with_slot mask slot) other ≡ 1 = or ∙ omega (arith, bit, low) in
+    rw one refl
 
 -- the board once its seat has made one step more, and what that step found
 module _ (board : BoardId) (seat after : SeatView) (step : Step) (own : seat.board ≡ board) (is : after ≡ stepped seat step) where

@@ -23,7 +23,8 @@ use Rattle.chain.specs.LoneBoard.{Words}
 use Rattle.chain.specs.Member.{IsFrontOf, IsMusterOf, IsShown, Linked, fronts_of, musters_of, receipts_of}
 
 -- A chain: its board with the words on it and the one seat; the recorded chain, the one recorded before it, and the record that is
--- being written; the greatest incarnation that was recorded since it began; the sizes of its volume; whoever stands at the slots; and the chain links and submit links between these.
+-- being written; the greatest incarnation that was recorded since it began; the sizes of its volume; whoever stands at the slots; and
+-- the chain links and submit links between these.
 pub record Chained (S : Type 0) : Type 0 where
   pub id : BoardId
   pub seat : ℕ

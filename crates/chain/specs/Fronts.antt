@@ -30,8 +30,8 @@ pub record HasRaised {S : Type 0} (number : ℕ) (old new : Linked S) : Type 0 w
   pub of_number : front.number ≡ number
   pub are : new ≡ record old { node = record old.node { state = keep (Raised front) old.node.state } }
 
--- The member at this place, a tail that may raise, raised the committed front to its last applied write if it was below, and keeps the front that is there then;
--- nothing else changed.
+-- The member at this place, a tail that may raise, raised the committed front to its last applied write if it was below, and keeps the
+-- front that is there then; nothing else changed.
 pub record RaisesAt {S : Type 0} (at : ℕ) (old new : Chained S) : Type 0 where
   pub before : Linked S
   pub after : Linked S

@@ -4,6 +4,7 @@ pub mod Chain
 pub mod Commits
 pub mod Fronts
 pub mod Holding
+pub mod Joining
 pub mod Links
 pub mod LoneBoard
 pub mod Member

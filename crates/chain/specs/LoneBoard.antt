@@ -1,6 +1,6 @@
 -- A board with one seat, as a chain sees it: the ten words.
 use Rattle.std.specs.Prelude.{ℕ, List, [], ◌∷◌, min, max, map, drop, slice_index, slice_set}
-use Rattle.board.specs.Mask.{without_slot}
+use Rattle.board.specs.Mask.{with_slot, without_slot}
 use Rattle.board.specs.Seats.{BoardId, FoundGauge as GaugeOfSeat}
 use Rattle.gate_journal.specs.Receipt.{Receipt}
 
@@ -42,6 +42,10 @@ abbrev pub posted : Words → Receipt → Words
 posted words receipt =
     let gauge = max (slice_index words.gauges receipt.slot) receipt.front in
     record words { gauges = slice_set words.gauges receipt.slot gauge }
+
+-- the words once the slot is counted
+abbrev pub counted_in : Words → ℕ → Words
+counted_in words slot = record words { mask = with_slot words.mask slot }
 
 -- the words once the slot is counted no longer
 abbrev pub counted_out : Words → ℕ → Words

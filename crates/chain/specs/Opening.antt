@@ -1,37 +1,26 @@
 -- How a chain begins.
-use Rattle.std.specs.Prelude.{◌≡◌, ℕ, max, IfSome, None, true, false, List, [], All, fold, replicate, slice_get, slice_set}
+use Rattle.std.specs.Prelude.{◌≡◌, ℕ, max, IfSome, None, Bool, true, List, [], All, fold, replicate, slice_get, slice_set}
 use Rattle.board.specs.Mask.{with_slot}
 use Rattle.board.specs.Seats.{BoardId}
 use Rattle.configurations.specs.Record.{Record}
 use Rattle.configurations.specs.declared.member.Member.{Member}
 use Rattle.local_store.specs.About.{About}
+use Rattle.chain_core.specs.Node.{first_state}
 use Rattle.chain.specs.LoneBoard.{Words}
 use Rattle.chain.specs.Member.{Linked}
 
--- the member of this store, which was told this record: all that the store holds is known, and nothing is on its way
-abbrev pub beginning_of : {S : Type 0} → (S → About) → BoardId → Record → S → Linked S
-beginning_of about id chain store = record {
-  node = record {
-    store = store;
-    state = record {
-      board = id;
-      place = record { slot = (about store).slot; chain = chain };
-      incarnation = (about store).incarnation;
-      stopped = None;
-      turned = true;
-      holds = false;
-      table = record { forgotten = (about store).front; kept = [] };
-      known = (about store).front;
-      ticket = 1;
-      waiting = [];
-      found = None;
-      commit = None;
-    };
-  };
+-- the member of this store, which was told this record, with its Turn or without: all that the store holds is known
+abbrev pub starting_of : {S : Type 0} → (S → About) → BoardId → Record → Bool → S → Linked S
+starting_of about id chain turned store = record {
+  node = record { store = store; state = first_state id chain turned (about store) };
   front = None;
   muster = None;
   receipt = None;
 }
+
+-- the member of this store in a chain that begins: nothing is on its way
+abbrev pub beginning_of : {S : Type 0} → (S → About) → BoardId → Record → S → Linked S
+beginning_of about id chain store = starting_of about id chain true store
 
 -- the member whose store this is, as it is recorded
 abbrev pub recorded_in : {S : Type 0} → (S → About) → S → Member

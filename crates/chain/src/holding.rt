@@ -1,9 +1,11 @@
 //! A front that is held for a joiner.
-ghost use Rattle.std.specs.Prelude.{◌≡◌, ◌⊎◌, ◌<◌, List, ℕ, true, false, length, IfErr, IfNone, IfOk, IfSome};
+ghost use Rattle.std.specs.Prelude.{◌≡◌, ◌⊎◌, ◌*◌, ◌-◌, ◌<◌, ◌≤◌, List, ℕ, true, false, length, slice_get, IfErr, IfNone, IfOk, IfSome};
 ghost use Rattle.disk_model.specs.Disk.{LeavesOnly};
 ghost use Rattle.local_store.specs.About.{meaning_with};
 ghost use Rattle.local_store.specs.Meaning.{Means};
-ghost use Rattle.chain_steps.specs.Node.{durable_of, is_stopped};
+ghost use Rattle.volume.specs.Writes.{Fits, patched};
+ghost use Rattle.chain_steps.specs.Node.{durable_of, is_stopped, last_of};
+ghost use Rattle.chain_steps.specs.Steps.{volume_at};
 ghost use Rattle.chain.specs.Chain.{Changes, IsOfOneVolume, RestsAt};
 ghost use Rattle.chain.specs.Commits.{LeavesAt};
 ghost use Rattle.chain.specs.Holding.{HasReadBlock, HoldsAt, HoldsTo, MayNotHold, StopsReading, may_hold, replies_lost};
@@ -19,6 +21,7 @@ use chain_steps::{Cause, Envelope};
 use configurations::Record;
 use local_store::StoreLike;
 use std::collections::VecDeque;
+use volume::Write;
 
 impl<S: StoreLike + Drop> Member<S> {
     /// Whether it was told this recorded chain, and is its tail.
@@ -116,5 +119,15 @@ impl<S: StoreLike + Drop> Chain<S> {
         ensures one_volume { S.keeps_model → IsOfOneVolume S.about S.keeps S.may_leave_now self.old self.new (replies_lost (λ replies. replies.items) result) }
     {
         self.members[at].held_block(block)
+    }
+    /// The write of the number `n`, which the member at a place keeps: it lies above its durable front, and not above that of its last
+    /// applied write.
+    pub fn kept_write(&self, at: usize, n: u64) -> &Write
+        requires within { at < length self.now.members }
+        requires kept { IfSome (slice_get self.now.members at) (λ m. (durable_of m.node.state < n) × (n ≤ last_of m.node.state)) }
+        ensures after { IfSome (slice_get self.now.members at) (λ m. (volume : List ℕ) → volume_at volume m.node.state n ≡ patched (volume_at volume m.node.state (n - 1)) result.now) }
+        ensures inside { Fits (4096 * self.now.geometry.blocks) result.now }
+    {
+        self.members[at].node.kept_write(n)
     }
 }

@@ -11,6 +11,7 @@ mod chain;
 mod commits;
 mod fronts;
 mod holding;
+mod joining;
 mod links;
 mod lone_board;
 mod member;

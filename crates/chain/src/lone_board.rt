@@ -3,7 +3,7 @@ ghost use Rattle.std.specs.Prelude.{◌≡◌, ◌≢◌, ◌≤◌, ℕ, [], ma
 ghost use Rattle.board.specs.Mask.{counts};
 ghost use Rattle.chain_core.specs.Node.{Keeps};
 ghost use Rattle.chain_steps.specs.Node.{last_of};
-ghost use Rattle.chain.specs.LoneBoard.{counted_out, gauge_in, gauge_of, posted, raised};
+ghost use Rattle.chain.specs.LoneBoard.{counted_in, counted_out, gauge_in, gauge_of, posted, raised};
 
 use board::{Board, Crew, Front, Gauge, Gauges, Refusal, Seat};
 use chain_core::Node;
@@ -80,6 +80,14 @@ impl LoneBoard {
         ensures { self.new ≡ record self.old { words = posted self.old.words receipt } }
     {
         self.board.post(&mut self.seat, receipt);
+    }
+
+    /// Counts the slot; the others as before.
+    pub(crate) fn count_in(&mut self, slot: Slot)
+        ensures { self.new ≡ record self.old { words = counted_in self.old.words slot } }
+    {
+        prove!(slot.number() < Slot::COUNT);
+        self.board.count_in(&mut self.seat, slot);
     }
 
     /// Counts the slot no longer; the others as before.

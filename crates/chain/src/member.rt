@@ -36,6 +36,7 @@ impl<S: StoreLike> Model for Member<S> {
 }
 
 impl<S: StoreLike + Drop> Member<S> {
+    ghost use Rattle.chain.specs.Joining.{HoldsAsTail, IsHolding};
     ghost use Rattle.chain.specs.Member.{HasOwnDisk};
 
     /// Does nothing: its clause is what holds of every member.
@@ -64,6 +65,20 @@ impl<S: StoreLike + Drop> Member<S> {
         ensures { IsTrue result ↔ (self.now.node.state.stopped ≡ None → epoch_of self.now.node.state ≡ epoch) }
     {
         self.cause().is_some() || self.node.place().epoch() == epoch
+    }
+
+    /// Whether it holds the front, if it runs and is a tail.
+    pub(crate) fn holds_as_tail(&self) -> bool
+        ensures { IsTrue result ↔ HoldsAsTail self.now.node.state }
+    {
+        self.cause().is_some() || !self.node.place().is_tail() || self.node.holds()
+    }
+
+    /// Whether it runs, and holds this front for a joiner.
+    pub(crate) fn is_holding(&self, front: u64) -> bool
+        ensures { IsTrue result ↔ IsHolding front self.now.node.state }
+    {
+        self.cause().is_none() && self.node.holds() && self.known() == front
     }
 
     /// Whether it has stopped, if it is at a slot.

@@ -5,6 +5,7 @@ ghost use Rattle.local_store.specs.About.{IsOfVersionTwo};
 ghost use Rattle.chain_model.specs.Laws.{IsBeginning};
 ghost use Rattle.chain_model.specs.View.{View};
 ghost use Rattle.chain.specs.Chain.{Shows};
+ghost use Rattle.chain.specs.Joining.{joined_of};
 ghost use Rattle.chain.specs.Opening.{AreEven, beginning_of, gauges_of, mask_of, recorded_in, words_of, youngest_of};
 
 use crate::chain::Chain;
@@ -26,8 +27,26 @@ impl<S: StoreLike + Drop> Member<S> {
         requires keeps { S.keeps_model → (volume : List ℕ) × S.keeps store volume × (length volume ≡ size_of (S.about store)) }
         ensures { result ≡ beginning_of S.about board.now told store }
     {
+        Member::of(Node::new(alloc, board, told, store))
+    }
+
+    /// The member whose store this is, in a chain that it joins.
+    pub(crate) fn join(alloc: Global, board: &Board, told: Record, store: S) -> Member<S>
+        requires runs { (S.about store).broken ≡ false }
+        requires version { IsOfVersionTwo (S.about store) }
+        requires here { (S.about store).lent ≡ None }
+        requires keeps { S.keeps_model → (volume : List ℕ) × S.keeps store volume × (length volume ≡ size_of (S.about store)) }
+        ensures { result ≡ joined_of S.about board.now told store }
+    {
+        Member::of(Node::join(alloc, board, told, store))
+    }
+
+    /// A member that has nothing of the board in use.
+    fn of(node: Node<S>) -> Member<S>
+        ensures { result ≡ record { node = node; front = None; muster = None; receipt = None } }
+    {
         Member {
-            node: Node::new(alloc, board, told, store),
+            node,
             front: None,
             muster: None,
             receipt: None,

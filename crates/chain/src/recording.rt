@@ -1,5 +1,5 @@
 //! The record, whom the board counts by it, and whom it tells.
-ghost use Rattle.std.specs.Prelude.{◌≡◌, ◌⊎◌, ◌↔◌, ◌+◌, ◌<◌, ◌++◌, [], All, None, false, true, IfErr, IfOk, IsOk, IsTrue, drop, length, take};
+ghost use Rattle.std.specs.Prelude.{◌≡◌, ◌⊎◌, ◌↔◌, ◌+◌, ◌<◌, ◌++◌, [], All, None, false, true, IfErr, IfOk, IsOk, IsTrue, drop, is_some, length, take};
 ghost use Rattle.chain_core.specs.Node.{IsInside, size_of};
 ghost use Rattle.chain_core.specs.Refusal.{number_of};
 ghost use Rattle.chain_steps.specs.Node.{Refused, epoch_of};
@@ -64,7 +64,7 @@ fn is_same(one: &Recorded, other: &Recorded) -> bool
 }
 
 /// Whether two chains have the same members.
-fn are_same(one: &[Recorded], other: &[Recorded]) -> bool
+pub(crate) fn are_same(one: &[Recorded], other: &[Recorded]) -> bool
     ensures { IsTrue result ↔ (one.now ≡ other.now) }
 {
     if one.len() != other.len() {
@@ -86,7 +86,7 @@ fn have_stopped<S: StoreLike + Drop>(members: &[Member<S>], slot: Slot) -> bool
 }
 
 /// Whether each member that runs was told a chain of an epoch.
-fn are_told<S: StoreLike + Drop>(members: &[Member<S>], epoch: Epoch) -> bool
+pub(crate) fn are_told<S: StoreLike + Drop>(members: &[Member<S>], epoch: Epoch) -> bool
     ensures { IsTrue result ↔ All (λ m. m.node.state.stopped ≡ None → epoch_of m.node.state ≡ epoch) members.now }
 {
     members.iter().all(|member| member.is_told(epoch))
@@ -142,6 +142,13 @@ impl<S: StoreLike + Drop> Chain<S> {
             Some(next) => Ok(Some(copy_of(alloc, next)?)),
             None => Ok(None),
         }
+    }
+
+    /// Whether a record is being written.
+    pub fn is_writing(&self) -> bool
+        ensures { result ≡ is_some self.now.writing }
+    {
+        self.writing.is_some()
     }
 
     /// Whether the record that is being written, if one is, may be recorded.

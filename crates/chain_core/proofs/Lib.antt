@@ -6,6 +6,7 @@ mod Counting
 mod Grouping
 mod HeldFronts
 mod Images
+mod KeptWrites
 mod Ranges
 mod Settling
 mod Sound

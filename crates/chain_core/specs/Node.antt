@@ -2,6 +2,7 @@
 use Rattle.std.specs.Prelude.{◌≡◌, ◌⊎◌, ℕ, ◌+◌, ◌*◌, ◌<◌, ◌≤◌, ◌&&◌, not, Bool, false, Option, Some, None, List, [], All, length, ⊤, if◌then◌else◌}
 use Rattle.std.specs.Option.{ForSome}
 use Rattle.board.specs.Seats.{BoardId, FoundFront}
+use Rattle.configurations.specs.Record.{Record}
 use Rattle.flush_barrier.specs.Reply.{GivenReply}
 use Rattle.gate_journal.specs.declared.batch.TheConstants.{MAX_NUMBER}
 use Rattle.gate_journal.specs.Batch.{AreImages, images_size}
@@ -26,6 +27,24 @@ use Rattle.chain_core.specs.declared.refusal.Refusal.TheVariants as refusals
 pub record Seen (S : Type 0) : Type 0 where
   pub store : S
   pub state : NodeState
+
+-- The state in which a member begins, in a chain that it was told: its store tells this of itself, all of that is known, and no token
+-- waits. Its Turn has come, unless it joins.
+abbrev pub first_state : BoardId → Record → Bool → About → NodeState
+first_state board chain turned about = record {
+  board = board;
+  place = record { slot = about.slot; chain = chain };
+  incarnation = about.incarnation;
+  stopped = None;
+  turned = turned;
+  holds = false;
+  table = record { forgotten = about.front; kept = [] };
+  known = about.front;
+  ticket = 1;
+  waiting = [];
+  found = None;
+  commit = None;
+}
 
 -- the bytes of the volume
 abbrev pub size_of : About → ℕ

@@ -1,10 +1,12 @@
 //! A front that is held for a joiner.
-ghost use Rattle.std.specs.Prelude.{◌≡◌, ◌⊎◌, ◌<◌, List, ℕ, None, length, IfErr, IfOk, OnOk};
+ghost use Rattle.std.specs.Prelude.{◌≡◌, ◌⊎◌, ◌-◌, ◌<◌, ◌≤◌, List, ℕ, None, length, IfErr, IfOk, OnOk};
 ghost use Rattle.disk_model.specs.Disk.{LeavesOnly};
 ghost use Rattle.local_store.specs.About.{meaning_with};
 ghost use Rattle.local_store.specs.Meaning.{Means};
-ghost use Rattle.chain_steps.specs.Steps.{held_block, hold, stop};
-ghost use Rattle.chain_core.specs.Node.{IsStepOrStop};
+ghost use Rattle.volume.specs.Writes.{Fits, patched};
+ghost use Rattle.chain_steps.specs.Node.{durable_of, last_of};
+ghost use Rattle.chain_steps.specs.Steps.{held_block, hold, stop, volume_at};
+ghost use Rattle.chain_core.specs.Node.{IsStepOrStop, size_of};
 ghost use Rattle.chain_core.specs.Reads.{HasBrokenOff, HasOnlyRead, IsStepTo};
 
 use crate::node::Node;
@@ -13,7 +15,7 @@ use crate::reading::read_block_at;
 use bytes::Bytes;
 use chain_steps::Cause;
 use local_store::StoreLike;
-use volume::BLOCK_SIZE;
+use volume::{BLOCK_SIZE, Write};
 
 impl<S: StoreLike + Drop> Node<S> {
     /// The tail takes the front that it looked up as its known commit, and holds it for a joiner: it doesn't raise before it is
@@ -65,5 +67,14 @@ impl<S: StoreLike + Drop> Node<S> {
                 Err(self.stop_by(cause))
             }
         }
+    }
+    /// The write of the number `n`, which lies above the durable front, and not above that of the last applied write.
+    pub fn kept_write(&self, n: u64) -> &Write
+        requires above { durable_of self.now.state < n }
+        requires applied { n ≤ last_of self.now.state }
+        ensures after { (volume : List ℕ) → volume_at volume self.now.state n ≡ patched (volume_at volume self.now.state (n - 1)) result.now }
+        ensures inside { Fits (size_of (S.about self.now.store)) result.now }
+    {
+        &self.table.get(n).write
     }
 }

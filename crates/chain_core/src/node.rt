@@ -2,7 +2,7 @@ ghost use Rattle.std.specs.Prelude.{◌≡◌, ◌≤◌, ◌+◌, [], List, ℕ
 ghost use Rattle.chain_steps.specs.Node.{NodeState, durable_of, last_of};
 ghost use Rattle.chain_steps.specs.Steps.{stop};
 ghost use Rattle.local_store.specs.About.{IsOfVersionTwo};
-ghost use Rattle.chain_core.specs.Node.{IsSound, IsStep, Seen, may_raise, size_of};
+ghost use Rattle.chain_core.specs.Node.{IsSound, IsStep, Seen, first_state, may_raise, size_of};
 
 use crate::commit::Commit;
 use crate::desk::Desk;
@@ -80,20 +80,31 @@ impl<S: StoreLike + Drop> Node<S> {
         requires here { (S.about store).lent ≡ None }
         requires keeps { S.keeps_model → (volume : List ℕ) × S.keeps store volume × (length volume ≡ size_of (S.about store)) }
         ensures store { result.store ≡ store }
-        ensures state { result.state ≡ record {
-          board = board.now;
-          place = record { slot = (S.about store).slot; chain = chain };
-          incarnation = (S.about store).incarnation;
-          stopped = None;
-          turned = true;
-          holds = false;
-          table = record { forgotten = (S.about store).front; kept = [] };
-          known = (S.about store).front;
-          ticket = 1;
-          waiting = [];
-          found = None;
-          commit = None;
-        } }
+        ensures state { result.state ≡ first_state board.now chain true (S.about store) }
+    {
+        Node::begin(alloc, board, chain, store, true)
+    }
+
+    /// The member whose store this is, in a chain that it joins: as in one that starts, but that its Turn hasn't come.
+    pub fn join(alloc: Global, board: &Board, chain: Record, store: S) -> Node<S>
+        requires runs { (S.about store).broken ≡ false }
+        requires version { IsOfVersionTwo (S.about store) }
+        requires here { (S.about store).lent ≡ None }
+        requires keeps { S.keeps_model → (volume : List ℕ) × S.keeps store volume × (length volume ≡ size_of (S.about store)) }
+        ensures store { result.store ≡ store }
+        ensures state { result.state ≡ first_state board.now chain false (S.about store) }
+    {
+        Node::begin(alloc, board, chain, store, false)
+    }
+
+    /// The member whose store this is, with its Turn or without.
+    fn begin(alloc: Global, board: &Board, chain: Record, store: S, turned: bool) -> Node<S>
+        requires runs { (S.about store).broken ≡ false }
+        requires version { IsOfVersionTwo (S.about store) }
+        requires here { (S.about store).lent ≡ None }
+        requires keeps { S.keeps_model → (volume : List ℕ) × S.keeps store volume × (length volume ≡ size_of (S.about store)) }
+        ensures store { result.store ≡ store }
+        ensures state { result.state ≡ first_state board.now chain turned (S.about store) }
     {
         let front = store.front();
         let _sizes = store.geometry();
@@ -103,7 +114,7 @@ impl<S: StoreLike + Drop> Node<S> {
             place: Place::new(store.slot(), chain),
             incarnation: store.incarnation(),
             stopped: None,
-            turned: true,
+            turned,
             holds: false,
             table: Table::new(alloc, front),
             known: front,
@@ -149,6 +160,13 @@ impl<S: StoreLike + Drop> Node<S> {
         ensures { result ≡ may_raise self.now.state }
     {
         self.turned && !self.holds && self.place.is_tail()
+    }
+
+    /// Whether it holds the front for a joiner.
+    pub fn holds(&self) -> bool
+        ensures { result ≡ self.now.state.holds }
+    {
+        self.holds
     }
 
     /// Why it stopped, if it did.

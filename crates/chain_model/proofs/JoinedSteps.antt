@@ -64,7 +64,7 @@ nowhere [] s others = refl
 nowhere (x ∷ xs) s others = place_further x xs s (All-head (λ y. y ≢ s) x.slot (slots xs) others) ∙ ap (option_map suc) (nowhere xs s (All-tail (λ y. y ≢ s) x.slot (slots xs) others))
 
 -- the incarnation of one more, which no other has the slot of
-incarnation_last : (e : ℕ) (ms : List entries.Member) (x : entries.Member) → All (λ y. y ≢ x.slot) (slots ms) → incarnation_in (with_entries e (ms ++ x ∷ [])) x.slot ≡ Some x.incarnation
+pub incarnation_last : (e : ℕ) (ms : List entries.Member) (x : entries.Member) → All (λ y. y ≢ x.slot) (slots ms) → incarnation_in (with_entries e (ms ++ x ∷ [])) x.slot ≡ Some x.incarnation
 incarnation_last e [] x others = incarnation_here e x [] x.slot refl
 incarnation_last e (y ∷ ys) x others =
     incarnation_further e y (ys ++ x ∷ []) x.slot (All-head (λ z. z ≢ x.slot) y.slot (slots ys) others) ∙ incarnation_last e ys x (All-tail (λ z. z ≢ x.slot) y.slot (slots ys) others)
@@ -282,9 +282,6 @@ module _ (size : ℕ) (v : View) (j : Joiner) (next : Record) (follows : IsWith 
   all_now = λ i d lt runs. (it.rests i d lt runs).0
 
   module _ (m : Member) (starts : IsNewcomer v.recorded j m) where
-    abbrev all_members : List Member
-    all_members = v.members ++ m ∷ []
-
     slot_is : slot_of m ≡ j.slot
     slot_is = starts.slot
 

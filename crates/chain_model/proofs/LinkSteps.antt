@@ -499,10 +499,6 @@ module _ (a b : Net) (step : IsNextEpoch a b) where
       ∙ ap (λ (l : List Message). make (at_epoch n.epoch (from_slot a.links n.above y)) l (is_slot n.above next_prev) k) (next_b ∙ sym next_a)
       ∙ ap (λ (l : Bool). make (at_epoch n.epoch (from_slot a.links n.above y)) (if n.epoch == a.epoch then [] else at_epoch a.epoch (from_slot a.links prev y)) l k) is
 
-  is_prev : (o : Option ℕ) → is_slot o o ≡ true
-  is_prev None = refl
-  is_prev (Some x) = eq-eqb x x refl
-
   module _ (nodes : (x : ℕ) → b.nodes x ≡ a.nodes x) where
     -- below the one that left nothing else changes
     kept_below : (prev : Option ℕ) (ys : List ℕ) → AllTold a prev ys → Alike (map kept (hops_from a prev ys)) (hops_from b prev ys)

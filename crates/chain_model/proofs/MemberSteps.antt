@@ -19,7 +19,7 @@ use Rattle.world_model.specs.Event.{ClientEvent}
 use Rattle.world_model.specs.Machine.{Plays, State}
 use Rattle.world_model.proofs.MemberSteps.{drops_found, stays_then, then_stays, tokens_changed, tokens_left, twice_not}
 use Rattle.world_model.specs.Order.{volume_after}
-use Rattle.world_model.specs.Requests.{Looked, Requests, Submitted}
+use Rattle.world_model.specs.Requests.{Looked, Requests}
 use Rattle.world_model.specs.Requests as requests
 use Rattle.world_model.proofs.Runs.{plays_then}
 use Rattle.world_model.proofs.Standing.{Shows, Stays, shows_stay}
@@ -36,9 +36,6 @@ module _ (size : ℕ) (v : View) (above : List Member) (m : Member) (below : Lis
   -- the chain with this member
   abbrev pub chain_with : Member → View
   chain_with g = with_members v (above ++ g ∷ below)
-
-  abbrev its_submits : List Submitted
-  its_submits = submitted_among v.recorded v.before v.submits (slots_of (above ++ m ∷ below))
 
   abbrev pub around_it : List Kept → Member → Requests
   around_it line g = around v line (submitted_among v.recorded v.before v.submits (slots_of (above ++ m ∷ below))) above below g

@@ -1,8 +1,8 @@
 -- That no message and no front comes which no chain has, so that no member stops because of one: lemmas for the crate that runs the members.
-use Rattle.std.proofs.Common.{if◌then◌else◌, ◌≡◌, ◌≢◌, ◌⊎◌, ℕ, suc, ◌+◌, ◌<◌, ◌≤◌, ◌==◌, max, true, false, Option, None, Some, List, [], ◌∷◌, ◌++◌, refl, sym, ◌∙◌, ap, subst, inl, inr, arith}
+use Rattle.std.proofs.Common.{if◌then◌else◌, ◌≡◌, ◌≢◌, ◌⊎◌, ℕ, suc, ◌+◌, ◌<◌, ◌≤◌, ◌==◌, max, false, Option, None, Some, List, [], ◌∷◌, ◌++◌, refl, sym, ◌∙◌, ap, subst, inl, inr, arith}
 use Rattle.std.specs.Prelude.{All, is_some, nat_le, nat_lt}
 use Rattle.std.specs.List.{flat_map}
-use Rattle.std.proofs.lemmas.Bool.{cases_Bool, cases_eq, cond-false, cond-true, eq-eqb, ne_eqb, or_left, true≢false}
+use Rattle.std.proofs.lemmas.Bool.{cases_Bool, cases_eq, cond-false, cond-true, eq-eqb, ne_eqb, true≢false}
 use Rattle.std.proofs.lemmas.Bool.Decides.{nat_tests}
 use Rattle.std.proofs.lemmas.List.{append-nil}
 use Rattle.std.proofs.lemmas.List.Elements.{All-head}
@@ -11,9 +11,8 @@ use Rattle.configurations.specs.Record.{Record}
 use Rattle.version_table.specs.declared.kept.Origin.{Origin}
 use Rattle.volume.specs.Writes.{Placed}
 use Rattle.chain_steps.specs.Node.{NodeState, Refused, Stepped, Taken, epoch_of, is_stopped, last_of}
-use Rattle.chain_steps.specs.Place.{head_of, incarnation_in, is_head, is_it}
+use Rattle.chain_steps.specs.Place.{head_of, incarnation_in, is_head}
 use Rattle.chain_steps.specs.Steps.{ack, apply, deliver, is_full, know, number, number_from, origin_of, put, silent, stop, take_message, take_turn, turn}
-use Rattle.chain_steps.specs.declared.cause.Cause.{Cause}
 use Rattle.chain_steps.specs.declared.cause.Cause.TheVariants as causes
 use Rattle.chain_steps.specs.declared.cause.Cause.TheVariants.{Disorder}
 use Rattle.chain_steps.specs.declared.found.Found.{Found}
@@ -33,17 +32,7 @@ use Rattle.chain_model.proofs.NetSteps.{Reach}
 use Rattle.chain_model.proofs.Ordering.{sends_nothing, told_one}
 use Rattle.chain_model.proofs.PlaceSteps.{head_is_head}
 use Rattle.chain_model.proofs.PutSteps.{not_further}
-use Rattle.chain_model.specs.View.{Member, View, is_in, is_in_some, looked_of, may_be_recorded, raised_of, slot_of}
-
--- ---- causes
-
--- a member stops for disorder, or for another cause
-pub causes_apart : (cause : Cause) → (cause ≡ Disorder) ⊎ (cause ≢ Disorder)
-causes_apart causes.Told = inr (λ same. absurd cc)
-causes_apart causes.Memory = inr (λ same. absurd cc)
-causes_apart (causes.Device error) = inr (λ same. absurd cc)
-causes_apart causes.LastTicket = inr (λ same. absurd cc)
-causes_apart causes.Disorder = inl refl
+use Rattle.chain_model.specs.View.{Member, View, looked_of, raised_of, slot_of}
 
 -- ---- what is committed
 
@@ -75,16 +64,6 @@ looked_in_order size v above m below s front stands runs found =
     let committed : front.number ≤ v.told.front =
     (All-head P (record { slot = slot_of m; front = front.number }) (flat_map looked_of below) (subst (λ (o : Option Found). All P (looked_by (slot_of m) o ++ flat_map looked_of below)) found behind)).committed in
     omega (arith, committed, (reach_there size v above m below s stands.0 runs).has)
-
--- ---- who is recorded
-
--- a stop may leave a member that runs recorded
-pub counted_at : (size : ℕ) (v : View) (above : List Member) (m : Member) (below : List Member) (s : State) → StandsFor size (with_members v (above ++ m ∷ below)) s → m.node.stopped ≡ None
-    → may_be_recorded v.recorded v.writing m.node ≡ true
-counted_at size v above m below s stands runs =
-    let told : IsTold v.recorded v.before m.node = all_at (λ x. IsTold v.recorded v.before x.node) above m below stands.0.2.places.told in
-    let here : is_in v.recorded (slot_of m) m.node.incarnation ≡ true = ap (is_it m.node.incarnation) (told.there runs) ∙ eq-eqb m.node.incarnation m.node.incarnation refl in
-    or_left (is_in v.recorded (slot_of m) m.node.incarnation) (is_in_some v.writing (slot_of m) m.node.incarnation) here
 
 -- ---- messages by which a member stops
 

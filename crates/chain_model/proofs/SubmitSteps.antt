@@ -12,7 +12,7 @@ use Rattle.chain_steps.specs.declared.message.Envelope.{Envelope}
 use Rattle.world_model.specs.Machine.{State}
 use Rattle.world_model.specs.Requests.{Requests, StandsFor, Submitted}
 use Rattle.world_model.proofs.Standing.{Stays}
-use Rattle.chain_model.specs.Laws.{AreSame, HasTaken}
+use Rattle.chain_model.specs.Laws.{HasTaken}
 use Rattle.chain_model.proofs.LineSteps.{all_without_some, loses_submits}
 use Rattle.chain_model.specs.View.{incarnation_at, submitted_among, submitted_from, submitted_in, submitted_on}
 
@@ -106,11 +106,6 @@ submits_apart recorded before old new slots same =
     let x = get_or slots k d in
     flat_agree (λ y. submitted_on recorded before x (old x y)) (λ y. submitted_on recorded before x (new x y)) slots
     (λ i e within. ap (submitted_on recorded before x) (same x (get_or slots i e) (Contains-get_or slots k d lt) (Contains-get_or slots i e within))))
-
--- So do links that are all the same.
-pub submits_same : (recorded before : Record) (old new : ℕ → ℕ → List Envelope) (slots : List ℕ) → AreSame old new
-    → submitted_among recorded before new slots ≡ submitted_among recorded before old slots
-submits_same recorded before old new slots same = submits_apart recorded before old new slots (λ x y one other. same x y)
 
 -- ---- fewer writes
 

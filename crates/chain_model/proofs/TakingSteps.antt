@@ -41,12 +41,6 @@ module _ (size : ℕ) (v : View) (above : List Member) (m : Member) (below : Lis
   abbrev its_idle : List Kept → Requests
   its_idle line = idle size v above m below line
 
-  abbrev others_before : List Held
-  others_before = flat_map (λ x. x.demands) above
-
-  abbrev others_behind : List Held
-  others_behind = flat_map (λ x. x.demands) below
-
   -- its demands stand between those of the others
   pub split : (line : List Kept) → (its line m).demands ≡ flat_map (λ x. x.demands) above ++ d ∷ (rest ++ flat_map (λ x. x.demands) below)
   split line = ap (λ (ds : List Held). flat_map (λ (x : Member). x.demands) above ++ (ds ++ flat_map (λ (x : Member). x.demands) below)) first

@@ -31,7 +31,7 @@ use Rattle.chain_model.specs.Links.{Learns, Net, Node, Works, first_of, hops_of,
 use Rattle.world_model.specs.Machine.{Plays, State}
 use Rattle.world_model.specs.Order.{volume_after}
 use Rattle.chain_model.specs.Placed.{Apart}
-use Rattle.world_model.specs.Requests.{Owing, Requests}
+use Rattle.world_model.specs.Requests.{Requests}
 use Rattle.world_model.specs.Requests as requests
 use Rattle.world_model.proofs.Standing.{Stays, shows_stay}
 use Rattle.chain_model.specs.Turning.{Begins, Stands}
@@ -66,10 +66,6 @@ others_of (u ∷ us) s vs (others, apart) = All-cons (λ x. x ≢ s) u (us ++ vs
 -- ---- who is told
 
 module _ (size : ℕ) (v : View) (above : List Member) (m : Member) (below : List Member) (runs : m.node.stopped ≡ None) (later : epoch_of m.node < v.recorded.epoch) (links : ℕ → ℕ → List Envelope) where
-  -- the member in the chain that it is told
-  abbrev pub learning : Member
-  learning = record m { node = placed v.recorded m.node }
-
   abbrev was_net : Net
   was_net = net_of v.recorded v.links (above ++ m ∷ below)
 

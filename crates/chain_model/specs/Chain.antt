@@ -52,8 +52,8 @@ IsDated youngest r = All (λ m. m.incarnation ≤ youngest) r.members
 abbrev pub IsBehind : Record → NodeState → Type 0
 IsBehind recorded node = (node.stopped ≡ None) × (suc (epoch_of node) ≡ recorded.epoch)
 
--- At each slot of the recorded chain somebody stands, and at each of the chain before as long as somebody runs in that; neighbours in the chain before are neighbours still where both are recorded, and its head is
--- the head.
+-- At each slot of the recorded chain somebody stands, and at each of the chain before as long as somebody runs in that; neighbours in the
+-- chain before are neighbours still where both are recorded, and its head is the head.
 pub record ArePlaced (recorded before : Record) (members : List Member) : Type 0 where
   pub apart : Apart (chain_of recorded)
   pub apart_before : Apart (chain_of before)

@@ -403,8 +403,8 @@ RunsEras size s (era ∷ next ∷ eras) t =
 abbrev pub HappeningsAreOfOneVolume : Type 0
 HappeningsAreOfOneVolume = (size : ℕ) (v w : View) (h : Happening) (events : List ClientEvent) → Happens size h v w events → Plays size (StandsFor size v) (StandsFor size w) events
 
--- Every life of a chain that begins over zeros, with members removed, with others that join, and with records cut short, is one of the one volume: what was answered
--- with FUA, or before a FLUSH was sent that was answered, is there after each cut.
+-- Every life of a chain that begins over zeros, with members removed, with others that join, and with records cut short, is one of the one
+-- volume: what was answered with FUA, or before a FLUSH was sent that was answered, is there after each cut.
 abbrev pub LivesAreOfOneVolume : Type 0
 LivesAreOfOneVolume = (size : ℕ) (v w : View) (eras : List (List Happening)) (events : List (List (List ClientEvent))) → IsBeginning 0 (volume_of size []) v → Life size v eras w events
     → (t : State) × RunsEras size start events t × StandsFor size w t

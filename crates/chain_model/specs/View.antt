@@ -29,8 +29,8 @@ pub record Joiner : Type 0 where
   pub volume : List ℕ
 
 -- A chain: its board; the recorded chain, the one recorded before it, and the record that is being written; the greatest incarnation that
--- was recorded since it began; who is counted and not recorded yet, if somebody joins; whoever stands at the slots; the chain link and the submit link from each slot to each; and for each
--- session the requests that stand whole in its kept input.
+-- was recorded since it began; who is counted and not recorded yet, if somebody joins; whoever stands at the slots; the chain link and the
+-- submit link from each slot to each; and for each session the requests that stand whole in its kept input.
 pub record View : Type 0 where
   pub told : BoardInUse
   pub recorded : Record
