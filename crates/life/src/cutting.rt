@@ -35,7 +35,8 @@ pub fn cut(
         management,
         outside,
     } = managed;
-    let mut slots = cut_all(alloc, world.abandon()?, cut)?;
+    let (stores, _joiner) = world.abandon()?;
+    let mut slots = cut_all(alloc, stores, cut)?;
     let mut outside = cut_outside(outside, cut);
     slots.append(&mut outside)?;
     Ok(Disks {

@@ -77,6 +77,7 @@ impl<S: StoreLike + Drop> Service<S> {
             is_full: _,
             homes_owed: _,
         } = self;
-        world.abandon()
+        let (stores, _joiner) = world.abandon()?;
+        Ok(stores)
     }
 }

@@ -1,6 +1,6 @@
 -- A call leaves the chain on its board, with its sizes and as many members.
 use Rattle.std.proofs.Common.{◌≡◌, ℕ, List, length, ap, sym, subst, ◌∙◌, inl, inr}
-use Rattle.std.specs.Prelude.{◌⊎◌, None}
+use Rattle.std.specs.Prelude.{◌⊎◌}
 use Rattle.std.proofs.lemmas.List.{length-set}
 use Rattle.flush_barrier.specs.Reply.{GivenReply}
 use Rattle.volume.specs.Writes.{Placed}
@@ -10,8 +10,8 @@ use Rattle.chain_steps.specs.declared.message.Envelope.{Envelope}
 use Rattle.chain_steps.specs.declared.waiting.WriteToken.{WriteToken}
 use Rattle.chain.specs.Asking.{HasSubmitted}
 use Rattle.chain.specs.Chain.{Chained, Changes}
-use Rattle.chain.specs.Commits.{PostsAt}
-use Rattle.chain.specs.Fronts.{HasKnown, RaisesAt}
+use Rattle.chain.specs.Fronts.{HasKnown}
+use Rattle.chain.specs.Holding.{HoldsAt}
 use Rattle.chain.specs.Member.{Linked}
 use Rattle.chain.specs.Passing.{MessageComes, MessageHalts, SubmitComes}
 use Rattle.chain.specs.Recording.{HaltsAt, IsToldAt}
@@ -27,18 +27,11 @@ alike_changed at old new Did changes = record {
   many = ap (λ c. length c.members) changes.are ∙ length-set old.members at changes.after;
 }
 
-pub alike_raised : {S : Type 0} (at : ℕ) (old new : Chained S) → RaisesAt at old new → IsAlike old new
-alike_raised at old new raises = record {
-  id = ap (λ c. c.id) raises.are;
-  geometry = ap (λ c. c.geometry) raises.are;
-  many = ap (λ c. length c.members) raises.are ∙ length-set old.members at raises.after;
-}
-
-pub alike_posted : {S : Type 0} (at : ℕ) (old new : Chained S) → PostsAt at old new → IsAlike old new
-alike_posted at old new posts = record {
-  id = ap (λ c. c.id) posts.are;
-  geometry = ap (λ c. c.geometry) posts.are;
-  many = ap (λ c. length c.members) posts.are ∙ length-set old.members at (record posts.member { receipt = None });
+pub alike_held : {S : Type 0} (at : ℕ) (replies : List GivenReply) (old new : Chained S) → HoldsAt at replies old new → IsAlike old new
+alike_held at replies old new did = record {
+  id = ap (λ c. c.id) did.are;
+  geometry = ap (λ c. c.geometry) did.are;
+  many = ap (λ c. length c.members) did.are ∙ length-set old.members at (record did.before { node = did.node });
 }
 
 pub alike_submitted : {S : Type 0} (at : ℕ) (token : WriteToken) (write : Placed) (old new : Chained S) → HasSubmitted at token write old new → IsAlike old new

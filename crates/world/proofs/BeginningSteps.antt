@@ -1,6 +1,6 @@
 -- A world begins: nothing waits, and there are no sessions.
 use Rattle.std.proofs.Common.{◌≡◌, ℕ, zero, suc, ◌<◌, List, [], ◌∷◌, length, map, replicate, refl, ap, sym, subst, ◌∙◌}
-use Rattle.std.specs.Prelude.{All}
+use Rattle.std.specs.Prelude.{All, None}
 use Rattle.std.proofs.lemmas.List.{length-replicate}
 use Rattle.std.proofs.lemmas.List.Elements.{All-head, All-nil, All-replicate, All-tail}
 use Rattle.std.proofs.lemmas.Slice.Zip.{AllZip-long}
@@ -29,7 +29,7 @@ none_held (suc n) = ap (λ (l : List (List Held)). [] ∷ l) (none_held n)
 module _ {S : Type 0} (c : Chained S) (export : Export) (queues : List (List Demand)) (none : queues ≡ replicate (length c.members) []) where
   -- the world of a chain without clients
   abbrev pub beginning : Seen S
-  beginning = record { chain = c; sessions = record { board = c.id; export = export; clients = [] }; queues = queues }
+  beginning = record { chain = c; sessions = record { board = c.id; export = export; clients = [] }; queues = queues; joiner = None }
 
   pub begun_joined : export.size ≡ bytes_of c → export.max_payload ≡ c.geometry.max_payload → export.area ≡ c.geometry.area → IsJoined beginning
   begun_joined size payload area = record {
@@ -50,5 +50,5 @@ module _ {S : Type 0} (c : Chained S) (export : Export) (queues : List (List Dem
         ∙ ap (λ (n : ℕ). replicate n []) (AllZip-long (IsShown about keeps may_leave_now (bytes_of c)) c.members v.members shows.members)
         ∙ sym (none_held (length c.members)) ∙ ap (map (map held_of)) (sym none);
     kept = subst (AreTakenUp []) (sym has.none_kept) (record { many = refl; none = All-nil (λ held. held ≡ []) });
-    alone = has.alone;
+    joins = has.alone;
   }

@@ -18,15 +18,15 @@ use Rattle.world.specs.declared.told.Told.{Told}
 use Rattle.world.proofs.InnerSteps.{IsAlike, answers_so, joined_so, moves_alone, moves_so, rests_so}
 use Rattle.world.proofs.TellingSteps.{places_still, told_places}
 
-module _ {S : Type 0} (before after : Chained S) (sessions : Sessions) (queues : List (List Demand)) where
+module _ {S : Type 0} (before after : Chained S) (sessions : Sessions) (queues : List (List Demand)) (joiner : Option S) where
   abbrev old : Seen S
-  old = record { chain = before; sessions = sessions; queues = queues }
+  old = record { chain = before; sessions = sessions; queues = queues; joiner = joiner }
 
   -- ---- replies came to their sessions
 
   module _ (later : Sessions) (told : Told) (replies : List GivenReply) (tells : Tells told replies sessions later) where
     abbrev new : Seen S
-    new = record { chain = after; sessions = later; queues = queues }
+    new = record { chain = after; sessions = later; queues = queues; joiner = joiner }
 
     pub told_joined : IsAlike before after → IsJoined old → IsJoined new
     told_joined alike joined = joined_so old new alike (told_places (has_room told) tells.lost replies sessions later (outputs_of told) tells.events tells.comes) refl joined
@@ -36,7 +36,7 @@ module _ {S : Type 0} (before after : Chained S) (sessions : Sessions) (queues :
 
     pub told_so : {about : S → About} {keeps : S → List ℕ → Type 0} {may_leave_now : S → List ℕ → Type 0} → chain.IsOfOneVolume about keeps may_leave_now before after replies
         → IsOfOneVolume about keeps may_leave_now no_one (handed_by (outputs_of told)) old new
-    told_so {about} {keeps} {may_leave_now} lead = answers_so about keeps may_leave_now old new (has_room told) tells.lost replies (outputs_of told) tells.events lead tells.comes refl
+    told_so {about} {keeps} {may_leave_now} lead = answers_so about keeps may_leave_now old new (has_room told) tells.lost replies (outputs_of told) tells.events lead tells.comes refl refl
 
   -- ---- nobody was told anything
 
@@ -57,9 +57,9 @@ module _ {S : Type 0} (before after : Chained S) (sessions : Sessions) (queues :
       → IsOfOneVolume about keeps may_leave_now no_one no_one old moved
   moved_so {about} {keeps} {may_leave_now} lead = moves_so about keeps may_leave_now old moved lead refl
 
-  pub moved_alone : {about : S → About} {keeps : S → List ℕ → Type 0} {may_leave_now : S → List ℕ → Type 0} → chain.IsOfOneVolumeAlone about keeps may_leave_now before after []
+  pub moved_alone : {about : S → About} {keeps : S → List ℕ → Type 0} {may_leave_now : S → List ℕ → Type 0} → joiner ≡ None → chain.IsOfOneVolumeAlone about keeps may_leave_now before after []
       → IsOfOneVolume about keeps may_leave_now no_one no_one old moved
-  moved_alone {about} {keeps} {may_leave_now} lead = moves_alone about keeps may_leave_now old moved lead refl
+  moved_alone {about} {keeps} {may_leave_now} alone lead = moves_alone about keeps may_leave_now old moved lead alone refl
 
   -- the same, where the answer is a refusal
   pub refused_so : {about : S → About} {keeps : S → List ℕ → Type 0} {may_leave_now : S → List ℕ → Type 0} {V E : Type 0} (r : Result V E) (told : V → Told) → IsErr r

@@ -16,7 +16,7 @@ use Rattle.clients.specs.Calls.{AreAtPlaces}
 use Rattle.clients.specs.Clients.{held_of, no_one}
 use Rattle.clients.specs.declared.output.Output.{Output}
 use Rattle.world.specs.Telling.{AreTold, handed_by}
-use Rattle.world.specs.World.{AreTakenUp, Goes, HappensSo, IsJoined, IsOfOneVolume, Seen, sent_in}
+use Rattle.world.specs.World.{AreTakenUp, Goes, HappensSo, IsJoined, IsOfOneVolume, JoinsBy, Seen, Shows, sent_in}
 use Rattle.world.proofs.Sending.{taken_up_still}
 use Rattle.world.proofs.Going.{goes_as}
 use Rattle.world.proofs.GoingOn.{remain_at}
@@ -34,19 +34,23 @@ none_sent id (r ∷ rs) events out = elim out [
 -- ---- one call
 
 module _ {S : Type 0} (about : S → About) (keeps : S → List ℕ → Type 0) (may_leave_now : S → List ℕ → Type 0) where
+  -- who joins stays
+  pub joins_still : (old new : Seen S) (v w : View) → new.joiner ≡ old.joiner → w.joiner ≡ v.joiner → JoinsBy about keeps old.joiner v.joiner → JoinsBy about keeps new.joiner w.joiner
+  joins_still old new v w store same joins = subst (λ o. JoinsBy about keeps o w.joiner) (sym store) (subst (JoinsBy about keeps old.joiner) (sym same) joins)
+
   -- replies come to their sessions in a world that has come so far
   pub tells_so : (old new : Seen S) (room lost : Bool) (replies : List GivenReply) (outputs : List Output) (events : List ClientEvent) (v w : View)
       → AreTold room lost replies old.sessions new.sessions outputs events
-      → chain.Shows about keeps may_leave_now new.chain w → map (λ m. m.demands) w.members ≡ map (map held_of) new.queues → w.kept ≡ v.kept → AreTakenUp old.sessions.clients v.kept → w.joiner ≡ None
+      → chain.Shows about keeps may_leave_now new.chain w → map (λ m. m.demands) w.members ≡ map (map held_of) new.queues → w.kept ≡ v.kept → AreTakenUp old.sessions.clients v.kept → JoinsBy about keeps new.joiner w.joiner
       → Goes (bytes_of old.chain) v w events
       → HappensSo about keeps may_leave_now old new no_one (handed_by outputs) v
-  tells_so old new room lost replies outputs events v w told shows demands kept are alone goes =
+  tells_so old new room lost replies outputs events v w told shows demands kept are joins goes =
       let places = told_places room lost replies old.sessions new.sessions outputs events told in
       record {
         w = w;
         events = events;
         asked = no_one;
-        shows = record { chain = shows; demands = demands; kept = taken_up_still old.sessions new.sessions w.kept places (rw kept are); alone = alone };
+        shows = record { chain = shows; demands = demands; kept = taken_up_still old.sessions new.sessions w.kept places (rw kept are); joins = joins };
         goes = goes;
         go_on = told_go_on room lost replies old.sessions new.sessions outputs events told;
         sent = λ id. none_sent id replies events (told_put_out room lost replies old.sessions new.sessions outputs events told);
@@ -54,32 +58,30 @@ module _ {S : Type 0} (about : S → About) (keeps : S → List ℕ → Type 0) 
       }
 
   -- a call of the chain, with its replies
-  pub answers_alone : (old new : Seen S) (room lost : Bool) (replies : List GivenReply) (outputs : List Output) (events : List ClientEvent)
-      → chain.IsOfOneVolumeAlone about keeps may_leave_now old.chain new.chain replies → AreTold room lost replies old.sessions new.sessions outputs events → new.queues ≡ old.queues
-      → IsOfOneVolume about keeps may_leave_now no_one (handed_by outputs) old new
-  answers_alone old new room lost replies outputs events lead told queues v s shows stands =
-      let did = lead v s events shows.chain shows.alone stands (told_put_out room lost replies old.sessions new.sessions outputs events told) in
+  answered : (old new : Seen S) (room lost : Bool) (replies : List GivenReply) (outputs : List Output) (events : List ClientEvent) (v : View) → Shows about keeps may_leave_now old v
+      → ((w : View) × chain.Shows about keeps may_leave_now new.chain w × chain.Goes (bytes_of old.chain) v w events)
+      → AreTold room lost replies old.sessions new.sessions outputs events → new.queues ≡ old.queues → new.joiner ≡ old.joiner → HappensSo about keeps may_leave_now old new no_one (handed_by outputs) v
+  answered old new room lost replies outputs events v shows did told queues joiner =
       let stays = goes_keeps v did.0 events did.2 in
-      tells_so old new room lost replies outputs events v did.0 told did.1 (stays.1 ∙ shows.demands ∙ sym (ap (map (map held_of)) queues)) stays.0 shows.kept (goes_leaves v did.0 events did.2 ∙ shows.alone) (goes_as v did.0 events did.2)
-
-  -- which may be one of a chain that somebody joins, too
-  pub whoever_joins : (old new : Seen S) (replies : List GivenReply) → chain.IsOfOneVolume about keeps may_leave_now old.chain new.chain replies → chain.IsOfOneVolumeAlone about keeps may_leave_now old.chain new.chain replies
-  whoever_joins old new replies lead v s events shows alone stands out = lead v s events shows stands out
+      tells_so old new room lost replies outputs events v did.0 told did.1 (stays.1 ∙ shows.demands ∙ sym (ap (map (map held_of)) queues)) stays.0 shows.kept
+      (joins_still old new v did.0 joiner (goes_leaves v did.0 events did.2) shows.joins) (goes_as v did.0 events did.2)
 
   pub answers_so : (old new : Seen S) (room lost : Bool) (replies : List GivenReply) (outputs : List Output) (events : List ClientEvent)
-      → chain.IsOfOneVolume about keeps may_leave_now old.chain new.chain replies → AreTold room lost replies old.sessions new.sessions outputs events → new.queues ≡ old.queues
+      → chain.IsOfOneVolume about keeps may_leave_now old.chain new.chain replies → AreTold room lost replies old.sessions new.sessions outputs events → new.queues ≡ old.queues → new.joiner ≡ old.joiner
       → IsOfOneVolume about keeps may_leave_now no_one (handed_by outputs) old new
-  answers_so old new room lost replies outputs events lead = answers_alone old new room lost replies outputs events (whoever_joins old new replies lead)
+  answers_so old new room lost replies outputs events lead told queues joiner v s shows stands =
+      answered old new room lost replies outputs events v shows (lead v s events shows.chain stands (told_put_out room lost replies old.sessions new.sessions outputs events told)) told queues joiner
 
   -- a call of the chain without a reply
-  pub moves_alone : (old new : Seen S) → chain.IsOfOneVolumeAlone about keeps may_leave_now old.chain new.chain [] → new ≡ record old { chain = new.chain }
-      → IsOfOneVolume about keeps may_leave_now no_one no_one old new
-  moves_alone old new lead are v s shows stands =
-      answers_alone old new true false [] [] [] lead (ap (λ w. w.sessions) are, refl, refl, refl) (ap (λ w. w.queues) are) v s shows stands
-
   pub moves_so : (old new : Seen S) → chain.IsOfOneVolume about keeps may_leave_now old.chain new.chain [] → new ≡ record old { chain = new.chain }
       → IsOfOneVolume about keeps may_leave_now no_one no_one old new
-  moves_so old new lead = moves_alone old new (whoever_joins old new [] lead)
+  moves_so old new lead are = answers_so old new true false [] [] [] lead (ap (λ w. w.sessions) are, refl, refl, refl) (ap (λ w. w.queues) are) (ap (λ w. w.joiner) are)
+
+  -- which is one of a chain that nobody joins
+  pub moves_alone : (old new : Seen S) → chain.IsOfOneVolumeAlone about keeps may_leave_now old.chain new.chain [] → old.joiner ≡ None → new ≡ record old { chain = new.chain }
+      → IsOfOneVolume about keeps may_leave_now no_one no_one old new
+  moves_alone old new lead alone are v s shows stands =
+      answered old new true false [] [] [] v shows (lead v s [] shows.chain (subst (λ o. JoinsBy about keeps o v.joiner) alone shows.joins) stands refl) (ap (λ w. w.sessions) are, refl, refl, refl) (ap (λ w. w.queues) are) (ap (λ w. w.joiner) are)
 
   -- nothing changed
   pub rests_so : (old new : Seen S) → new ≡ old → IsOfOneVolume about keeps may_leave_now no_one no_one old new

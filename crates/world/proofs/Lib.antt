@@ -6,6 +6,7 @@ pub mod Going
 pub mod GoingOn
 mod InnerSteps
 mod JoinedSteps
+mod JoiningSteps
 mod ManagingSteps
 mod ReceptionSteps
 mod Results

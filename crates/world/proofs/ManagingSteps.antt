@@ -145,6 +145,13 @@ module _ {D : Type 0} (moment : D → ℕ) (left_since : D → ℕ → List ℕ 
       weaker moment left_since disk disk (λ c. HoldsRecord store.current (inside store.pair.part c)) HoldsEither (λ c holds. inl holds)
       (started_inside store.pair.part (HoldsRecord store.current) disk may_leave only_now (settled_leaves settled))
 
+  -- nor is another one
+  pub old_still : (next : Record) {gives : List ℕ} {may_leave : List ℕ → Type 0} (disk : D) → ((c : List ℕ) → left_since disk (moment disk) c → may_leave c) → IsSettledConfig store gives may_leave
+      → LeavesOnly moment left_since disk disk (λ c. HoldsOldOrNew store.current next (inside store.pair.part c))
+  old_still next {gives} {may_leave} disk only_now settled =
+      weaker moment left_since disk disk (λ c. HoldsRecord store.current (inside store.pair.part c)) (λ c. HoldsOldOrNew store.current next (inside store.pair.part c)) (λ c holds. inl holds)
+      (started_inside store.pair.part (HoldsRecord store.current) disk may_leave only_now (settled_leaves settled))
+
   -- that one is written
   pub held_writing : (old new : D) (next : Record) → writing ≡ Some next → LeavesOnly moment left_since old new (λ c. HoldsOldOrNew store.current next (inside store.pair.part c))
       → LeavesOnly moment left_since old new HoldsEither

@@ -152,7 +152,7 @@ module _ {S : Type 0} (about : S → About) (keeps : S → List ℕ → Type 0) 
   shown_keeping : (old : Seen S) (sessions : Sessions) (v : View) (kept : List (List Held)) → Shows about keeps may_leave_now old v
       → AreTakenUp sessions.clients kept
       → Shows about keeps may_leave_now (record old { sessions = sessions }) (record v { kept = kept })
-  shown_keeping old sessions v kept shows are = record { chain = chain_still old.chain v kept shows.chain; demands = shows.demands; kept = are; alone = shows.alone }
+  shown_keeping old sessions v kept shows are = record { chain = chain_still old.chain v kept shows.chain; demands = shows.demands; kept = are; joins = shows.joins }
 
   pub nothing_happens : (w : Seen S) → IsOfOneVolume about keeps may_leave_now no_one no_one w w
   nothing_happens w v s shows stands = record {
@@ -207,7 +207,7 @@ module _ {S : Type 0} (about : S → About) (keeps : S → List ℕ → Type 0) 
       chain = record { told = shown.told; recorded = shown.recorded; before = shown.before; writing = shown.writing; youngest = shown.youngest; members = shown.members; links = shown.links; submits = shown.submits };
       demands = wait_then;
       kept = taken_up_set sessions.clients fed.did.place v.kept (taken_up_still old.sessions sessions v.kept fed.places shows.kept);
-      alone = shows.alone;
+      joins = shows.joins;
     };
     goes = fed_goes (bytes_of old.chain) v at waits.member fed.did.place (map held_of fed.demands) waits.here (none_at old.sessions.clients fed.did.place fed.did.before v.kept shows.kept fed.did.here);
     go_on = go_on_sent old.sessions.clients sessions.clients (of_session id piece) no_one (of_session id (map asked_by fed.demands)) (map held_of fed.demands) fed.lawful;

@@ -75,13 +75,13 @@ module _ {S : Type 0} (premise : Type 0) (about : S → About) (failures : S →
   either_did (Some reply) took why = inr (replies, why.0, why.1.0, why.1.1, ap (λ r. replies ++ r ∷ []) why.1.2)
 
 module _ {S : Type 0} (about : S → About) (keeps : S → List ℕ → Type 0) (may_leave_now : S → List ℕ → Type 0) (old new : Seen S) (at : ℕ) (demand : Demand) (rest : List Demand)
-    (here : slice_get old.queues at ≡ Some (demand ∷ rest)) (queues : new.queues ≡ slice_set old.queues at rest) (room lost : Bool) (replies : List GivenReply) (outputs : List Output) (events : List ClientEvent) where
+    (here : slice_get old.queues at ≡ Some (demand ∷ rest)) (queues : new.queues ≡ slice_set old.queues at rest) (joiner : new.joiner ≡ old.joiner) (room lost : Bool) (replies : List GivenReply) (outputs : List Output) (events : List ClientEvent) where
   pub either_so : (Did : Refusal → Type 0) (refused : Option GivenReply) → IfNone refused (TakesOfOneVolume about keeps may_leave_now at (held_of demand) old.chain new.chain replies)
       → IfSome refused (λ reply. chain.IsOfOneVolume about keeps may_leave_now old.chain new.chain replies) → IfSome refused (λ reply. (refusal : Refusal) × (Did refusal × HasPleaAt at new.chain refusal × (reply ≡ refusing (owed_by demand) refusal)))
       → AreTold room lost (replies ++ option_to_list refused) old.sessions new.sessions outputs events → IsOfOneVolume about keeps may_leave_now no_one (handed_by outputs) old new
-  either_so Did None takes lead why told = taken_so about keeps may_leave_now old new at demand rest here queues room lost replies outputs events takes
+  either_so Did None takes lead why told = taken_so about keeps may_leave_now old new at demand rest here queues joiner room lost replies outputs events takes
       (subst (λ rs. AreTold room lost rs old.sessions new.sessions outputs events) (append-nil replies) told)
-  either_so Did (Some reply) takes lead why told = refused_so about keeps may_leave_now old new at demand rest here queues room lost replies why.0 why.1.1 outputs events lead
+  either_so Did (Some reply) takes lead why told = refused_so about keeps may_leave_now old new at demand rest here queues joiner room lost replies why.0 why.1.1 outputs events lead
       (subst (λ r. AreTold room lost (replies ++ r ∷ []) old.sessions new.sessions outputs events) why.1.2 told)
 
 -- ---- the world goes together still

@@ -29,7 +29,7 @@ use Rattle.world.specs.Taking.{code_of, refusing}
 use Rattle.world.specs.Telling.{AreTold, handed_by}
 use Rattle.world.specs.World.{Goes, IsOfOneVolume, Seen}
 use Rattle.world.proofs.Going.{goes_as, goes_by, goes_on, goes_same, goes_taking}
-use Rattle.world.proofs.InnerSteps.{tells_so}
+use Rattle.world.proofs.InnerSteps.{joins_still, tells_so}
 use Rattle.world.proofs.TellingSteps.{told_put_out}
 
 -- ---- what waits for a member
@@ -147,7 +147,7 @@ refuses size v at d rest refusal m events may here waits out = elim out [
 ]
 
 module _ {S : Type 0} (about : S → About) (keeps : S → List ℕ → Type 0) (may_leave_now : S → List ℕ → Type 0) (old new : Seen S) (at : ℕ) (demand : Demand) (rest : List Demand)
-    (here : slice_get old.queues at ≡ Some (demand ∷ rest)) (queues : new.queues ≡ slice_set old.queues at rest) where
+    (here : slice_get old.queues at ≡ Some (demand ∷ rest)) (queues : new.queues ≡ slice_set old.queues at rest) (joiner : new.joiner ≡ old.joiner) where
   queues_then : slice_set (map (map held_of) old.queues) at (map held_of rest) ≡ map (map held_of) new.queues
   queues_then = sym (map-set (map held_of) old.queues at rest) ∙ sym (ap (map (map held_of)) queues)
 
@@ -160,7 +160,7 @@ module _ {S : Type 0} (about : S → About) (keeps : S → List ℕ → Type 0) 
       let waits = waits_at v.members old.queues at (demand ∷ rest) shows.demands here in
       let did = takes v s events (map held_of rest) shows.chain stands (some_at v.members waits) (told_put_out room lost replies old.sessions new.sessions outputs events told) in
       tells_so about keeps may_leave_now old new room lost replies outputs events v did.0 told did.1
-      (did.2.demands ∙ ap (λ l. slice_set l at (map held_of rest)) shows.demands ∙ queues_then) did.2.kept shows.kept (did.2.joiner ∙ shows.alone) (goes_taking v did.0 events did.2)
+      (did.2.demands ∙ ap (λ l. slice_set l at (map held_of rest)) shows.demands ∙ queues_then) did.2.kept shows.kept (joins_still about keeps may_leave_now old new v did.0 joiner did.2.joiner shows.joins) (goes_taking v did.0 events did.2)
 
   pub refused_so : (room lost : Bool) (others : List GivenReply) (refusal : Refusal) → HasPleaAt at new.chain refusal → (outputs : List Output) (events : List ClientEvent) → chain.IsOfOneVolume about keeps may_leave_now old.chain new.chain others
       → AreTold room lost (others ++ refusing (owed_by demand) refusal ∷ []) old.sessions new.sessions outputs events → IsOfOneVolume about keeps may_leave_now no_one (handed_by outputs) old new
@@ -173,6 +173,6 @@ module _ {S : Type 0} (about : S → About) (keeps : S → List ℕ → Type 0) 
       tells_so about keeps may_leave_now old new room lost (others ++ refusing (owed_by demand) refusal ∷ []) outputs events v then told
       (shows_demands about keeps may_leave_now new.chain did.0 at waits.member (map held_of rest) waits.here did.1)
       (demands_then did.0 at waits.member (map held_of rest) ∙ ap (λ l. slice_set l at (map held_of rest)) (stays.1 ∙ shows.demands) ∙ queues_then)
-      stays.0 shows.kept (goes_leaves v did.0 out.0 did.2 ∙ shows.alone)
+      stays.0 shows.kept (joins_still about keeps may_leave_now old new v then joiner (goes_leaves v did.0 out.0 did.2) shows.joins)
       (goes_same v then (out.0 ++ out.1) events (sym out.4) (goes_on v did.0 then out.0 out.1 (goes_as v did.0 out.0 did.2) (refuses (bytes_of old.chain) did.0 at demand (map held_of rest) refusal waits.member out.1
       (may_refuse about keeps may_leave_now new.chain did.0 at waits.member refusal did.1 waits.here plea) waits.here waits.waits out.3)))

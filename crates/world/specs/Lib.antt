@@ -1,3 +1,4 @@
+pub mod Joining
 pub mod Management
 pub mod Reception
 pub mod Taking

@@ -75,9 +75,13 @@ pub record HasEnded {S D : Type 0} (old new : Managing D) (world after : Seen S)
   pub manager : new.manager ≡ done_of old.manager
   pub config : new.config ≡ recorded old.config next
 
+-- what is being written may be recorded, and nobody joins
+abbrev pub MayEndAlone : {S : Type 0} → Seen S → Type 0
+MayEndAlone world = MayEnd world.chain × (world.joiner ≡ None)
+
 -- no record is the next order, or what is being written, if anything, may not be recorded
 abbrev pub EndsNone : {S D : Type 0} → Managing D → Seen S → Type 0
-EndsNone old world = (is_record (next_of old.manager) ≡ false) ⊎ (MayEnd world.chain → ⊥)
+EndsNone old world = (is_record (next_of old.manager) ≡ false) ⊎ (MayEndAlone world → ⊥)
 
 -- ---- the orders behind it
 
@@ -88,9 +92,13 @@ pub record CountsOut {S D : Type 0} (old new : Managing D) (world after : Seen S
   pub moves : Moves world after (λ one other. IsLeftOut one slot × HasCountedOut slot one other)
   pub are : new ≡ record old { manager = done_of old.manager }
 
+-- nobody is recorded at the slot, or in a record that is being written, and nobody joins
+abbrev pub IsLeftOutAlone : {S : Type 0} → Seen S → ℕ → Type 0
+IsLeftOutAlone world slot = IsLeftOut world.chain slot × (world.joiner ≡ None)
+
 -- no slot is to be counted out, or it isn't left out
 abbrev pub CountsNone : {S D : Type 0} → Managing D → Seen S → Type 0
-CountsNone old world = ((slot : ℕ) → next_of old.manager ≡ CountOut slot → IsLeftOut world.chain slot → ⊥)
+CountsNone old world = ((slot : ℕ) → next_of old.manager ≡ CountOut slot → IsLeftOutAlone world slot → ⊥)
 
 -- nobody of the recorded chain is at the slot
 abbrev pub HasNobody : {S : Type 0} → Chained S → ℕ → Type 0

@@ -84,4 +84,4 @@ pub record Takes {S : Type 0} (premise : Type 0) (about : S → About) (failures
   pub did : HasTaken premise about keeps moment left_since at demand replies old.chain new.chain
       ⊎ ((others : List GivenReply) × (refusal : Refusal) × HasRefused premise about failures keeps moment left_since at demand others refusal old.chain new.chain × HasPleaAt at new.chain refusal × (replies ≡ others ++ refusing (owed_by demand) refusal ∷ []))
   pub tells : Tells told replies old.sessions new.sessions
-  pub are : new ≡ record { chain = new.chain; sessions = new.sessions; queues = slice_set old.queues at rest }
+  pub are : new ≡ record old { chain = new.chain; sessions = new.sessions; queues = slice_set old.queues at rest }

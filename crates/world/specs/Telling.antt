@@ -108,6 +108,10 @@ handed_if told (Ok None) = λ id. []
 handed_if told (Ok (Some v)) = handed_by (outputs_of (told v))
 handed_if told (Err e) = λ id. []
 
+abbrev pub handed_lost : {V : Type 0} → Result V Told → SessionId → List ℕ
+handed_lost (Ok v) = λ id. []
+handed_lost (Err told) = handed_by (outputs_of told)
+
 abbrev pub handed_some : Option Told → SessionId → List ℕ
 handed_some None = λ id. []
 handed_some (Some told) = handed_by (outputs_of told)

@@ -1,5 +1,5 @@
 -- What contracts see of a world, what holds of every one, and when a call of it is of the one volume.
-use Rattle.std.specs.Prelude.{◌≡◌, ◌⊎◌, ℕ, ◌<◌, ◌≤◌, ◌==◌, None, Some, List, [], ◌∷◌, All, if◌then◌else◌, length, map}
+use Rattle.std.specs.Prelude.{◌≡◌, ◌⊎◌, ℕ, ◌<◌, ◌≤◌, ◌==◌, Option, None, Some, List, [], ◌∷◌, All, if◌then◌else◌, length, map}
 use Rattle.std.specs.List.{flat_map}
 use Rattle.board.specs.Seats.{BoardId}
 use Rattle.flush_barrier.specs.declared.session_id.SessionId.{SessionId}
@@ -7,7 +7,7 @@ use Rattle.local_store.specs.About.{About}
 use Rattle.nbd_session.specs.Demand.{Asked, IsAskedInside, IsUnnumbered, asked_by, owed_by}
 use Rattle.nbd_session.specs.declared.demand.Demand.{Demand}
 use Rattle.chain_model.specs.Chain.{StandsFor}
-use Rattle.chain_model.specs.View.{View}
+use Rattle.chain_model.specs.View.{Joiner, View}
 use Rattle.world_model.specs.Event.{Answered, ClientEvent, Sent}
 use Rattle.world_model.specs.Life.{all_events}
 use Rattle.chain_model.specs.Life.{Era, Happening}
@@ -15,13 +15,16 @@ use Rattle.world_model.specs.Machine.{State}
 use Rattle.world_model.specs.Requests.{Held}
 use Rattle.chain.specs.Chain.{Chained, bytes_of}
 use Rattle.chain.specs.Chain as chain
+use Rattle.chain.specs.Joining.{IsOfStore}
 use Rattle.clients.specs.Clients.{Client, GoOn, Sessions, held_of, held_under, place_of}
 
--- A world: its chain, the sessions of its clients, and for each member, by place, the demands of its sessions that it hasn't taken.
+-- A world: its chain, the sessions of its clients, for each member, by place, the demands of its sessions that it hasn't taken, and the
+-- store of the disk that joins, if one does.
 pub record Seen (S : Type 0) : Type 0 where
   pub chain : Chained S
   pub sessions : Sessions
   pub queues : List (List Demand)
+  pub joiner : Option S
 
 -- the demand is of the board, has no number yet, and asks what lies in a volume of so many bytes
 pub record IsOfVolume (id : BoardId) (size : ℕ) (demand : Demand) : Type 0 where
@@ -44,12 +47,17 @@ pub record AreTakenUp (clients : List Client) (kept : List (List Held)) : Type 0
   pub many : length kept ≡ length clients
   pub none : All (λ held. held ≡ []) kept
 
--- The world is shown so: its chain, the demands that wait for each member, and a place for each session. Nobody joins it yet.
+-- who joins has this store; or nobody does
+abbrev pub JoinsBy : {S : Type 0} → (S → About) → (S → List ℕ → Type 0) → Option S → Option Joiner → Type 0
+JoinsBy about keeps None joiner = joiner ≡ None
+JoinsBy about keeps (Some store) joiner = IsOfStore about keeps store joiner
+
+-- The world is shown so: its chain, the demands that wait for each member, a place for each session, and who joins.
 pub record Shows {S : Type 0} (about : S → About) (keeps : S → List ℕ → Type 0) (may_leave_now : S → List ℕ → Type 0) (w : Seen S) (v : View) : Type 0 where
   pub chain : chain.Shows about keeps may_leave_now w.chain v
   pub demands : map (λ m. m.demands) v.members ≡ map (map held_of) w.queues
   pub kept : AreTakenUp w.sessions.clients v.kept
-  pub alone : v.joiner ≡ None
+  pub joins : JoinsBy about keeps w.joiner v.joiner
 
 -- nothing waits for a member of it, it has no sessions, and nobody joins it
 pub record HasNoClients (v : View) : Type 0 where

@@ -8,8 +8,12 @@
 
 mod arming;
 mod asking;
+mod holding;
+mod joiner;
+mod joining;
 mod management;
 mod members;
+mod orders;
 mod queue;
 mod reception;
 mod recording;

@@ -27,10 +27,10 @@ use std::marker::Model;
 /// The manager of a world, and the disk of its configuration, on which the record stands.
 #[derive(Drop)]
 pub struct Management<D: Disk> {
-    alloc: Global,
-    manager: Manager,
-    config: ConfigStore,
-    disk: D,
+    pub(crate) alloc: Global,
+    pub(crate) manager: Manager,
+    pub(crate) config: ConfigStore,
+    pub(crate) disk: D,
 }
 
 impl<D: Disk> Model for Management<D> {
@@ -114,7 +114,7 @@ impl<D: Disk + Drop> Management<D> {
     }
 
     /// The manager notes who has stopped of the world's chain.
-    fn note<S: StoreLike + Drop>(&mut self, world: &World<S>)
+    pub(crate) fn note<S: StoreLike + Drop>(&mut self, world: &World<S>)
         ensures { self.new ≡ record self.old { manager = noted world.now.chain self.old.manager } }
     {
         for at in 0..world.len() {
@@ -149,7 +149,7 @@ impl<D: Disk + Drop> Management<D> {
     }
 
     /// The record that is being written goes to the disk, by six device calls, and is the recorded one. `false` where no record is the next
-    /// order, or none is being written that may be recorded: nothing changed.
+    /// order, none is being written that may be recorded, or somebody joins: nothing changed.
     ///
     /// What `ConfigStore::record` refuses: the record is being written still. After a refusal of the device it may stand on the disk, or
     /// the one before; and then each such order is refused with 122.
@@ -184,14 +184,14 @@ impl<D: Disk + Drop> Management<D> {
     }
 
     /// Whether the next order is to write a record.
-    fn next_is_record(&self) -> bool
+    pub(crate) fn next_is_record(&self) -> bool
         ensures { result ≡ is_record (next_of self.now.manager) }
     {
         matches!(self.next(), Order::Record)
     }
 
-    /// Where the next order is to count a slot out: the board counts it no longer. `false` where that isn't the next order, or somebody is
-    /// recorded at the slot: nothing changed.
+    /// Where the next order is to count a slot out: the board counts it no longer. `false` where that isn't the next order, somebody is
+    /// recorded at the slot, or somebody joins: nothing changed.
     pub fn count_out<S: StoreLike + Drop>(&mut self, world: &mut World<S>) -> bool
         ensures out { result ≡ true → CountsOut self.old self.new world.old world.new }
         ensures idle { result ≡ false → CountsNone self.old world.old × ((self.new ≡ self.old) × (world.new ≡ world.old)) }
@@ -238,7 +238,7 @@ fn tell_slot<S: StoreLike + Drop>(alloc: Global, world: &mut World<S>, slot: Slo
 }
 
 /// The place of the recorded member at a slot, if there is one.
-fn member_at<S: StoreLike + Drop>(world: &World<S>, slot: Slot) -> Option<usize>
+pub(crate) fn member_at<S: StoreLike + Drop>(world: &World<S>, slot: Slot) -> Option<usize>
     ensures there { IfSome result (IsMemberAt world.now.chain slot) }
     ensures within { IfSome result (λ at. at < length world.now.chain.members) }
     ensures nobody { IfNone result (HasNobody world.now.chain slot) }

@@ -2,6 +2,7 @@
 ghost use Rattle.std.specs.Prelude.{◌≡◌, ◌⊎◌, ◌↔◌, ◌<◌, None, false, length, true, IfErr, IfOk, IsOk, IsTrue};
 ghost use Rattle.chain.specs.Recording.{HaltsAt, HasBegunRecord, HasCountedOut, HasEndedRecord, IsLeftOut, IsToldAt, IsUntoldAt, MayBegin, MayEnd};
 ghost use Rattle.clients.specs.Clients.{no_one};
+ghost use Rattle.world.specs.Management.{IsLeftOutAlone, MayEndAlone};
 ghost use Rattle.world.specs.Telling.{Answers, Moves, handed_in};
 ghost use Rattle.world.specs.World.{IsOfOneVolume};
 
@@ -25,14 +26,14 @@ impl<S: StoreLike + Drop> World<S> {
         self.chain.begin_record(next)
     }
 
-    /// The record that was being written is durable: it is the recorded one. All members that run were told the one before it. `false`
-    /// where that isn't so, or none was being written that may come next: nothing changed.
+    /// The record that was being written is durable: it is the recorded one. All members that run were told the one before it, and nobody
+    /// joins. `false` where that isn't so, or none was being written that may come next: nothing changed.
     pub(crate) fn end_record(&mut self) -> bool
         ensures ended { result ≡ true → Moves self.old self.new (λ old new. MayEnd old × HasEndedRecord old new) }
-        ensures idle { result ≡ false → ¬ MayEnd self.old.chain × (self.new ≡ self.old) }
+        ensures idle { result ≡ false → ¬ MayEndAlone self.old × (self.new ≡ self.old) }
         ensures one_volume { S.keeps_model → IsOfOneVolume S.about S.keeps S.may_leave_now no_one no_one self.old self.new }
     {
-        self.chain.end_record()
+        self.joiner.is_none() && self.chain.end_record()
     }
 
     /// A copy of the record that is being written, if one is.
@@ -43,21 +44,21 @@ impl<S: StoreLike + Drop> World<S> {
         self.chain.writing(alloc)
     }
 
-    /// Whether the record that is being written, if one is, may be recorded.
+    /// Whether the record that is being written, if one is, may be recorded, and nobody joins.
     pub(crate) fn may_end(&self) -> bool
-        ensures { IsTrue result ↔ MayEnd self.now.chain }
+        ensures { IsTrue result ↔ MayEndAlone self.now }
     {
-        self.chain.may_end()
+        self.joiner.is_none() && self.chain.may_end()
     }
 
-    /// The board counts the slot no longer. No member of the recorded chain is at it, and no record is being written. `false` where that
-    /// isn't so: nothing changed.
+    /// The board counts the slot no longer. No member of the recorded chain is at it, no record is being written, and nobody joins. `false`
+    /// where that isn't so: nothing changed.
     pub(crate) fn count_out(&mut self, slot: Slot) -> bool
         ensures out { result ≡ true → Moves self.old self.new (λ old new. IsLeftOut old slot × HasCountedOut slot old new) }
-        ensures idle { result ≡ false → ¬ IsLeftOut self.old.chain slot × (self.new ≡ self.old) }
+        ensures idle { result ≡ false → ¬ IsLeftOutAlone self.old slot × (self.new ≡ self.old) }
         ensures one_volume { S.keeps_model → IsOfOneVolume S.about S.keeps S.may_leave_now no_one no_one self.old self.new }
     {
-        self.chain.count_out(slot)
+        self.joiner.is_none() && self.chain.count_out(slot)
     }
 
     /// The member at a place is told the recorded chain, if it is newer than the one it was told: a head refuses its writes without a

@@ -3,6 +3,7 @@ ghost use Rattle.std.specs.Prelude.{◌∷◌};
 ghost use Rattle.chain_steps.specs.Node.{durable_of, last_of};
 ghost use Rattle.chain_model.specs.View.{is_in};
 
+use crate::joiner::Joiner;
 use crate::queue::Queue;
 use chain::Chain;
 use chain_steps::Cause;
@@ -22,6 +23,8 @@ pub struct World<S: StoreLike> {
     pub(crate) clients: Clients,
     /// For each member, by place.
     pub(crate) queues: Vec<Queue>,
+    /// The store of the disk that joins.
+    pub(crate) joiner: Option<Joiner<S>>,
 }
 
 impl<S: StoreLike> Model for World<S> {
@@ -29,9 +32,9 @@ impl<S: StoreLike> Model for World<S> {
 
     ghost Value = { Seen S };
 
-    ghost view = { λ w. record { chain = w.chain; sessions = w.clients; queues = w.queues.items } };
+    ghost view = { λ w. record { chain = w.chain; sessions = w.clients; queues = w.queues.items; joiner = w.joiner } };
 
-    ghost invariant = { λ w. IsJoined (record { chain = w.chain; sessions = w.clients; queues = w.queues.items }) };
+    ghost invariant = { λ w. IsJoined (record { chain = w.chain; sessions = w.clients; queues = w.queues.items; joiner = w.joiner }) };
 }
 
 impl<S: StoreLike + Drop> World<S> {
@@ -53,6 +56,7 @@ impl<S: StoreLike + Drop> World<S> {
           clients = [];
         }) }
         ensures queues { IfOk result (λ world. world.queues ≡ replicate (length chain.members) []) }
+        ensures alone { IfOk result (λ world. world.joiner ≡ None) }
         ensures shows { IfOk result (λ world. (v : View) → chains.Shows S.about S.keeps S.may_leave_now chain v → HasNoClients v → Shows S.about S.keeps S.may_leave_now world v) }
         ensures back { IfErr result (λ given. given ≡ chain) }
     {
@@ -72,6 +76,7 @@ impl<S: StoreLike + Drop> World<S> {
             chain,
             clients,
             queues,
+            joiner: None,
         })
     }
 
@@ -170,24 +175,30 @@ impl<S: StoreLike + Drop> World<S> {
         self.chain.applied(at)
     }
 
-    /// Gives the world up, and its members' stores back, in the order of their places. What waits for clients is gone, and the tokens
-    /// are abandoned.
+    /// Gives the world up, and its members' stores back, in the order of their places, and that of who joins. What waits for clients is
+    /// gone, and the tokens are abandoned.
     ///
     /// Where memory runs out, the stores are dropped.
-    pub fn abandon(self) -> Result<Vec<S>, AllocError>
-        ensures { IfOk result (λ stores. stores.items ≡ map (λ m. m.node.store) self.chain.members) }
+    pub fn abandon(self) -> Result<(Vec<S>, Option<S>), AllocError>
+        ensures members { IfOk result (λ stores. stores.0.items ≡ map (λ m. m.node.store) self.chain.members) }
+        ensures joiner { IfOk result (λ stores. stores.1 ≡ self.joiner) }
     {
         let World {
             alloc: _,
             chain,
             clients: _,
             mut queues,
+            joiner,
         } = self;
         while let Some(queue) = queues.pop() {
             queue.abandon();
         }
         queues.destroy_empty();
-        chain.abandon()
+        let stores = chain.abandon()?;
+        match joiner {
+            Some(joiner) => Ok((stores, Some(joiner.into_store()))),
+            None => Ok((stores, None)),
+        }
     }
 }
 

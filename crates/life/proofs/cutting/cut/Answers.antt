@@ -14,7 +14,7 @@ returns c = subst (λ (w : Managed IsStore). AreCut about_of_store leaves_now di
   outside = c.cut_outside-outside.result.items;
   are = c.in_ok-append.ensures.items;
   members_cut = zip_mapped (IsCutAt about_of_store leaves_now disk_in c.args.cut) (λ m. m.node.store) c.managed.inside.world.chain.members c.in_ok-slots.slots.items
-      (subst (λ l. AllZip (IsCutAt about_of_store leaves_now disk_in c.args.cut) l c.in_ok-slots.slots.items) c.in_ok-abandon.ensures c.in_ok-slots.ensures);
+      (subst (λ l. AllZip (IsCutAt about_of_store leaves_now disk_in c.args.cut) l c.in_ok-slots.slots.items) c.in_ok-stores.ensures.members c.in_ok-slots.ensures);
   outside_cut = c.cut_outside-outside.ensures;
   config_is = subst (λ (d : MemDisk). IsCut c.args.cut d c.cut_one.result) c.into_disk.ensures c.cut_one.ensures;
 })

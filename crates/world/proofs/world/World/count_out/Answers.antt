@@ -1,13 +1,11 @@
-use Rattle.world.proofs.CallSteps.{moved_did, moved_alone, rested}
+use Rattle.std.proofs.Common.{refl}
+use Rattle.world.proofs.CallSteps.{moved_alone}
+use Rattle.world.proofs.InnerSteps.{rests_so}
+use Rattle.world.proofs.JoiningSteps.{is_none}
 use Rattle.world.proofs.world.World.count_out.Goals as goal
 
-pub returns-clause-out : goal.returns-clause-out
-returns-clause-out g c = λ yes. rw (← c.self.view_is) (moved_did _ _ _ _ (c.count_out.ensures.out yes))
+pub returns-then-is_none-clause-one_volume : goal.returns-then-is_none-clause-one_volume
+returns-then-is_none-clause-one_volume g c = λ premise. rw (← c.self.view_is) (moved_alone _ _ _ _ _ (is_none c.self.inside.joiner c.if-is_none.ensures) (c.count_out.ensures.one_volume premise))
 
-pub returns-clause-idle : goal.returns-clause-idle
-returns-clause-idle g c = λ no. rw (← c.self.view_is) (
-    let idle = c.count_out.ensures.idle no in
-    (idle.0, rested _ _ _ _ idle.1))
-
-pub returns-clause-one_volume : goal.returns-clause-one_volume
-returns-clause-one_volume g c = λ premise. rw (← c.self.view_is) (moved_alone _ _ _ _ (c.count_out.ensures.one_volume premise))
+pub returns-else-is_none-clause-one_volume : goal.returns-else-is_none-clause-one_volume
+returns-else-is_none-clause-one_volume g c = λ premise. rests_so _ _ _ _ _ refl

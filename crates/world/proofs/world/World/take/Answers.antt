@@ -44,7 +44,7 @@ returns-clause-taken g c = rw (← c.self.view_is) (
 pub returns-clause-one_volume : goal.returns-clause-one_volume
 returns-clause-one_volume g c = λ premise. rw (← c.self.view_is) (
     let here = queue_at _ _ c.args.at _ c.self.view_is c.self.invariant c.requires c.index_mut.ensures.value in
-    either_so g.S.StoreLike.about g.S.StoreLike.keeps g.S.StoreLike.may_leave_now _ _ c.args.at c.in_ok-demand.demand c.take.new.self (here ∙ ap Some c.in_ok-demand.ensures.first) refl _ _ _ _ _ _ c.ask-replies.result.refused
+    either_so g.S.StoreLike.about g.S.StoreLike.keeps g.S.StoreLike.may_leave_now _ _ c.args.at c.in_ok-demand.demand c.take.new.self (here ∙ ap Some c.in_ok-demand.ensures.first) refl refl _ _ _ _ _ _ c.ask-replies.result.refused
     (c.ask-replies.ensures.takes premise) (c.ask-replies.ensures.one_volume premise) c.ask-replies.ensures.refused c.tell_with.ensures.comes)
 
 pub returns-in_err-demand-clause-any_moment : goal.returns-in_err-demand-clause-any_moment
