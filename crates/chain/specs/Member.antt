@@ -3,9 +3,10 @@ use Rattle.std.specs.Prelude.{◌≡◌, ℕ, ◌≤◌, Option, Some, None, Lis
 use Rattle.board.specs.Seats.{BoardId, FoundFront, FoundGauge}
 use Rattle.flush_barrier.specs.Reply.{GivenReply}
 use Rattle.gate_journal.specs.Receipt.{Receipt}
+use Rattle.gate_journal.specs.declared.batch.TheConstants.{MAX_NUMBER}
 use Rattle.local_store.specs.About.{About, meaning_with}
 use Rattle.local_store.specs.Meaning.{Means}
-use Rattle.chain_steps.specs.Node.{NodeState, Out, durable_of}
+use Rattle.chain_steps.specs.Node.{NodeState, Out, durable_of, last_of}
 use Rattle.chain_steps.specs.Steps.{volume_at}
 use Rattle.chain_core.specs.Node.{Seen}
 use Rattle.world_model.specs.Backing as model
@@ -24,6 +25,12 @@ pub record Linked (S : Type 0) : Type 0 where
 pub record HasOwnDisk {S : Type 0} (about : S → About) (m : Linked S) : Type 0 where
   pub slot : (about m.node.store).slot ≡ m.node.state.place.slot
   pub incarnation : (about m.node.store).incarnation ≡ m.node.state.incarnation
+
+-- its durable front is known, what is known is applied, and each number is one that a write may have
+pub record IsInOrder (node : NodeState) : Type 0 where
+  pub behind : durable_of node ≤ node.known
+  pub ahead : node.known ≤ last_of node
+  pub limit : last_of node ≤ MAX_NUMBER
 
 -- this is of the board, and was found by the seat
 abbrev pub IsFrontOf : BoardId → ℕ → FoundFront → Type 0

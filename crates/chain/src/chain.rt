@@ -1,7 +1,7 @@
 ghost use Rattle.std.specs.Prelude.{◌≡◌, ◌<◌, All, IfSome, length, slice_get};
 ghost use Rattle.chain_steps.specs.Node.{durable_of, is_stopped, last_of};
 ghost use Rattle.chain_model.specs.View.{is_in};
-ghost use Rattle.chain.specs.Member.{HasOwnDisk};
+ghost use Rattle.chain.specs.Member.{HasOwnDisk, IsInOrder};
 
 use crate::links::Links;
 use crate::lone_board::LoneBoard;
@@ -162,7 +162,8 @@ impl<S: StoreLike + Drop> Chain<S> {
     /// The known commit of the member at a place.
     pub fn known(&self, at: usize) -> u64
         requires { at < length self.now.members }
-        ensures { IfSome (slice_get self.now.members at) (λ m. result ≡ m.node.state.known) }
+        ensures known { IfSome (slice_get self.now.members at) (λ m. result ≡ m.node.state.known) }
+        ensures order { IfSome (slice_get self.now.members at) (λ m. IsInOrder m.node.state) }
     {
         self.members[at].known()
     }

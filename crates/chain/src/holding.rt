@@ -120,6 +120,7 @@ impl<S: StoreLike + Drop> Chain<S> {
     {
         self.members[at].held_block(block)
     }
+
     /// The write of the number `n`, which the member at a place keeps: it lies above its durable front, and not above that of its last
     /// applied write.
     pub fn kept_write(&self, at: usize, n: u64) -> &Write

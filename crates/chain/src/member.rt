@@ -37,7 +37,7 @@ impl<S: StoreLike> Model for Member<S> {
 
 impl<S: StoreLike + Drop> Member<S> {
     ghost use Rattle.chain.specs.Joining.{HoldsAsTail, IsHolding};
-    ghost use Rattle.chain.specs.Member.{HasOwnDisk};
+    ghost use Rattle.chain.specs.Member.{HasOwnDisk, IsInOrder};
 
     /// Does nothing: its clause is what holds of every member.
     pub(crate) fn sound(&self)
@@ -111,8 +111,10 @@ impl<S: StoreLike + Drop> Member<S> {
 
     /// Its known commit.
     pub(crate) fn known(&self) -> u64
-        ensures { result ≡ self.now.node.state.known }
+        ensures known { result ≡ self.now.node.state.known }
+        ensures order { IsInOrder self.now.node.state }
     {
+        self.node.sound();
         self.node.known()
     }
 

@@ -68,6 +68,7 @@ impl<S: StoreLike + Drop> Node<S> {
             }
         }
     }
+
     /// The write of the number `n`, which lies above the durable front, and not above that of the last applied write.
     pub fn kept_write(&self, n: u64) -> &Write
         requires above { durable_of self.now.state < n }

@@ -29,20 +29,20 @@ pub record HasJoined {S : Type 0} (store : S) (receipt : Receipt) (old new : See
   pub are : new ≡ record old { chain = new.chain; joiner = Some store }
 
 -- somebody joins, and the record with it may be written now
-abbrev pub MayBegin : {S : Type 0} → (S → About) → Record → Seen S → Type 0
-MayBegin about next w = IsSomeAnd w.joiner (λ store. MayBeginJoin about store next w.chain)
+abbrev pub MayBeginWithJoiner : {S : Type 0} → (S → About) → Record → Seen S → Type 0
+MayBeginWithJoiner about next w = IsSomeAnd w.joiner (λ store. MayBeginJoin about store next w.chain)
 
 -- it is being written
-pub record HasBegun {S : Type 0} (next : Record) (old new : Seen S) : Type 0 where
+pub record HasBegunWithJoiner {S : Type 0} (next : Record) (old new : Seen S) : Type 0 where
   pub begun : HasBegunRecord next old.chain new.chain
   pub are : new ≡ record old { chain = new.chain }
 
 -- somebody joins, and the record with it is being written
-abbrev pub MayEnd : {S : Type 0} → (S → About) → Seen S → Type 0
-MayEnd about w = IsSomeAnd w.joiner (λ store. MayEndJoin about store w.chain)
+abbrev pub MayEndWithJoiner : {S : Type 0} → (S → About) → Seen S → Type 0
+MayEndWithJoiner about w = IsSomeAnd w.joiner (λ store. MayEndJoin about store w.chain)
 
 -- it is the recorded one: who joined is a member, for whom nothing waits
-pub record HasEnded {S : Type 0} (about : S → About) (old new : Seen S) : Type 0 where
+pub record HasEndedWithJoiner {S : Type 0} (about : S → About) (old new : Seen S) : Type 0 where
   pub store : S
   pub joined : old.joiner ≡ Some store
   pub ended : HasEndedJoin about store old.chain new.chain
@@ -122,13 +122,13 @@ CountsNobody about store receipt old world =
 pub record BeginsJoin {S D : Type 0} (about : S → About) (old new : Managing D) (world after : Seen S) : Type 0 where
   pub next : Record
   pub due : record_of old.manager ≡ Some next
-  pub may : MayBegin about next world
-  pub begun : HasBegun next world after
+  pub may : MayBeginWithJoiner about next world
+  pub begun : HasBegunWithJoiner next world after
   pub are : new ≡ record old { manager = begun_of old.manager }
 
 -- no record is the next order, or it may not come next with who joins
 abbrev pub BeginsNoJoin : {S D : Type 0} → (S → About) → Managing D → Seen S → Type 0
-BeginsNoJoin about old world = (record_of old.manager ≡ None) ⊎ ((next : Record) × (record_of old.manager ≡ Some next) × (MayBegin about next world → ⊥))
+BeginsNoJoin about old world = (record_of old.manager ≡ None) ⊎ ((next : Record) × (record_of old.manager ≡ Some next) × (MayBeginWithJoiner about next world → ⊥))
 
 -- the record was written to the disk; or one of its epoch stood there, and nothing changed
 abbrev pub HasRecorded : {D : Type 0} → Record → Managing D → Managing D → Type 0
@@ -139,14 +139,14 @@ pub record EndsJoin {S D : Type 0} (about : S → About) (old new : Managing D) 
   pub next : Record
   pub due : is_record (next_of old.manager) ≡ true
   pub written : world.chain.writing ≡ Some next
-  pub may : MayEnd about world
-  pub ended : HasEnded about world after
+  pub may : MayEndWithJoiner about world
+  pub ended : HasEndedWithJoiner about world after
   pub manager : new.manager ≡ done_of old.manager
   pub stands : HasRecorded next old (record new { manager = old.manager })
 
 -- no record is the next order, or none with who joins is being written
 abbrev pub EndsNoJoin : {S D : Type 0} → (S → About) → Managing D → Seen S → Type 0
-EndsNoJoin about old world = (is_record (next_of old.manager) ≡ false) ⊎ (MayEnd about world → ⊥)
+EndsNoJoin about old world = (is_record (next_of old.manager) ≡ false) ⊎ (MayEndWithJoiner about world → ⊥)
 
 -- memory ran out: the record may stand on the disk already
 abbrev pub HasOnlyRecorded : {S D : Type 0} → Managing D → Managing D → Seen S → Type 0

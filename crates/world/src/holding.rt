@@ -9,9 +9,11 @@ ghost use Rattle.chain.specs.Holding.{HasReadBlock, HoldsAt, MayNotHold, StopsRe
 ghost use Rattle.chain.specs.Member.{HasCalled};
 ghost use Rattle.chain.specs.Musters.{LacksAt};
 ghost use Rattle.clients.specs.Clients.{no_one};
+ghost use Rattle.world.specs.Joining.{HasNoTail, IsTailAt};
 ghost use Rattle.world.specs.Telling.{Answers, Moves, handed_lost, handed_some};
 ghost use Rattle.world.specs.World.{IsOfOneVolume};
 
+use crate::management::member_at;
 use crate::telling::tell;
 use crate::told::Told;
 use crate::world::World;
@@ -20,6 +22,17 @@ use local_store::StoreLike;
 use volume::Write;
 
 impl<S: StoreLike + Drop> World<S> {
+    /// The place of the recorded chain's tail, if it stands anywhere.
+    pub fn tail(&self) -> Option<usize>
+        ensures there { IfSome result (IsTailAt self.now.chain) }
+        ensures within { IfSome result (λ at. at < length self.now.chain.members) }
+        ensures nobody { IfNone result (HasNoTail self.now.chain) }
+    {
+        let members = self.recorded().members();
+        let tail = members[members.len() - 1];
+        member_at(self, tail.slot)
+    }
+
     /// The member at a place, the tail of the recorded chain, looks the committed front up, takes it as its known commit, and holds it for
     /// a joiner: it doesn't raise before it is told the next record. `None` where another member is at the place, or one that wasn't told
     /// the recorded chain, or once it stopped: nothing changed. Where memory runs out, it stops.

@@ -3,7 +3,7 @@ ghost use Rattle.std.specs.Prelude.{◌≡◌, ◌↔◌, ◌<◌, false, true, 
 ghost use Rattle.chain.specs.Joining.{IsCopyAt};
 ghost use Rattle.chain_core.specs.Node.{IsRunning};
 ghost use Rattle.clients.specs.Clients.{no_one};
-ghost use Rattle.world.specs.Joining.{HasBegun, HasEnded, HasGivenUp, HasJoined, IsKept, MayBegin, MayEnd, MayJoin};
+ghost use Rattle.world.specs.Joining.{HasBegunWithJoiner, HasEndedWithJoiner, HasGivenUp, HasJoined, IsKept, MayBeginWithJoiner, MayEndWithJoiner, MayJoin};
 ghost use Rattle.world.specs.World.{IsOfOneVolume};
 
 use crate::joiner::Joiner;
@@ -68,8 +68,8 @@ impl<S: StoreLike + Drop> World<S> {
     /// which is the incarnation of who joins; no other one is being written; and the store has the volume's sizes. `false` where that
     /// isn't so, or nobody joins: nothing changed.
     pub(crate) fn begin_join(&mut self, next: Record) -> bool
-        ensures begun { result ≡ true → MayBegin S.about next self.old × HasBegun next self.old self.new }
-        ensures idle { result ≡ false → ¬ MayBegin S.about next self.old × (self.new ≡ self.old) }
+        ensures begun { result ≡ true → MayBeginWithJoiner S.about next self.old × HasBegunWithJoiner next self.old self.new }
+        ensures idle { result ≡ false → ¬ MayBeginWithJoiner S.about next self.old × (self.new ≡ self.old) }
         ensures one_volume { S.keeps_model → IsOfOneVolume S.about S.keeps S.may_leave_now no_one no_one self.old self.new }
     {
         match &self.joiner {
@@ -80,7 +80,7 @@ impl<S: StoreLike + Drop> World<S> {
 
     /// Whether somebody joins, and the record with it is being written.
     pub(crate) fn may_end_join(&self) -> bool
-        ensures { IsTrue result ↔ MayEnd S.about self.now }
+        ensures { IsTrue result ↔ MayEndWithJoiner S.about self.now }
     {
         match &self.joiner {
             Some(joiner) => self.chain.may_end_join(joiner.store()),
@@ -92,8 +92,8 @@ impl<S: StoreLike + Drop> World<S> {
     /// waits. `false` where no such record was being written: nothing changed. 100 where memory runs out: nothing changed, and it can be
     /// tried again.
     pub(crate) fn end_join(&mut self) -> Result<bool, AllocError>
-        ensures ended { IfOk result (λ done. done ≡ true → MayEnd S.about self.old × HasEnded S.about self.old self.new) }
-        ensures idle { IfOk result (λ done. done ≡ false → ¬ MayEnd S.about self.old × (self.new ≡ self.old)) }
+        ensures ended { IfOk result (λ done. done ≡ true → MayEndWithJoiner S.about self.old × HasEndedWithJoiner S.about self.old self.new) }
+        ensures idle { IfOk result (λ done. done ≡ false → ¬ MayEndWithJoiner S.about self.old × (self.new ≡ self.old)) }
         ensures err { OnErr result (self.new ≡ self.old) }
         ensures one_volume { S.keeps_model → IsOfOneVolume S.about S.keeps S.may_leave_now no_one no_one self.old self.new }
     {

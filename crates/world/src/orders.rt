@@ -1,20 +1,21 @@
 //! The manager of a world carries the orders of a joining out.
-ghost use Rattle.std.specs.Prelude.{◌≡◌, ◌≢◌, ◌⊎◌, None, Some, false, length, true, IfErr, IfNone, IfOk, IfSome, IsErrOf, IsOk, OnErr, OnOk, ◌<◌, ℕ};
+ghost use Rattle.std.specs.Prelude.{◌≡◌, ◌≢◌, ◌⊎◌, None, Some, false, true, IfErr, IfNone, IfOk, IfSome, IsErrOf, IsOk, OnErr, OnOk, ℕ};
 ghost use Rattle.chain.specs.Joining.{IsCopyAt};
 ghost use Rattle.chain_core.specs.Node.{IsRunning};
+ghost use Rattle.configurations.specs.Record.{Record};
 ghost use Rattle.configurations.specs.Refusal.{HasCause, IsOfDevice, IsOfRecording};
-ghost use Rattle.configurations.specs.Store.{HoldsOldOrNew, HoldsRecord, IsSettledConfig};
+ghost use Rattle.configurations.specs.Store.{HoldsOldOrNew, HoldsRecord, IsNext, IsSettledConfig};
 ghost use Rattle.disk_model.specs.Disk.{LeavesOnly};
 ghost use Rattle.disk_model.specs.Part.{inside};
 ghost use Rattle.manager.specs.Manager.{abandoned, done_of, joining_of, next_of, why_no_abandoning, why_no_joining};
 ghost use Rattle.manager.specs.declared.refusal.Refusal.TheVariants as managers;
 ghost use Rattle.clients.specs.Clients.{no_one};
-ghost use Rattle.world.specs.Joining.{BeginsJoin, BeginsNoJoin, CountsIn, CountsNobody, EndsJoin, EndsNoJoin, GivesUp, HasNoTail, HasOnlyRecorded, HasRecorded, HoldsNext, HoldsNobody, IsTailAt, is_of_copying};
+ghost use Rattle.world.specs.Joining.{BeginsJoin, BeginsNoJoin, CountsIn, CountsNobody, EndsJoin, EndsNoJoin, GivesUp, HasOnlyRecorded, HasRecorded, HoldsNext, HoldsNobody, IsTailAt, is_of_copying};
 ghost use Rattle.world.specs.Management.{HoldsWritten, noted};
 ghost use Rattle.world.specs.Telling.{handed_some};
 ghost use Rattle.world.specs.World.{IsOfOneVolume};
 
-use crate::management::{Management, member_at};
+use crate::management::Management;
 use crate::told::Told;
 use crate::world::World;
 use configurations::{Record, Refusal};
@@ -87,7 +88,7 @@ impl<D: Disk + Drop> Management<D> {
         let Order::Hold(_) = self.next() else {
             return None;
         };
-        let at = tail_of(world)?;
+        let at = world.tail()?;
         let told = world.hold(at)?;
         self.manager.done();
         Some(told)
@@ -118,7 +119,7 @@ impl<D: Disk + Drop> Management<D> {
         if slot != store.slot() {
             return Err((store, receipt));
         }
-        let Some(at) = tail_of(world) else {
+        let Some(at) = world.tail() else {
             return Err((store, receipt));
         };
         world.count_in(at, store, receipt)?;
@@ -153,12 +154,14 @@ impl<D: Disk + Drop> Management<D> {
     /// written: nothing changed.
     ///
     /// What `ConfigStore::record` refuses: the record is being written still. After a refusal of the device it may stand on the disk, or
-    /// the one before; and then each such order is refused with 122. 100 may come once the record stands on the disk: the order can be
-    /// carried out again.
+    /// the one before. 122 comes only where a device call failed before, and 162 only where the record isn't the next one for the disk.
+    /// 100 may come once the record stands on the disk: the order can be carried out again.
     pub fn end_join<S: StoreLike + Drop>(&mut self, world: &mut World<S>) -> Result<bool, Refusal>
         ensures ended { IfOk result (λ done. done ≡ true → EndsJoin S.about self.old self.new world.old world.new) }
         ensures settled { D.keeps_model → IsSettledConfig self.old.config (D.gives self.old.disk) (D.may_leave_now self.old.disk)
             → OnOk result (IsSettledConfig self.new.config (D.gives self.new.disk) (D.may_leave_now self.new.disk)) }
+        ensures settled_still { D.keeps_model → IsSettledConfig self.old.config (D.gives self.old.disk) (D.may_leave_now self.old.disk)
+            → IfErr result (λ r. ¬ IsOfDevice r → IsSettledConfig self.new.config (D.gives self.new.disk) (D.may_leave_now self.new.disk)) }
         ensures idle { IfOk result (λ done. done ≡ false → EndsNoJoin S.about self.old world.old × ((self.new ≡ self.old) × (world.new ≡ world.old))) }
         ensures world { OnErr result (world.new ≡ world.old) }
         ensures manager { OnErr result (self.new.manager ≡ self.old.manager) }
@@ -166,6 +169,8 @@ impl<D: Disk + Drop> Management<D> {
         ensures told { IfErr result IsOfRecording }
         ensures cause { HasCause (D.failures self.old.disk) (D.failures self.new.disk) result }
         ensures device { IfErr result (λ r. IsOfDevice r → self.new.config ≡ record self.old.config { pair = record self.old.config.pair { is_closed = self.new.config.pair.is_closed; broken = true } }) }
+        ensures broken { IsErrOf result Refusal.Broken → self.old.config.pair.broken ≡ true }
+        ensures not_next { IsErrOf result Refusal.NotNext → (next : Record) → world.old.chain.writing ≡ Some next → ¬ IsNext self.old.config next.epoch }
 
         // A stop at any moment of the call leaves the record that was there, or the one that is being written.
         ensures any_moment { D.keeps_model → IsSettledConfig self.old.config (D.gives self.old.disk) (D.may_leave_now self.old.disk)
@@ -197,6 +202,8 @@ impl<D: Disk + Drop> Management<D> {
         ensures told { IfErr result IsOfRecording }
         ensures cause { HasCause (D.failures self.old.disk) (D.failures self.new.disk) result }
         ensures device { IfErr result (λ r. IsOfDevice r → self.new.config ≡ record self.old.config { pair = record self.old.config.pair { is_closed = self.new.config.pair.is_closed; broken = true } }) }
+        ensures broken { IsErrOf result Refusal.Broken → self.old.config.pair.broken ≡ true }
+        ensures not_next { IsErrOf result Refusal.NotNext → ¬ IsNext self.old.config next.epoch }
         ensures any_moment { D.keeps_model → IsSettledConfig self.old.config (D.gives self.old.disk) (D.may_leave_now self.old.disk)
             → LeavesOnly D.moment D.may_have_left_since self.old.disk self.new.disk (λ c. HoldsOldOrNew self.old.config.current next (inside self.old.config.pair.part c)) }
     {
@@ -205,15 +212,4 @@ impl<D: Disk + Drop> Management<D> {
         }
         self.config.record(self.alloc, &mut self.disk, next)
     }
-}
-
-/// The place of the recorded chain's tail, if it stands anywhere.
-fn tail_of<S: StoreLike + Drop>(world: &World<S>) -> Option<usize>
-    ensures there { IfSome result (IsTailAt world.now.chain) }
-    ensures within { IfSome result (λ at. at < length world.now.chain.members) }
-    ensures nobody { IfNone result (HasNoTail world.now.chain) }
-{
-    let members = world.recorded().members();
-    let tail = members[members.len() - 1];
-    member_at(world, tail.slot)
 }

@@ -39,7 +39,7 @@ impl<S: StoreLike> Model for World<S> {
 
 impl<S: StoreLike + Drop> World<S> {
     ghost use Rattle.chain.specs.Chain as chains;
-    ghost use Rattle.chain.specs.Member.{HasOwnDisk};
+    ghost use Rattle.chain.specs.Member.{HasOwnDisk, IsInOrder};
     ghost use Rattle.clients.specs.Clients.{AreSessions};
     ghost use Rattle.world.specs.World.{HasNoClients, IsJoined, Shows};
     ghost use Rattle.chain_model.specs.View.{View};
@@ -162,7 +162,8 @@ impl<S: StoreLike + Drop> World<S> {
     /// The known commit of the member at a place.
     pub fn known(&self, at: usize) -> u64
         requires { at < length self.now.chain.members }
-        ensures { IfSome (slice_get self.now.chain.members at) (λ m. result ≡ m.node.state.known) }
+        ensures known { IfSome (slice_get self.now.chain.members at) (λ m. result ≡ m.node.state.known) }
+        ensures order { IfSome (slice_get self.now.chain.members at) (λ m. IsInOrder m.node.state) }
     {
         self.chain.known(at)
     }

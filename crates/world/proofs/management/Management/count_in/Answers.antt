@@ -12,8 +12,8 @@ returns-in_default g c = record {
 pub returns-then-ne-clause-one_volume : goal.returns-then-ne-clause-one_volume
 returns-then-ne-clause-one_volume g c = λ premise copy. rests_so _ _ _ _ _ refl
 
-pub returns-in_default-tail_of-clause-one_volume : goal.returns-in_default-tail_of-clause-one_volume
-returns-in_default-tail_of-clause-one_volume g c = λ premise copy. rests_so _ _ _ _ _ refl
+pub returns-in_default-tail-clause-one_volume : goal.returns-in_default-tail-clause-one_volume
+returns-in_default-tail-clause-one_volume g c = λ premise copy. rests_so _ _ _ _ _ refl
 
 pub returns-in_err-count_in-clause-one_volume : goal.returns-in_err-count_in-clause-one_volume
 returns-in_err-count_in-clause-one_volume g c = λ premise copy. rests_so _ _ _ _ _ c.in_err-count_in.ensures.back.1.1.1
