@@ -4,6 +4,7 @@ ghost use Rattle.std.specs.Prelude.{◌≤◌};
 use crate::fault::Fault;
 use crate::formatting::{self, format_folder};
 use crate::playing::{self, play_file, print_commands};
+use crate::recovering::{self, recover_folder};
 use crate::serving::{self, serve_folder};
 use clap::error::ErrorKind;
 use clap::{Arg, ArgAction, ArgMatches, Command, Error};
@@ -29,7 +30,8 @@ const REFUSED: u8 = 1;
 /// The status after a fault of the words.
 const WORD_FAULT: u8 = 2;
 
-/// The program: its words, its streams and its status. `format DIR` makes a folder of disks, and `serve DIR` serves it.
+/// The program: its words, its streams and its status. `format DIR` makes a folder of disks, `recover DIR` brings its chain back whole, and
+/// `serve DIR` serves it.
 /// `sim FILE` plays a script, and no words play the script on the input. A refusal goes to `errors`, status 1, and so does a
 /// fault of the words, status 2.
 pub fn command<R, I: BufRead, O: Write, E: Write>(
@@ -83,6 +85,7 @@ fn program<'a>(alloc: Global) -> Result<Command<'a>, AllocError> {
         .about("A replicated virtual disk. Without words, plays the script on the input.")
         .arg(version)?
         .subcommand(formatting::words(alloc)?)?
+        .subcommand(recovering::words(alloc)?)?
         .subcommand(serving::words(alloc)?)?
         .subcommand(playing::words(alloc)?)?
         .subcommand(playing::script_words(alloc)?)
@@ -113,6 +116,7 @@ where
     }
     match matches.subcommand() {
         Some(("format", format)) => format_folder(rt, format, output),
+        Some(("recover", recover)) => recover_folder(rt, recover, output),
         Some(("serve", serve)) => serve_folder(rt, serve, output),
         Some(("script", _)) => Ok(print_commands(output)?),
         Some((_, sim)) => Ok(play_file(rt, sim, output, errors)?),

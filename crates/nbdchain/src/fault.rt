@@ -1,9 +1,10 @@
 use folder::Failure;
+use gate_journal::Slot;
 use simulator::Refusal;
 use std::alloc::{AllocError, AllocFailed};
 use std::{fmt, io};
 
-/// Why a disk is not formatted or served. It prints the refusal in a line, with the path of the file and the system's reason,
+/// Why a disk is not formatted, recovered or served. It prints the refusal in a line, with the path of the file and the system's reason,
 /// where there is one.
 #[derive(Debug, Drop)]
 pub(crate) enum Fault<'a> {
@@ -13,8 +14,31 @@ pub(crate) enum Fault<'a> {
     Layout(folder::Refusal),
     /// A file of this folder is at fault.
     Folder { dir: &'a str, failure: Failure },
+    /// The disk of a slot isn't rebuilt.
+    Unrebuilt(Slot, Standstill),
     /// Nobody can be served, or nobody more.
     Server(server::Refusal),
+}
+
+/// Why a chain doesn't rebuild a disk.
+#[derive(Debug, Drop)]
+pub(crate) enum Standstill {
+    /// Its manager refuses.
+    Manager(manager::Refusal),
+    /// Its tail has stopped: 154.
+    TailStopped,
+    /// Another change is under way: 171.
+    OutOfOrder,
+}
+
+impl fmt::Display for Standstill {
+    fn fmt<W: fmt::Write>(&self, f: &mut fmt::Formatter<W>) -> fmt::Result {
+        match self {
+            Standstill::Manager(refusal) => write!(f, "{refusal}"),
+            Standstill::TailStopped => f.write_str("154 Stopped"),
+            Standstill::OutOfOrder => f.write_str("171 OneAtATime"),
+        }
+    }
 }
 
 impl fmt::Display for Fault<'_> {
@@ -23,6 +47,10 @@ impl fmt::Display for Fault<'_> {
             Fault::Own(refusal) => write!(f, "{refusal}"),
             Fault::Layout(refusal) => write!(f, "{refusal}"),
             Fault::Folder { dir, failure } => print_failure(f, dir, failure),
+            Fault::Unrebuilt(slot, refusal) => {
+                let number = slot.number();
+                write!(f, "{refusal}: slot {number} isn't rebuilt")
+            }
             Fault::Server(refusal) => write!(f, "{refusal}"),
         }
     }

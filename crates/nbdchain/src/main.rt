@@ -1,7 +1,8 @@
 //! `nbdchain`: a replicated virtual disk for clients of the Network Block Device protocol.
 //!
-//! `format` makes a folder of disks, and `serve` serves it: what a folder's disks mean is `folder`'s, what a call of the served chain
-//! does is `service`'s, and the threads round it are `server`'s. `sim` plays a script over disks in memory, by `simulator`.
+//! `format` makes a folder of disks, `recover` brings its chain back whole, and `serve` serves it: what a folder's disks mean is `folder`'s,
+//! how others are rebuilt from one is `comeback`'s, what a call of the served chain does is `service`'s, and the threads round it are
+//! `server`'s. `sim` plays a script over disks in memory, by `simulator`.
 #![tactic(auto)]
 
 use crate::fault::Fault;
@@ -19,6 +20,7 @@ mod command;
 mod fault;
 mod formatting;
 mod playing;
+mod recovering;
 mod serving;
 
 pub use command::command;
