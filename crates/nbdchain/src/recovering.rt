@@ -15,7 +15,8 @@ use std::fs::{File, Files};
 use std::io::Write;
 
 /// An example of the command.
-const EXAMPLE: &str = "Example: the chain of the folder goes on from the disk that has most, and the others get what that has:
+const EXAMPLE: &str =
+    "Example: the chain of the folder goes on from the disk that has most, and the others get what that has:
   nbdchain recover disk";
 
 /// The words of the command.
@@ -125,7 +126,10 @@ fn unrebuilt<'a>(dir: &'a str, slot: Slot, refusal: NotRebuilt<FileDisk>) -> Fau
         NotRebuilt::Disk(refusal, _) => (FileName::Slot(slot), folder::Refusal::Store(refusal)),
         NotRebuilt::Config(refusal) => (FileName::Config, folder::Refusal::Chain(refusal)),
         NotRebuilt::Memory => (FileName::Slot(slot), folder::Refusal::Memory),
-        NotRebuilt::Manager(refusal, _) => return Fault::Unrebuilt(slot, Standstill::Manager(refusal)),
+        NotRebuilt::Manager(refusal, _) => return Fault::Unrebuilt(
+            slot,
+            Standstill::Manager(refusal),
+        ),
         NotRebuilt::TailStopped => return Fault::Unrebuilt(slot, Standstill::TailStopped),
         NotRebuilt::OutOfOrder => return Fault::Unrebuilt(slot, Standstill::OutOfOrder),
     };
