@@ -1,11 +1,12 @@
 -- What contracts see of a member with what of the board it has in use, and as which member of a view it is shown.
-use Rattle.std.specs.Prelude.{◌≡◌, ℕ, ◌≤◌, Option, Some, None, List, [], ◌∷◌, length, map}
+use Rattle.std.specs.Prelude.{◌≡◌, ℕ, ◌≤◌, Option, Some, None, List, [], ◌∷◌, All, length, map}
 use Rattle.board.specs.Seats.{BoardId, FoundFront, FoundGauge}
 use Rattle.flush_barrier.specs.Reply.{GivenReply}
 use Rattle.gate_journal.specs.Receipt.{Receipt}
 use Rattle.gate_journal.specs.declared.batch.TheConstants.{MAX_NUMBER}
 use Rattle.local_store.specs.About.{About, meaning_with}
 use Rattle.local_store.specs.Meaning.{Means}
+use Rattle.volume.specs.Writes.{Fits}
 use Rattle.chain_steps.specs.Node.{NodeState, Out, durable_of, last_of}
 use Rattle.chain_steps.specs.Steps.{volume_at}
 use Rattle.chain_core.specs.Node.{Seen}
@@ -25,6 +26,10 @@ pub record Linked (S : Type 0) : Type 0 where
 pub record HasOwnDisk {S : Type 0} (about : S → About) (m : Linked S) : Type 0 where
   pub slot : (about m.node.store).slot ≡ m.node.state.place.slot
   pub incarnation : (about m.node.store).incarnation ≡ m.node.state.incarnation
+
+-- the writes that it keeps lie in a volume of so many bytes
+abbrev pub KeepsInside : {S : Type 0} → ℕ → Linked S → Type 0
+KeepsInside size m = All (λ k. Fits size k.write) m.node.state.table.kept
 
 -- its durable front is known, what is known is applied, and each number is one that a write may have
 pub record IsInOrder (node : NodeState) : Type 0 where

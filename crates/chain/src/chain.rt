@@ -1,7 +1,8 @@
 ghost use Rattle.std.specs.Prelude.{◌≡◌, ◌<◌, All, IfSome, length, slice_get};
 ghost use Rattle.chain_steps.specs.Node.{durable_of, is_stopped, last_of};
 ghost use Rattle.chain_model.specs.View.{is_in};
-ghost use Rattle.chain.specs.Member.{HasOwnDisk, IsInOrder};
+ghost use Rattle.chain.specs.Chain.{bytes_of};
+ghost use Rattle.chain.specs.Member.{HasOwnDisk, IsInOrder, KeepsInside};
 
 use crate::links::Links;
 use crate::lone_board::LoneBoard;
@@ -71,9 +72,10 @@ impl<S: StoreLike> Model for Chain<S> {
 }
 
 impl<S: StoreLike + Drop> Chain<S> {
-    /// Does nothing: its clause is what holds of all members.
+    /// Does nothing: its clauses are what holds of all members.
     pub fn sound(&self)
-        ensures { All (HasOwnDisk S.about) self.now.members }
+        ensures own { All (HasOwnDisk S.about) self.now.members }
+        ensures inside { All (KeepsInside (bytes_of self.now)) self.now.members }
     {
         for member in &self.members {
             member.sound();

@@ -37,11 +37,13 @@ impl<S: StoreLike> Model for Member<S> {
 
 impl<S: StoreLike + Drop> Member<S> {
     ghost use Rattle.chain.specs.Joining.{HoldsAsTail, IsHolding};
-    ghost use Rattle.chain.specs.Member.{HasOwnDisk, IsInOrder};
+    ghost use Rattle.chain.specs.Member.{HasOwnDisk, IsInOrder, KeepsInside};
+    ghost use Rattle.chain_core.specs.Node.{size_of};
 
-    /// Does nothing: its clause is what holds of every member.
+    /// Does nothing: its clauses are what holds of every member.
     pub(crate) fn sound(&self)
-        ensures { HasOwnDisk S.about self.now }
+        ensures own { HasOwnDisk S.about self.now }
+        ensures inside { KeepsInside (size_of (S.about self.now.node.store)) self.now }
     {
         self.node.sound();
     }

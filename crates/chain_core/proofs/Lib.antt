@@ -5,7 +5,7 @@ mod Blanks
 mod Counting
 mod Grouping
 mod HeldFronts
-mod Images
+pub mod Images
 mod KeptWrites
 mod Ranges
 mod Settling

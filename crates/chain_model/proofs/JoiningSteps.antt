@@ -1,9 +1,9 @@
 -- One that joins stays ready, whatever else happens in its chain: lemmas.
-use Rattle.std.proofs.Common.{◌≡◌, ◌≢◌, inl, inr, ℕ, ◌==◌, ◌-◌, ◌<◌, true, false, None, Some, List, [], ◌∷◌, ◌++◌, length, map, take, refl, sym, ◌∙◌, ap, subst, arith}
+use Rattle.std.proofs.Common.{◌≡◌, ◌≢◌, inl, inr, ℕ, ◌==◌, ◌-◌, ◌<◌, ◌≤◌, true, false, None, Some, List, [], ◌∷◌, ◌++◌, length, map, take, refl, sym, ◌∙◌, ap, subst, arith}
 use Rattle.std.specs.Prelude.{All, nat_le}
 use Rattle.std.specs.Option.{ForSome}
 use Rattle.std.proofs.lemmas.Bool.{cases_Bool, le-leb}
-use Rattle.std.proofs.lemmas.List.{append-nil, append_assoc, length-append, length-map, map-append, take-map}
+use Rattle.std.proofs.lemmas.List.{append-nil, append_assoc, length-append, length-map, map-append, take-append-le, take-map}
 use Rattle.std.proofs.lemmas.List.Elements.{All-append, All-cons, All-head, All-tail}
 use Rattle.board.specs.Mask.{counts}
 use Rattle.configurations.specs.Record.{Record}
@@ -67,6 +67,16 @@ pub volume_stays : (size : ℕ) (s t : State) (moves : List Move) (front : ℕ) 
 volume_stays size s t moves front run same =
     let writes_same : writes t ≡ writes s = none_more (writes s) (writes t) (run_takes s moves t run) (length-map t.taken write_of ∙ same ∙ sym (length-map s.taken write_of)) in
     ap (volume_of size) (sym (take-map write_of front t.taken) ∙ ap (take front) writes_same ∙ take-map write_of front s.taken)
+
+-- a volume of what was taken stays, whatever is taken behind it
+pub volume_grows : (size : ℕ) (s t : State) (moves : List Move) (front : ℕ) → RunsOn s moves t → front ≤ length s.taken → (machine_volume size t front ≡ machine_volume size s front) × (length s.taken ≤ length t.taken)
+volume_grows size s t moves front run within =
+    let (more, grown) = run_takes s moves t run in
+    let long = length-map s.taken write_of in
+    let first : take front (writes s ++ more) ≡ take front (writes s) = take-append-le front (writes s) more (omega (arith, within, long)) in (
+      ap (volume_of size) (sym (take-map write_of front t.taken) ∙ ap (take front) grown ∙ first ∙ take-map write_of front s.taken),
+      omega (arith, long, length-map t.taken write_of, ap length grown, length-append (writes s) more),
+    )
 
 -- ---- what a joiner needs
 

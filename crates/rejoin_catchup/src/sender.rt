@@ -85,6 +85,13 @@ impl Sender {
         }
     }
 
+    /// The number of the volume's blocks.
+    pub fn blocks(&self) -> usize
+        ensures { result ≡ length self.now.marks }
+    {
+        self.marks.len()
+    }
+
     /// Whether each block was given once.
     pub fn has_given_all(&self) -> bool
         ensures { IsTrue result ↔ (self.now.given ≡ length self.now.marks) }

@@ -4,7 +4,7 @@ mod CallSteps
 mod FeedSteps
 pub mod Going
 pub mod GoingOn
-mod InnerSteps
+pub mod InnerSteps
 mod JoinedSteps
 mod JoiningSteps
 mod ManagingSteps

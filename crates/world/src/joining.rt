@@ -52,6 +52,7 @@ impl<S: StoreLike + Drop> World<S> {
     /// Who joins is given up: the store comes back. `None` where nobody joins, or a record is being written: nothing changed.
     pub(crate) fn give_up(&mut self) -> Option<S>
         ensures given { IfSome result (λ store. HasGivenUp store self.old self.new) }
+        ensures runs { IfSome result (λ store. IsRunning (S.about store) (record { premise = S.keeps_model; keeps = S.keeps store })) }
         ensures idle { IfNone result (IsKept self.old × (self.new ≡ self.old)) }
         ensures one_volume { S.keeps_model → IsOfOneVolume S.about S.keeps S.may_leave_now no_one no_one self.old self.new }
     {

@@ -165,6 +165,7 @@ impl<D: Disk + Drop> Management<D> {
         ensures cause { HasCause (D.failures self.old.disk) (D.failures self.new.disk) result }
         ensures device { IfErr result (λ r. IsOfDevice r → self.new.config ≡ record self.old.config { pair = record self.old.config.pair { is_closed = self.new.config.pair.is_closed; broken = true } }) }
         ensures broken { self.old.config.pair.broken ≡ true → IfErr result (λ r. ¬ IsOfDevice r) × IfOk result (λ done. done ≡ false) }
+        ensures attempted { IfErr result (λ r. IsOfDevice r → (next : Record) → world.old.chain.writing ≡ Some next → self.old.config.current.epoch ≢ next.epoch) }
 
         // A stop at any moment of the call leaves the record that was there, or the one that is being written.
         ensures any_moment { D.keeps_model → IsSettledConfig self.old.config (D.gives self.old.disk) (D.may_leave_now self.old.disk)

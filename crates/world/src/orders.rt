@@ -52,6 +52,7 @@ impl<D: Disk + Drop> Management<D> {
     ) -> Result<Option<S>, manager::Refusal>
         ensures done { OnOk result (self.new ≡ record self.old { manager = abandoned self.old.manager }) }
         ensures given_up { IfOk result (λ given. GivesUp given world.old world.new) }
+        ensures runs { IfOk result (λ given. IfSome given (λ store. IsRunning (S.about store) (record { premise = S.keeps_model; keeps = S.keeps store }))) }
         ensures ok { IsOk result → why_no_abandoning self.old.manager ≡ None }
         ensures refused { IfErr result (λ e. e ≢ managers.Memory → why_no_abandoning self.old.manager ≡ Some e) }
         ensures memory { IsErrOf result managers.Memory → why_no_abandoning self.old.manager ≡ None }
@@ -170,6 +171,8 @@ impl<D: Disk + Drop> Management<D> {
         ensures cause { HasCause (D.failures self.old.disk) (D.failures self.new.disk) result }
         ensures device { IfErr result (λ r. IsOfDevice r → self.new.config ≡ record self.old.config { pair = record self.old.config.pair { is_closed = self.new.config.pair.is_closed; broken = true } }) }
         ensures broken { IsErrOf result Refusal.Broken → self.old.config.pair.broken ≡ true }
+        ensures untouched { self.old.config.pair.broken ≡ true → (self.new.config ≡ self.old.config) × (self.new.disk ≡ self.old.disk) }
+        ensures attempted { IfErr result (λ r. IsOfDevice r → (next : Record) → world.old.chain.writing ≡ Some next → self.old.config.current.epoch ≢ next.epoch) }
         ensures not_next { IsErrOf result Refusal.NotNext → (next : Record) → world.old.chain.writing ≡ Some next → ¬ IsNext self.old.config next.epoch }
 
         // A stop at any moment of the call leaves the record that was there, or the one that is being written.
@@ -203,6 +206,8 @@ impl<D: Disk + Drop> Management<D> {
         ensures cause { HasCause (D.failures self.old.disk) (D.failures self.new.disk) result }
         ensures device { IfErr result (λ r. IsOfDevice r → self.new.config ≡ record self.old.config { pair = record self.old.config.pair { is_closed = self.new.config.pair.is_closed; broken = true } }) }
         ensures broken { IsErrOf result Refusal.Broken → self.old.config.pair.broken ≡ true }
+        ensures untouched { self.old.config.pair.broken ≡ true → (self.new.config ≡ self.old.config) × (self.new.disk ≡ self.old.disk) }
+        ensures attempted { IfErr result (λ r. IsOfDevice r → self.old.config.current.epoch ≢ next.epoch) }
         ensures not_next { IsErrOf result Refusal.NotNext → ¬ IsNext self.old.config next.epoch }
         ensures any_moment { D.keeps_model → IsSettledConfig self.old.config (D.gives self.old.disk) (D.may_leave_now self.old.disk)
             → LeavesOnly D.moment D.may_have_left_since self.old.disk self.new.disk (λ c. HoldsOldOrNew self.old.config.current next (inside self.old.config.pair.part c)) }

@@ -39,7 +39,8 @@ impl<S: StoreLike> Model for World<S> {
 
 impl<S: StoreLike + Drop> World<S> {
     ghost use Rattle.chain.specs.Chain as chains;
-    ghost use Rattle.chain.specs.Member.{HasOwnDisk, IsInOrder};
+    ghost use Rattle.chain.specs.Chain.{bytes_of};
+    ghost use Rattle.chain.specs.Member.{HasOwnDisk, IsInOrder, KeepsInside};
     ghost use Rattle.clients.specs.Clients.{AreSessions};
     ghost use Rattle.world.specs.World.{HasNoClients, IsJoined, Shows};
     ghost use Rattle.chain_model.specs.View.{View};
@@ -85,6 +86,7 @@ impl<S: StoreLike + Drop> World<S> {
         ensures joined { IsJoined self.now }
         ensures sessions { AreSessions self.now.sessions }
         ensures disks { All (HasOwnDisk S.about) self.now.chain.members }
+        ensures inside { All (KeepsInside (bytes_of self.now.chain)) self.now.chain.members }
     {
         self.clients.sound();
         self.chain.sound();
