@@ -1,13 +1,13 @@
 -- A chain that begins with one store.
-use Rattle.std.proofs.Common.{◌≡◌, ◌⊎◌, ◌∙◌, ap, inl, inr, ℕ, List, [], ◌∷◌, length, map, sym, subst, arith}
+use Rattle.std.proofs.Common.{◌≡◌, ◌∙◌, ap, ℕ, List, [], ◌∷◌, length, map, sym, subst, arith}
 use Rattle.std.specs.Prelude.{All, IfSome, slice_get}
 use Rattle.std.proofs.lemmas.List.Elements.{All-cons, All-nil}
 use Rattle.configurations.specs.Record.{Record}
 use Rattle.std.proofs.lemmas.List.{get_or-map, length-map}
-use Rattle.local_store.specs.About.{About, migrated}
+use Rattle.local_store.specs.About.{About}
 use Rattle.chain.specs.Chain.{Chained}
 use Rattle.chain.specs.Opening.{beginning_of, words_of}
-use Rattle.joining.specs.Rebuilding.{AllKeep, IsAtFront}
+use Rattle.joining.specs.Rebuilding.{IsAtFront}
 use Rattle.comeback.specs.Returning.{IsSet}
 
 -- the member of a store is at the front that the store tells
@@ -33,14 +33,9 @@ is_set about told store items c one recorded sizes words members =
 of_map : {A B : Type 0} (f : A → B) (Q : B → Type 0) (xs : List A) → All Q (map f xs) → All (λ x. Q (f x)) xs
 of_map f Q xs all k d within = subst Q (get_or-map f xs k d (f d) within) (all k (f d) (rw (length-map xs f) within))
 
--- the one member has what its store has
-pub keep_one : {S : Type 0} (keeps : S → List ℕ → Type 0) (store : S) (volume : List ℕ) (c : Chained S) → map (λ m. m.node.store) c.members ≡ store ∷ [] → keeps store volume → AllKeep keeps volume c
-keep_one keeps store volume c one kept = of_map (λ m. m.node.store) (λ s. keeps s volume) c.members (subst (All (λ s. keeps s volume)) (sym one) (All-cons (λ s. keeps s volume) store [] kept (All-nil (λ s. keeps s volume))))
+-- what holds of the store holds of the one member's
+pub hold_one : {S : Type 0} (Q : S → Type 0) (store : S) (c : Chained S) → map (λ m. m.node.store) c.members ≡ store ∷ [] → Q store → All (λ m. Q m.node.store) c.members
+hold_one Q store c one holds = of_map (λ m. m.node.store) Q c.members (subst (All Q) (sym one) (All-cons Q store [] holds (All-nil Q)))
 
 pub alone_one : {S : Type 0} (store : S) (c : Chained S) → map (λ m. m.node.store) c.members ≡ store ∷ [] → length c.members ≡ 1
 alone_one store c one = sym (length-map c.members (λ m. m.node.store)) ∙ ap (λ l. length l) one
-
--- migrated or not, the store is at its front, with its sizes
-pub as_it_was : (was now : About) → (now ≡ was) ⊎ (now ≡ migrated was) → (now.front ≡ was.front) × (now.geometry ≡ was.geometry)
-as_it_was was now (inl same) = (ap (λ a. a.front) same, ap (λ a. a.geometry) same)
-as_it_was was now (inr same) = (ap (λ a. a.front) same, ap (λ a. a.geometry) same)

@@ -1,8 +1,9 @@
 -- What contracts see of a chain that comes back.
-use Rattle.std.specs.Prelude.{◌≡◌, ℕ, Bool, false, List, [], ◌∷◌, length, map}
+use Rattle.std.specs.Prelude.{◌≡◌, ℕ, Bool, false, None, List, [], ◌∷◌, length, map, replicate}
 use Rattle.configurations.specs.Record.{Record}
-use Rattle.folder.specs.Chain.{HasRecord}
-use Rattle.folder.specs.Disks.{IsSourceOf}
+use Rattle.manager.specs.Manager as managers
+use Rattle.folder.specs.Chain.{HasRecord, alone_after}
+use Rattle.folder.specs.Disks.{IsSourceOf, member_of}
 use Rattle.local_store.specs.About.{About}
 use Rattle.local_store.specs.Meaning.{Meaning}
 use Rattle.chain.specs.Chain.{Chained}
@@ -28,8 +29,18 @@ pub record IsSet {S : Type 0} (about : S → About) (told : Record) (store : S) 
   pub one : map (λ m. m.node.store) c.members ≡ store ∷ []
   pub quiet : IsQuiet c
 
+-- what a manager knows of a chain with this record, of which no member has stopped, with no change under way
+abbrev pub at_rest : Record → managers.State
+at_rest r = record { chain = r; stopped = replicate 8 false; joining = None; coming = r.members; begun = false; left = [] }
+
+-- it has no clients, nobody joins it, and no record is being written
+pub record IsIdle {S : Type 0} (w : Seen S) : Type 0 where
+  pub clients : w.sessions.clients ≡ []
+  pub joiner : w.joiner ≡ None
+  pub writing : w.chain.writing ≡ None
+
 -- The configuration's disk had recorded a chain, and the disk at this place is the source among these for it. The chain begins at the front
--- that this disk means, alone, with the sizes and the volume there.
+-- that this disk means, alone, with the sizes and the volume there; recorded now is its member alone, in the next epoch.
 pub record ComesBack {S : Type 0} (keeps : S → List ℕ → Type 0) (config : List ℕ) (disks : List (List ℕ)) (place : ℕ) (c : Chained S) : Type 0 where
   pub old : Record
   pub recorded : HasRecord old config
@@ -39,3 +50,4 @@ pub record ComesBack {S : Type 0} (keeps : S → List ℕ → Type 0) (config : 
   pub sizes : c.geometry ≡ meaning.geometry
   pub alone : length c.members ≡ 1
   pub keep : AllKeep keeps meaning.volume c
+  pub next : c.recorded ≡ alone_after old (member_of meaning)

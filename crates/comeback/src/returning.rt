@@ -1,10 +1,12 @@
 //! A chain that comes back.
-ghost use Rattle.std.specs.Prelude.{◌≡◌, ◌≢◌, ◌∷◌, ◌*◌, ◌+◌, ◌≤◌, [], List, ℕ, false, length, map, true, IfErr, IfOk, OnOk};
-ghost use Rattle.comeback.specs.Returning.{IsSet};
+ghost use Rattle.std.specs.Prelude.{◌≡◌, ◌≢◌, ◌↔◌, ◌∷◌, ◌*◌, ◌+◌, ◌≤◌, [], List, Ok, ℕ, false, length, map, true, IfErr, IfOk, IsErrOf, OnErr, OnOk};
+ghost use Rattle.comeback.specs.Returning.{IsIdle, IsSet, at_rest};
 ghost use Rattle.folder.specs.Found.{IsRunning, member_in};
 ghost use Rattle.home_blocks.specs.Places.{disk_size_of};
-ghost use Rattle.joining.specs.Rebuilding.{AllKeep, HasOneMore, IsQuiet};
+ghost use Rattle.joining.specs.Rebuilding.{AllKeep, HasOneMore};
+ghost use Rattle.joining.specs.Refusing.{RefusesRebuilding};
 ghost use Rattle.local_store.specs.About.{IsOfVersionTwo};
+ghost use Rattle.manager.specs.Manager.{next_of};
 
 use chain::Chain;
 use configurations::{ConfigStore, Record};
@@ -57,6 +59,8 @@ impl<D: Disk + Drop> Comeback<Store<D>, D> {
         ensures front { IfOk result (λ c. c.world.chain.words.front ≡ (⟦<Store<D> as StoreLike>⟧.about store).front) }
         ensures sizes { IfOk result (λ c. c.world.chain.geometry ≡ (⟦<Store<D> as StoreLike>⟧.about store).geometry) }
         ensures one { IfOk result (λ c. map (λ m. m.node.store) c.world.chain.members ≡ store ∷ []) }
+        ensures idle { IfOk result (λ c. IsIdle c.world) }
+        ensures manager { IfOk result (λ c. c.management.manager ≡ at_rest told) }
         ensures config { IfOk result (λ c. (c.management.config ≡ configs) × (c.management.disk ≡ config)) }
         ensures whole { IfOk result (λ c. c.failed ≡ false) }
     {
@@ -73,18 +77,25 @@ impl<D: Disk + Drop> Comeback<Store<D>, D> {
     /// Rebuilds a disk from the chain's tail, which then joins the chain at a slot behind it, as `joining::rebuild` does. `false` where the
     /// disk hasn't the length of a member's: nothing changed, and the disk is dropped.
     ///
-    /// What `joining::rebuild` refuses; behind that nothing is rebuilt any more: `OutOfOrder`.
+    /// What `joining::rebuild` refuses; behind that nothing is rebuilt any more: `OutOfOrder`, with the manager's next order.
     pub fn rebuild(&mut self, slot: Slot, disk: D) -> Result<bool, NotRebuilt<D>>
         ensures one_more { IfOk result (λ done. done ≡ true → HasOneMore slot self.old.world.chain self.new.world.chain) }
+        ensures passed_over { (result ≡ Ok false) ↔ ((self.old.failed ≡ false) × (D.size disk ≢ disk_size_of self.old.world.chain.geometry)) }
         ensures skipped { IfOk result (λ done. done ≡ false → (D.size disk ≢ disk_size_of self.old.world.chain.geometry) × (self.new ≡ self.old)) }
         ensures whole { OnOk result (self.new.failed ≡ false) }
+
+        // Once a disk couldn't be rebuilt, nothing more is done.
+        ensures failed { OnErr result (self.new.failed ≡ true) }
+        ensures out_of_order { self.old.failed ≡ true → IsErrOf result (NotRebuilt.OutOfOrder (next_of self.old.management.manager)) × (self.new ≡ self.old) }
+        ensures refused { self.old.failed ≡ false → IfErr result (RefusesRebuilding D.keeps_model ⟦<Store<D> as StoreLike>⟧.about ⟦<Store<D> as StoreLike>⟧.keeps D.gives D.failures D.failures
+            slot disk self.old.management self.new.management self.old.world self.new.world) }
 
         // Every member keeps what the source has.
         ensures keep { D.keeps_model → (volume : List ℕ) → length volume ≡ 4096 * self.old.world.chain.geometry.blocks
             → AllKeep ⟦<Store<D> as StoreLike>⟧.keeps volume self.old.world.chain → OnOk result (AllKeep ⟦<Store<D> as StoreLike>⟧.keeps volume self.new.world.chain) }
     {
         if self.failed {
-            return Err(NotRebuilt::OutOfOrder);
+            return Err(NotRebuilt::OutOfOrder(self.management.next()));
         }
         if disk.len() != disk_size(self.world.geometry()) {
             return Ok(false);
@@ -111,13 +122,6 @@ impl<D: Disk + Drop> Comeback<Store<D>, D> {
         self.world.recorded()
     }
 
-    /// The configuration's disk.
-    pub fn config(&self) -> &D
-        ensures { result.now ≡ self.now.management.disk }
-    {
-        self.management.disk()
-    }
-
     /// Ends it: the disks are dropped.
     pub fn end(self) {
         let Comeback {
@@ -141,6 +145,7 @@ fn world_of_one<S: StoreLike + Drop>(
     requires version { IsOfVersionTwo (S.about store) }
     requires keeps { S.keeps_model → (volume : List ℕ) × S.keeps store volume }
     ensures set { IfOk result (λ world. IsSet S.about told store world.chain) }
+    ensures idle { IfOk result IsIdle }
 {
     let mut stores = Vec::with_capacity(alloc, 1)?;
     stores.push_reserved(store);

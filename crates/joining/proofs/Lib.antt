@@ -1,8 +1,14 @@
 mod Due
 mod Ending
+mod Entering
+mod Leading
 mod Marking
+mod Opening
+mod Orders
 mod Pieces
 mod Putting
 mod QuietSteps
+mod Refusing
 mod Steady
 mod Still
+mod Stopping

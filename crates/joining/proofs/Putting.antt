@@ -28,7 +28,7 @@ there_behind None now R there leads = absurd cc
 there_behind (Some d) None R there leads = absurd (leads d refl)
 there_behind (Some d) (Some e) R there leads = refl
 
-none_of : {A : Type 0} (o : Option A) → is_some o ≡ false → o ≡ None
+pub none_of : {A : Type 0} (o : Option A) → is_some o ≡ false → o ≡ None
 none_of None none = refl
 none_of (Some a) none = cc
 
@@ -115,3 +115,11 @@ pub weaker_on : {D : Type 0} (moment : D → ℕ) (left_since : D → ℕ → Li
     → IsSomeAnd now (λ d. LeavesOnly moment left_since was d P) → IsSomeAnd now (λ d. LeavesOnly moment left_since was d Q)
 weaker_on moment left_since was None P Q all leaves = leaves
 weaker_on moment left_since was (Some d) P Q all leaves = weaker moment left_since was d P Q all leaves
+
+-- a disk that has a copy is being installed
+pub taken_there : {D : Type 0} {gives : D → List ℕ} {may_leave : D → List ℕ → Type 0} {sb : Superblock} {volume : List ℕ} (c : Seen D) → IsCopyOf gives may_leave sb volume c → IsSome c.receiver.installation
+taken_there c was = is_there _ c.receiver.installation was.taken
+  where
+    is_there : {A : Type 0} (P : A → Type 0) (o : Option A) → IsSomeAnd o P → IsSome o
+    is_there P None there = absurd there
+    is_there P (Some a) there = refl

@@ -1,6 +1,6 @@
 -- What the orders of a joining do to a chain in which nothing is under way.
 use Rattle.std.proofs.Common.{◌≡◌, ◌⊎◌, ◌∙◌, ap, inl, inr, ℕ, suc, ◌+◌, Bool, true, false, cond, List, [], ◌∷◌, ◌++◌, length, refl, sym, subst, arith}
-use Rattle.std.specs.Prelude.{All, IfNone, IfSome, IsSomeAnd, None, Option, Some, max, nat_le, nat_lt, slice_get, slice_set}
+use Rattle.std.specs.Prelude.{All, IfSome, None, Option, Some, is_some, max, nat_le, nat_lt, slice_get, slice_set}
 use Rattle.std.proofs.lemmas.Option.{same_Some}
 use Rattle.std.proofs.lemmas.List.{length-append}
 use Rattle.std.proofs.lemmas.List.Elements.{All-append, All-cons, All-nil}
@@ -9,9 +9,9 @@ use Rattle.configurations.specs.Record.{Record}
 use Rattle.configurations.specs.declared.member.Member.{Member}
 use Rattle.gate_journal.specs.Receipt.{Receipt}
 use Rattle.local_store.specs.About.{About}
-use Rattle.chain_steps.specs.Node.{Delivery, NodeState, Refused, Stepped, Taken, epoch_of, is_stopped}
+use Rattle.chain_steps.specs.Node.{NodeState, Refused, Stepped, Taken, epoch_of, is_stopped}
 use Rattle.chain_steps.specs.Place.{is_head, is_of}
-use Rattle.chain_steps.specs.Steps.{hold, hold_at, keep, know, placed, silent, starts, stop, told, turn}
+use Rattle.chain_steps.specs.Steps.{hold, keep, know, placed, silent, starts, stop, told, turn}
 use Rattle.chain_steps.specs.declared.cause.Cause.TheVariants.{Disorder, Memory}
 use Rattle.chain_steps.specs.declared.found.Found.TheVariants.{Looked}
 use Rattle.chain_core.specs.Node as core
@@ -21,7 +21,8 @@ use Rattle.chain.specs.Holding.{HoldsAt}
 use Rattle.chain.specs.Joining.{IsWithOne, MayBeginJoin, joined_of}
 use Rattle.chain.specs.Member.{Linked}
 use Rattle.chain.specs.Opening.{recorded_in}
-use Rattle.chain.specs.Recording.{HaltsAt, IsToldAt, IsUntoldAt}
+use Rattle.chain.specs.Recording.{HaltsAt, IsToldAt}
+use Rattle.manager.specs.Manager.{done_of}
 use Rattle.world.specs.Joining.{BeginsJoin, CountsIn, EndsJoin, HoldsNext}
 use Rattle.world.specs.Management.{Managing, TellsNext, TellsSlot}
 use Rattle.world.specs.World as worlds
@@ -37,7 +38,7 @@ either_front front true x y one other = one
 either_front front false x y one other = other
 
 module _ (front : ℕ) (node : NodeState) (was : IsAtFront front node) where
-  stopped_front : (cause : _) → IsAtFront front (stop cause node).node
+  pub stopped_front : (cause : _) → IsAtFront front (stop cause node).node
   stopped_front cause = record { durable = was.durable; known = was.known; last = was.last }
 
   -- it holds the front
@@ -125,6 +126,11 @@ same_steady : {S : Type 0} (keeps : S → List ℕ → Type 0) (old new : Chaine
 same_steady keeps old new same quiet = (subst (IsSteady old) (sym same) (steady_still old quiet), subst (KeepStill keeps old) (sym same) (λ volume all. all))
 
 module _ {S D : Type 0} (keeps : S → List ℕ → Type 0) (old new : Managing D) (world after : worlds.Seen S) where
+  -- the order to hold was carried out
+  pub held_done : (given : Option Told) → IfSome given (λ told. HoldsNext told old new world after) → is_some given ≡ true → new ≡ record old { manager = done_of old.manager }
+  held_done None held some = absurd cc
+  held_done (Some told) held some = held.are
+
   -- an order was to hold, or nothing changed
   pub order_held : (given : Option Told) → IfSome given (λ told. HoldsNext told old new world after) → (given ≡ None → after ≡ world) → IsQuiet world.chain → IsSteady world.chain after.chain × KeepStill keeps world.chain after.chain
   order_held None held idle quiet =

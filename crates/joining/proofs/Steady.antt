@@ -1,5 +1,5 @@
 -- A chain in which nothing is under way, while one of its members does something.
-use Rattle.std.proofs.Common.{◌≡◌, ◌∙◌, ap, inl, inr, ℕ, ◌*◌, ◌+◌, ◌-◌, List, [], ◌∷◌, length, refl, set, sym, subst, take, arith}
+use Rattle.std.proofs.Common.{◌≡◌, ◌∙◌, ap, inl, inr, ℕ, ◌+◌, ◌-◌, List, length, refl, set, sym, subst, take, arith}
 use Rattle.std.specs.Prelude.{All, IfNone, IfSome, IsSomeAnd, None, Option, Some, false, fold, map, nat_lt, slice_get, slice_set, ◌<◌}
 use Rattle.std.proofs.lemmas.Bool.{cases_lt, cond-false, cond-true, le-ltb, lt-ltb}
 use Rattle.std.proofs.lemmas.List.{length-set}
@@ -12,10 +12,9 @@ use Rattle.local_store.specs.About.{About}
 use Rattle.rejoin_catchup.specs.Sending.{Sending, gave, least_marked}
 use Rattle.world.specs.World as worlds
 use Rattle.joining.specs.Copying.{IsFor, Seen}
-use Rattle.joining.specs.Giving.{GivesBlock}
+use Rattle.joining.specs.Giving.{GivesBlock, ReadsBlock}
 use Rattle.chain_steps.specs.Node.{NodeState}
 use Rattle.chain_steps.specs.Steps.{volume_at}
-use Rattle.version_table.specs.Held.{writes_upto}
 use Rattle.version_table.specs.declared.kept.Kept.{Kept}
 use Rattle.volume.specs.Writes.{patched}
 use Rattle.joining.specs.Rebuilding.{AllKeep, IsAtFront, IsQuiet, IsSteady, KeepStill}
@@ -69,6 +68,20 @@ gave_long s = elim (cases_lt s.given (length s.marks)) [
   | inr all ↦ ap (λ (t : Sending). length t.marks) (cond-false (nat_lt s.given (length s.marks)) (record s { given = s.given + 1 }) (record s { marks = set s.marks (least_marked s.marks) false }) (le-ltb _ _ all)) ∙ length-set s.marks (least_marked s.marks) false
 ]
 
+-- a block was read
+module _ {S : Type 0} (premise : Type 0) (about : S → About) (failures : S → ℕ) (keeps : S → List ℕ → Type 0) (moment : S → ℕ) (left_since : S → ℕ → List ℕ → Type 0) where
+  pub read_steady : (at block : ℕ) (world after : worlds.Seen S) → ReadsBlock premise about failures keeps moment left_since at block world after → IsQuiet world.chain → IsSteady world.chain after.chain
+  read_steady at block world after (bytes, moves) quiet =
+      let did = moves.did in
+      member_steady world.chain after.chain at did.after (with_links world.chain after.chain _ did.are) quiet
+      (subst (λ (m : Linked S). IsAtFront world.chain.words.front m.node.state) (sym did.did.are) (all_there (λ m. IsAtFront world.chain.words.front m.node.state) world.chain.members at did.before quiet did.here))
+
+  pub read_keeps : (at block : ℕ) (world after : worlds.Seen S) → ReadsBlock premise about failures keeps moment left_since at block world after → premise → KeepStill keeps world.chain after.chain
+  read_keeps at block world after (bytes, moves) holds =
+      let did = moves.did in
+      member_keeps keeps world.chain after.chain at did.after world.chain.links did.are
+      (λ volume all. did.did.only_read.kept holds volume (all_there (λ m. keeps m.node.store volume) world.chain.members at did.before all did.here))
+
 -- a block was given
 module _ {S D : Type 0} (premise : Type 0) (about : S → About) (failures : S → ℕ) (keeps : S → List ℕ → Type 0) (moment : S → ℕ) (left_since : S → ℕ → List ℕ → Type 0)
     (block : ℕ) (old new : Seen D) (world after : worlds.Seen S) (gives : GivesBlock premise about failures keeps moment left_since block old new world after) where
@@ -76,14 +89,10 @@ module _ {S D : Type 0} (premise : Type 0) (about : S → About) (failures : S �
   did = gives.read.1.did
 
   pub given_steady : IsQuiet world.chain → IsSteady world.chain after.chain
-  given_steady quiet =
-      member_steady world.chain after.chain old.at did.after (with_links world.chain after.chain _ did.are) quiet
-      (subst (λ (m : Linked S). IsAtFront world.chain.words.front m.node.state) (sym did.did.are) (all_there (λ m. IsAtFront world.chain.words.front m.node.state) world.chain.members old.at did.before quiet did.here))
+  given_steady quiet = read_steady premise about failures keeps moment left_since old.at block world after gives.read quiet
 
   pub given_keeps : premise → KeepStill keeps world.chain after.chain
-  given_keeps holds =
-      member_keeps keeps world.chain after.chain old.at did.after world.chain.links did.are
-      (λ volume all. did.did.only_read.kept holds volume (all_there (λ m. keeps m.node.store volume) world.chain.members old.at did.before all did.here))
+  given_keeps holds = read_keeps premise about failures keeps moment left_since old.at block world after gives.read holds
 
   pub given_for : IsQuiet world.chain → IsFor world.chain old → IsFor after.chain new
   given_for quiet was = record {

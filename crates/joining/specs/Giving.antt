@@ -1,13 +1,15 @@
 -- What becomes of a copying to whose disk a block is given, or the end.
 use Rattle.std.specs.Prelude.{◌≡◌, ◌⊎◌, ℕ, Bool, ◌&&◌, ◌||◌, ◌==◌, not, true, false, is_some, Some, None, Result, Ok, Err, List, length}
 use Rattle.flush_barrier.specs.declared.session_id.SessionId.{SessionId}
+use Rattle.home_blocks.specs.Home.{HoldsSuperblock}
 use Rattle.home_blocks.specs.Superblock.{Superblock}
+use Rattle.home_blocks.specs.declared.version.Version.TheVariants.{One}
 use Rattle.local_store.specs.About.{About}
 use Rattle.local_store.specs.Installer.{MeansNothing, finished_meaning}
 use Rattle.local_store.specs.Meaning.{Means}
 use Rattle.local_store.specs.Refusal.{IsOfFinishing, IsOfOpening}
 use Rattle.local_store.specs.declared.refusal.Refusal.{Refusal}
-use Rattle.local_store.specs.declared.refusal.Refusal.TheVariants.{Broken}
+use Rattle.local_store.specs.declared.refusal.Refusal.TheVariants.{Broken, Device, Memory, OtherVersion}
 use Rattle.rejoin_catchup.specs.Sending.{due_of, gave}
 use Rattle.chain.specs.Chain.{Changes, RestsAt}
 use Rattle.chain.specs.Holding.{HasReadBlock, StopsReading}
@@ -77,7 +79,23 @@ pub record FinishesAt (sb : Superblock) (front : ℕ) (about : About) : Type 0 w
 abbrev pub IsMeantBy : Superblock → ℕ → List ℕ → List ℕ → Type 0
 IsMeantBy sb front volume bytes = MeansNothing bytes ⊎ Means (finished_meaning sb front volume) bytes
 
+-- why the end isn't taken: this was broken, or the disk refused it
+abbrev pub RefusesEnd : Bool → Refusal → Type 0
+RefusesEnd true refusal = refusal ≡ Broken
+RefusesEnd false refusal = IsOfFinishing refusal
+
 -- why there is no store: this was broken; or the disk refused the end, or doesn't open
 abbrev pub RefusesFinish : Bool → Refusal → Type 0
 RefusesFinish true refusal = refusal ≡ Broken
 RefusesFinish false refusal = IsOfFinishing refusal ⊎ IsOfOpening refusal
+
+-- the bytes hold a superblock of version 1
+abbrev pub HasVersionOne : List ℕ → Type 0
+HasVersionOne bytes = (sb : Superblock) × HoldsSuperblock sb bytes × (sb.version ≡ One)
+
+-- why a disk that means a volume, and holds these bytes, isn't opened as a member's: memory ran out, its device refused, or it is of version 1
+abbrev pub RefusesOpening : Refusal → List ℕ → Type 0
+RefusesOpening Memory bytes = Unit {0}
+RefusesOpening (Device error) bytes = Unit {0}
+RefusesOpening OtherVersion bytes = HasVersionOne bytes
+RefusesOpening _ bytes = ⊥

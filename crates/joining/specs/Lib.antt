@@ -1,3 +1,5 @@
 pub mod Copying
 pub mod Giving
 pub mod Rebuilding
+pub mod Refusing
+pub mod Standing

@@ -1,5 +1,5 @@
 //! A disk that is given the volume of a chain's member.
-ghost use Rattle.std.specs.Prelude.{◌≡◌, ◌≢◌, ◌*◌, ◌<◌, ◌≤◌, List, None, Some, ℕ, false, length, replicate, slice_get, IfErr, IfOk, IfSome, IsTrue, ◌↔◌};
+ghost use Rattle.std.specs.Prelude.{◌≡◌, ◌≢◌, ◌*◌, ◌<◌, ◌≤◌, List, None, Some, ℕ, false, length, replicate, slice_get, IfErr, IfOk, IfSome, IsSomeAnd, IsTrue, ◌↔◌};
 ghost use Rattle.home_blocks.specs.Places.{disk_size_of};
 ghost use Rattle.disk_model.specs.Disk.{LeavesOnly};
 ghost use Rattle.local_store.specs.Installer.{HasNone, IsNotMeant, unfinished};
@@ -79,6 +79,7 @@ impl<D: Disk + Drop> Copying<D> {
         ensures size_refused { IfErr result (λ e. D.size e.1 ≡ D.size disk) }
         ensures unchanged { IfErr result (λ e. e.0 ≡ faults.Memory → e.1 ≡ disk) }
         ensures told { IfErr result (λ e. IsOfFormatting e.0) }
+        ensures done { IfOk result (λ c. IsSomeAnd (disk_of c.receiver) (λ now. D.failures now ≡ D.failures disk)) }
         ensures cause { IfErr result (λ e. IsCaused (D.failures disk) (D.failures e.1) e.0) }
         // Where the disk can't fail any more, the refusal isn't the device's.
         ensures calm { IfErr result (λ e. D.failures disk ≡ D.most_failures disk → IsNotOfDevice e.0) }

@@ -1,22 +1,22 @@
 //! Blocks are given, one at a time, and at last the end.
-ghost use Rattle.std.specs.Prelude.{IfErr, IfOk, IfSome, IsSome, List, None, OnErr, OnOk, Some, false, length, slice_get, true, ℕ, ◌*◌, ◌||◌, ◌≡◌, ◌⊎◌};
+ghost use Rattle.std.specs.Prelude.{IfErr, IfOk, IfSome, IsSome, List, None, OnErr, OnOk, Some, false, length, slice_get, true, ℕ, ◌*◌, ◌||◌, ◌≡◌, ◌≢◌, ◌≤◌, ◌⊎◌};
 ghost use Rattle.chain.specs.Commits.{LeavesAt};
-ghost use Rattle.chain.specs.Joining.{receipt_of};
 ghost use Rattle.chain_core.specs.Node.{IsRunning};
 ghost use Rattle.chain_steps.specs.Steps.{volume_at};
 ghost use Rattle.clients.specs.Clients.{no_one};
 ghost use Rattle.disk_model.specs.Disk.{LeavesOnly, Only};
+ghost use Rattle.gate_journal.specs.Runs.{OnlyReads};
+ghost use Rattle.home_blocks.specs.Places.{disk_size_of};
 ghost use Rattle.home_blocks.specs.Superblock.{Superblock};
 ghost use Rattle.joining.specs.Copying.{IsCopyOf, IsFor, LeadsOn};
-ghost use Rattle.joining.specs.Giving.{FinishesAt, GivesBlock, HasGivenNext, IsMeantBy, RefusesFinish, RefusesGiving, handed_giving, has_given_all, may_give};
+ghost use Rattle.joining.specs.Giving.{FinishesAt, GivesBlock, HasGivenNext, IsMeantBy, RefusesEnd, RefusesFinish, RefusesGiving, RefusesOpening, handed_giving, has_given_all, may_give};
 ghost use Rattle.local_store.specs.Installer.{MeansNothing, finished_meaning};
+ghost use Rattle.local_store.specs.Meaning.{Meaning, Means};
 ghost use Rattle.local_store.specs.Refusal.{IsCaused, IsOfOpening, IsOfTicking};
 ghost use Rattle.rejoin_catchup.specs.Receiving.{HasTaken, disk_of};
 ghost use Rattle.rejoin_catchup.specs.Sending.{IsSending, due_of, gave};
 ghost use Rattle.volume.specs.Writes.{block_of};
 ghost use Rattle.world.specs.World.{IsOfOneVolume};
-ghost use Rattle.gate_journal.specs.Runs.{OnlyReads};
-ghost use Rattle.local_store.specs.Meaning.{Means};
 
 use crate::copying::Copying;
 use crate::refusal::NotGiven;
@@ -24,7 +24,7 @@ use bytes::Bytes;
 use disk_model::Disk;
 use gate_journal::Synced;
 use home_blocks::Version;
-use local_store::{Refusal, Store, StoreLike, disks_mean_one};
+use local_store::{Refusal, Store, StoreLike, disks_mean_one, meanings_are_opened};
 use rejoin_catchup::{Ready, Receiver};
 use std::alloc::Global;
 use world::World;
@@ -53,7 +53,10 @@ impl<D: Disk + Drop> Copying<D> {
         ensures members_moment { S.keeps_model → may_give self.old ≡ true → LeavesAt S.about S.keeps S.may_leave_now S.moment S.may_have_left_since self.old.at world.old.chain world.new.chain }
         ensures size { LeadsOn (λ was now. D.size now ≡ D.size was) self.old self.new }
         ensures told { IfErr result (λ e. (r : Refusal) → e ≡ NotGiven.Refused r → IsOfTicking r) }
+        ensures done { OnOk result (LeadsOn (λ was now. D.failures now ≡ D.failures was) self.old self.new) }
         ensures cause { IfErr result (λ e. (r : Refusal) → e ≡ NotGiven.Refused r → LeadsOn (λ was now. IsCaused (D.failures was) (D.failures now) r) self.old self.new) }
+        // 122 comes only where the copying was broken, while the installation is there.
+        ensures broken { IsSome self.old.receiver.installation → IfErr result (λ e. e ≡ NotGiven.Refused Refusal.Broken → self.old.broken ≡ true) }
         ensures one_volume { S.keeps_model → IsOfOneVolume S.about S.keeps S.may_leave_now no_one (handed_giving result) world.old world.new }
     {
         if self.broken {
@@ -88,7 +91,9 @@ impl<D: Disk + Drop> Copying<D> {
             → LeadsOn (λ was now. LeavesOnly D.moment D.may_have_left_since was now MeansNothing) self.old self.new }
         ensures size { LeadsOn (λ was now. D.size now ≡ D.size was) self.old self.new }
         ensures told { IfErr result IsOfTicking }
+        ensures done { OnOk result (LeadsOn (λ was now. D.failures now ≡ D.failures was) self.old self.new) }
         ensures cause { LeadsOn (λ was now. IfErr result (IsCaused (D.failures was) (D.failures now))) self.old self.new }
+        ensures broken { IsSome self.old.receiver.installation → IfErr result (λ r. r ≢ Refusal.Broken) }
     {
         let rests = self.rests_then();
         let piece = self.sender.next_block(bytes);
@@ -115,7 +120,7 @@ impl<D: Disk + Drop> Copying<D> {
     /// store is opened: it runs, and may be counted in with its receipt.
     ///
     /// What the disk refuses hands it back, as the call leaves it; so does what `Store::open` refuses, and 122 `Broken` where the copying
-    /// is. 132 `OtherVersion` where the disk isn't of version 2, of which an installation makes it.
+    /// is. 132 `OtherVersion` only where the disk is of version 1, of which no installation makes one.
     pub fn finish(self, alloc: Global) -> Result<(Store<D>, Synced), (Refusal, D)>
         requires whole { due_of self.sender ≡ None }
         ensures kept { D.keeps_model → (volume : List ℕ) → length volume ≡ 4096 * length self.sender.marks → (sb : Superblock) → IsCopyOf D.gives D.may_leave_now sb volume self
@@ -130,7 +135,14 @@ impl<D: Disk + Drop> Copying<D> {
         ensures any_moment_refused { D.keeps_model → (volume : List ℕ) → length volume ≡ 4096 * length self.sender.marks → (sb : Superblock) → IsCopyOf D.gives D.may_leave_now sb volume self
             → IfErr result (λ e. IfSome (disk_of self.receiver) (λ was. LeavesOnly D.moment D.may_have_left_since was e.1 (IsMeantBy sb self.front volume))) }
         ensures size { D.keeps_model → IfErr result (λ e. IfSome (disk_of self.receiver) (λ was. D.size e.1 ≡ D.size was)) }
+        ensures whole { OnOk result (self.broken ≡ false) }
         ensures refused { IfErr result (λ e. RefusesFinish self.broken e.0) }
+
+        // A copy that is whole opens, on a disk that has room for what its superblock says.
+        ensures finishes { D.keeps_model → (volume : List ℕ) → length volume ≡ 4096 * length self.sender.marks → (sb : Superblock) → IsCopyOf D.gives D.may_leave_now sb volume self
+            → IfSome (disk_of self.receiver) (λ was. disk_size_of sb.geometry ≤ D.size was) → IfErr result (λ e. RefusesEnd self.broken e.0 ⊎ RefusesOpening e.0 (D.gives e.1)) }
+        // 122 comes only where the copying was broken, while the installation is there.
+        ensures broken { IsSome self.receiver.installation → IfErr result (λ e. e.0 ≡ Refusal.Broken → self.broken ≡ true) }
         ensures cause { IfErr result (λ e. IfSome (disk_of self.receiver) (λ was. IsCaused (D.failures was) (D.failures e.1) e.0)) }
     {
         let Ready { receipt, disk } = self.end()?;
@@ -152,7 +164,9 @@ impl<D: Disk + Drop> Copying<D> {
             → IfErr result (λ e. IfSome (disk_of self.receiver) (λ was. LeavesOnly D.moment D.may_have_left_since was e.1 (IsMeantBy sb self.front volume))) }
         ensures size { IfOk result (λ ready. IfSome (disk_of self.receiver) (λ was. D.size ready.disk ≡ D.size was)) }
         ensures size_refused { IfErr result (λ e. IfSome (disk_of self.receiver) (λ was. D.size e.1 ≡ D.size was)) }
-        ensures refused { IfErr result (λ e. RefusesFinish self.broken e.0) }
+        ensures there { IsSome (disk_of self.receiver) }
+        ensures refused { IfErr result (λ e. RefusesEnd self.broken e.0) }
+        ensures broken { IsSome self.receiver.installation → IfErr result (λ e. e.0 ≡ Refusal.Broken → self.broken ≡ true) }
         ensures whole { OnOk result (self.broken ≡ false) }
         ensures done { IfOk result (λ ready. IfSome (disk_of self.receiver) (λ was. D.failures ready.disk ≡ D.failures was)) }
         ensures cause { IfErr result (λ e. IfSome (disk_of self.receiver) (λ was. IsCaused (D.failures was) (D.failures e.1) e.0)) }
@@ -182,9 +196,12 @@ fn opened<D: Disk + Drop>(alloc: Global, disk: D) -> Result<Store<D>, (Refusal, 
     ensures back { D.keeps_model → IfErr result (λ e. OnlyReads D.gives D.may_leave_now D.moment D.may_have_left_since disk e.1) }
     ensures size { D.keeps_model → IfErr result (λ e. D.size e.1 ≡ D.size disk) }
     ensures told { IfErr result (λ e. IsOfOpening e.0) }
+    ensures opens { D.keeps_model → (meaning : Meaning) → Means meaning (D.gives disk) → disk_size_of meaning.geometry ≤ D.size disk
+        → IfErr result (λ e. RefusesOpening e.0 (D.gives e.1)) }
     ensures cause { IfErr result (λ e. IsCaused (D.failures disk) (D.failures e.1) e.0) }
 {
     disks_mean_one();
+    meanings_are_opened();
     let store = Store::open(alloc, disk)?;
     match store.version() {
         Version::Two => Ok(store),

@@ -11,6 +11,7 @@ mod giving;
 mod noting;
 mod rebuilding;
 mod refusal;
+mod standing;
 
 pub use copying::Copying;
 pub use rebuilding::{NotRebuilt, rebuild};

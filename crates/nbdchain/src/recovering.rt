@@ -9,6 +9,7 @@ use gate_journal::Slot;
 use joining::NotRebuilt;
 use local_store::Store;
 use log::{Log, info};
+use manager::Order;
 use simulator::Refusal;
 use std::alloc::{AllocError, Global};
 use std::fs::{File, Files};
@@ -130,8 +131,10 @@ fn unrebuilt<'a>(dir: &'a str, slot: Slot, refusal: NotRebuilt<FileDisk>) -> Fau
             slot,
             Standstill::Manager(refusal),
         ),
-        NotRebuilt::TailStopped => return Fault::Unrebuilt(slot, Standstill::TailStopped),
-        NotRebuilt::OutOfOrder => return Fault::Unrebuilt(slot, Standstill::OutOfOrder),
+        NotRebuilt::TailStopped | NotRebuilt::OutOfOrder(Order::Idle) => {
+            return Fault::Unrebuilt(slot, Standstill::TailStopped);
+        }
+        NotRebuilt::OutOfOrder(_) => return Fault::Unrebuilt(slot, Standstill::OutOfOrder),
     };
     let failure = Failure {
         refusal,

@@ -1,5 +1,6 @@
 use Rattle.std.proofs.Common.{◌≡◌, ◌∙◌, ap, sym, subst, ℕ, ◌*◌, length, inl}
-use Rattle.std.specs.Prelude.{IfErr, Err, Ok, OnOk}
+use Rattle.std.specs.Prelude.{IfErr, IsSome, Err, Ok, OnOk}
+use Rattle.std.proofs.lemmas.Bool.{both_ways}
 use Rattle.disk_model.specs.Moments.{weaker}
 use Rattle.local_store.specs.Installer.{finished_meaning}
 use Rattle.local_store.specs.Meaning.{Means}
@@ -10,7 +11,8 @@ use Rattle.rejoin_catchup.specs.Refusal as taking
 use Rattle.joining.specs.Copying.{IsCopyOf, Seen}
 use Rattle.joining.specs.Giving.{IsMeantBy}
 use Rattle.joining.proofs.Ending.{end_refused, end_taken, if_some, of_slot, rest_leaves, took_all}
-use Rattle.joining.proofs.Putting.{leads_refused, there_behind}
+use Rattle.rejoin_catchup.specs.declared.refusal.Refusal.TheVariants.{Store}
+use Rattle.joining.proofs.Putting.{leads_refused, some_of, there_behind}
 use Rattle.joining.proofs.copying.Copying.end.Goals as goal
 
 pub returns-then-is_broken-clause-any_moment_refused : goal.returns-then-is_broken-clause-any_moment_refused
@@ -84,3 +86,17 @@ returns-clause-done g c = if_some _ (disk_of c.args.self.receiver) (λ before he
     let view = c.self.view_is in
     subst (λ r. OnOk r (g.D.Disk.failures c.in-Ok-Some.ready.disk ≡ g.D.Disk.failures before)) c.in-Ok-Some.is
     (end_taken _ c.self.inside.receiver c.take.new.self c.take.result c.take.ensures.done c.in-Ok-Some.ready (c.in-Ok-Some.is ∙ ap Ok c.in-Ok-Some.field-0-is) before (ap (λ (s : Seen g.row.D.Denot). disk_of s.receiver) view ∙ here)))
+
+pub returns-then-is_broken-clause-there : goal.returns-then-is_broken-clause-there
+returns-then-is_broken-clause-there g c = subst (λ (s : Seen g.row.D.Denot). IsSome (disk_of s.receiver)) c.self.view_is c.self.invariant.there
+
+pub returns-in-Err-Store-clause-there : goal.returns-in-Err-Store-clause-there
+returns-in-Err-Store-clause-there g c = subst (λ (s : Seen g.row.D.Denot). IsSome (disk_of s.receiver)) c.self.view_is c.self.invariant.there
+
+pub returns-clause-there : goal.returns-clause-there
+returns-clause-there g c = subst (λ (s : Seen g.row.D.Denot). IsSome (disk_of s.receiver)) c.self.view_is c.self.invariant.there
+
+pub returns-in-Err-Store-clause-broken : goal.returns-in-Err-Store-clause-broken
+returns-in-Err-Store-clause-broken g c = λ there same.
+    let (i, is) = some_of c.self.inside.receiver.installation (subst (λ (s : Seen g.row.D.Denot). IsSome s.receiver.installation) (sym c.self.view_is) there) in
+    absurd (both_ways i.broken (c.self.invariant.goes_on c.if-is_broken.false i is) ((c.take.ensures.broken i is).0 (c.in-Err-Store.is ∙ ap Err (c.in-Err-Store.field-0-is ∙ ap Store same))).1)

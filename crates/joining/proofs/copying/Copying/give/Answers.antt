@@ -77,3 +77,12 @@ pub returns-in-Err-put-clause-members_moment : goal.returns-in-Err-put-clause-me
 returns-in-Err-put-clause-members_moment g c = λ keeps may.
     subst (λ (at : ℕ). LeavesAt g.S.StoreLike.about g.S.StoreLike.keeps g.S.StoreLike.may_leave_now g.S.StoreLike.moment g.S.StoreLike.may_have_left_since at c.args.world.now.chain c.held_block.new.self.chain)
     (ap (λ (s : Seen g.row.D.Denot). s.at) c.self.view_is) (c.held_block.ensures.any_moment keeps)
+
+pub returns-in-Ok-None-clause-broken : goal.returns-in-Ok-None-clause-broken
+returns-in-Ok-None-clause-broken g c = λ there same. absurd cc
+
+pub returns-in-Err-clause-broken : goal.returns-in-Err-clause-broken
+returns-in-Err-clause-broken g c = λ there same. absurd cc
+
+pub returns-in-Err-put-clause-broken : goal.returns-in-Err-put-clause-broken
+returns-in-Err-put-clause-broken g c = λ there same. absurd (c.in-Err-put.ensures.broken there cc)

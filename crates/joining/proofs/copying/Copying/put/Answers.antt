@@ -1,5 +1,6 @@
 use Rattle.std.proofs.Common.{◌≡◌, ◌∙◌, ◌*◌, ap, sym, subst, ℕ, length}
-use Rattle.std.specs.Prelude.{◌||◌, IfErr, Err, IsSomeAnd}
+use Rattle.std.specs.Prelude.{◌||◌, IfErr, OnOk, Err, IsSome, IsSomeAnd}
+use Rattle.std.proofs.lemmas.Bool.{both_ways}
 use Rattle.local_store.specs.Installer.{MeansNothing}
 use Rattle.rejoin_catchup.specs.Course.{course_behind, course_failed, is_end}
 use Rattle.rejoin_catchup.specs.Receiving.{HasTaken, MayBeLeft, disk_of, with_piece}
@@ -7,6 +8,7 @@ use Rattle.rejoin_catchup.specs.Refusal as taking
 use Rattle.rejoin_catchup.specs.Sending.{IsSending, due_of, piece_of}
 use Rattle.rejoin_catchup.specs.declared.course.Course.{Course}
 use Rattle.rejoin_catchup.specs.declared.piece.Piece.{Piece}
+use Rattle.rejoin_catchup.specs.declared.refusal.Refusal.TheVariants.{Store}
 use Rattle.joining.specs.Copying.{IsCopyOf, IsInCourse, Seen}
 use Rattle.joining.specs.Giving.{has_given_all}
 use Rattle.joining.proofs.Pieces.{piece_goes_on, piece_leaves}
@@ -48,6 +50,12 @@ pub returns-in-Err-Store-clause-cause : goal.returns-in-Err-Store-clause-cause
 returns-in-Err-Store-clause-cause g c = λ was here.
     subst (λ r. IsSomeAnd (disk_of c.take.new.self) (λ now. IfErr r (taking.IsCaused (g.D.Disk.failures was) (g.D.Disk.failures now)))) (c.in-Err-Store.is ∙ ap Err c.in-Err-Store.field-0-is)
     (leads_refused _ c.self.inside.receiver c.take.new.self c.take.result c.take.ensures.cause c.in-Err-Store.field-0 c.in-Err-Store.is was (ap (λ (s : Seen g.row.D.Denot). disk_of s.receiver) c.self.view_is ∙ here))
+
+pub returns-in-Err-Store-clause-broken : goal.returns-in-Err-Store-clause-broken
+returns-in-Err-Store-clause-broken g c = λ there same.
+    let view = c.self.view_is in
+    let (i, is) = some_of c.self.inside.receiver.installation (subst (λ (s : Seen g.row.D.Denot). IsSome s.receiver.installation) (sym view) there) in
+    both_ways i.broken (c.self.invariant.goes_on (ap (λ (s : Seen g.row.D.Denot). s.broken) view ∙ c.requires.runs) i is) ((c.take.ensures.broken i is).0 (c.in-Err-Store.is ∙ ap Err (c.in-Err-Store.field-0-is ∙ ap Store same))).1
 
 pub invariant_of-self-2 : goal.invariant_of-self-2
 invariant_of-self-2 g c =
@@ -97,3 +105,12 @@ returns-clause-cause g c = λ was here.
     let view = c.self.view_is in
     let piece = from_some (λ (b : ℕ). c.next_block-piece.result ≡ piece_of c.self.inside.sender b c.args.bytes) (due_of c.self.inside.sender) c.next_block-piece.ensures.piece block (ap (λ (s : Seen g.row.D.Denot). due_of s.sender) view ∙ due) in
     there_so (disk_of c.take.new.self) _ (there_behind (disk_of c.self.inside.receiver) (disk_of c.take.new.self) _ c.self.invariant.there (leads_on _ c.self.inside.receiver c.take.new.self c.take.result c.take.ensures.size c.in-Ok.field-0 c.in-Ok.is (c.in-Ok.ensures.ready ∙ ap is_end piece ∙ piece_goes_on c.self.inside.sender block c.args.bytes))) (λ _. tt)
+
+pub returns-clause-done : goal.returns-clause-done
+returns-clause-done g c = λ was here.
+    let (block, due) = some_of (due_of c.args.self.now.sender) c.requires.due in
+    let view = c.self.view_is in
+    let piece = from_some (λ (b : ℕ). c.next_block-piece.result ≡ piece_of c.self.inside.sender b c.args.bytes) (due_of c.self.inside.sender) c.next_block-piece.ensures.piece block (ap (λ (s : Seen g.row.D.Denot). due_of s.sender) view ∙ due) in
+    subst (λ r. IsSomeAnd (disk_of c.take.new.self) (λ now. OnOk r (g.D.Disk.failures now ≡ g.D.Disk.failures was))) c.in-Ok.is
+    (leads_on _ c.self.inside.receiver c.take.new.self c.take.result c.take.ensures.done c.in-Ok.field-0 c.in-Ok.is (c.in-Ok.ensures.ready ∙ ap is_end piece ∙ piece_goes_on c.self.inside.sender block c.args.bytes)
+    was (ap (λ (s : Seen g.row.D.Denot). disk_of s.receiver) view ∙ here))
