@@ -1,0 +1,5 @@
+pub mod Copied
+mod Counted
+mod Given
+mod Noted
+mod Shown

@@ -1,0 +1,53 @@
+use Rattle.std.proofs.Common.{List, ℕ, refl, sym, subst, ◌≡◌, ◌∙◌}
+use Rattle.std.proofs.lemmas.Result.{err_from_is_err_and}
+use Rattle.local_store.specs.About.{about_of}
+use Rattle.local_store.specs.Store.{IsStored}
+use Rattle.local_store.specs.declared.store.Store as stores
+use Rattle.chain.specs.Chain.{bytes_of}
+use Rattle.world.proofs.InnerSteps.{rests_so}
+use Rattle.std.specs.Prelude.{Result}
+use Rattle.clients.specs.Clients.{no_one}
+use Rattle.local_store.specs.declared.refusal.Refusal.{Refusal}
+use Rattle.world.specs.World.{IsOfOneVolume}
+use Rattle.candidate.specs.Orders.{handed_gave}
+use Rattle.candidate.specs.declared.giving.Gave.{Gave}
+use Rattle.candidate.proofs.Copied.{copy_stays}
+use Rattle.candidate.proofs.giving.Candidate+Store+D+D.rest.Goals as goal
+
+pub returns-in_default : goal.returns-in_default
+returns-in_default g c =
+    let about = λ (x : stores.Store g.row.D.Denot g.D.Disk). about_of x.contents in
+    let kept = λ (x : stores.Store g.row.D.Denot g.D.Disk) (volume : List ℕ). IsStored x.contents volume (g.D.Disk.gives x.disk) (g.D.Disk.may_leave_now x.disk) in
+    let leaves = λ (x : stores.Store g.row.D.Denot g.D.Disk). g.D.Disk.may_leave_now x.disk in
+    record {
+      rests = record {
+        due = λ slot is. absurd (c.in_default.not-Rest slot (c.next.ensures ∙ is));
+        end = λ slot is. absurd (c.in_default.not-Rest slot (c.next.ensures ∙ is));
+        idle = λ _. (refl, record { candidate = refl; management = refl; same = refl });
+      };
+      copy = λ keeps incarnation v w s t moves shows stands run shows_then stands_then had. copy_stays g.D.Disk.gives g.D.Disk.may_leave_now about kept (bytes_of c.args.world.now.chain) s t moves run incarnation c.args.self.now had;
+      one_volume = λ keeps. rests_so about kept leaves c.args.world.now c.args.world.now refl;
+    }
+
+pub returns-in_err-finish-clause-one_volume : goal.returns-in_err-finish-clause-one_volume
+returns-in_err-finish-clause-one_volume g c = λ keeps.
+    let about = λ (x : stores.Store g.row.D.Denot g.D.Disk). about_of x.contents in
+    let kept = λ (x : stores.Store g.row.D.Denot g.D.Disk) (volume : List ℕ). IsStored x.contents volume (g.D.Disk.gives x.disk) (g.D.Disk.may_leave_now x.disk) in
+    let leaves = λ (x : stores.Store g.row.D.Denot g.D.Disk). g.D.Disk.may_leave_now x.disk in
+    let p = err_from_is_err_and c.from_residual.result c.from_residual.ensures.1 in 
+    subst (λ (r : Result Gave Refusal). IsOfOneVolume about kept leaves no_one (handed_gave r) c.args.world.now c.args.world.now) (sym p.1) (rests_so about kept leaves c.args.world.now c.args.world.now refl)
+
+pub returns-clause-copy : goal.returns-clause-copy
+returns-clause-copy g c = λ keeps incarnation v w s t moves shows stands run shows_then stands_then had.
+    let about = λ (x : stores.Store g.row.D.Denot g.D.Disk). about_of x.contents in
+    let kept = λ (x : stores.Store g.row.D.Denot g.D.Disk) (volume : List ℕ). IsStored x.contents volume (g.D.Disk.gives x.disk) (g.D.Disk.may_leave_now x.disk) in
+    let leaves = λ (x : stores.Store g.row.D.Denot g.D.Disk). g.D.Disk.may_leave_now x.disk in
+    copy_stays g.D.Disk.gives g.D.Disk.may_leave_now about kept (bytes_of c.args.world.now.chain) s t moves run incarnation c.finish.new.self
+    (c.finish.ensures.copy keeps incarnation (bytes_of c.args.world.now.chain) s had)
+
+pub returns-clause-one_volume : goal.returns-clause-one_volume
+returns-clause-one_volume g c = λ keeps.
+    let about = λ (x : stores.Store g.row.D.Denot g.D.Disk). about_of x.contents in
+    let kept = λ (x : stores.Store g.row.D.Denot g.D.Disk) (volume : List ℕ). IsStored x.contents volume (g.D.Disk.gives x.disk) (g.D.Disk.may_leave_now x.disk) in
+    let leaves = λ (x : stores.Store g.row.D.Denot g.D.Disk). g.D.Disk.may_leave_now x.disk in
+    rests_so about kept leaves c.args.world.now c.args.world.now refl

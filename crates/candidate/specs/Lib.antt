@@ -1,0 +1,3 @@
+pub mod Candidate
+pub mod Orders
+pub mod Copies
