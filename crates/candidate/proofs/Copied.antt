@@ -1,10 +1,9 @@
 -- A copy of the machine's volume stays one, whatever is taken behind it: lemmas.
-use Rattle.std.proofs.Common.{◌≡◌, ◌∙◌, ap, sym, subst, ℕ, ◌≤◌, List, length, arith}
-use Rattle.home_blocks.specs.Superblock.{Superblock}
+use Rattle.std.proofs.Common.{◌≡◌, ◌∙◌, ap, sym, subst, ℕ, List, length, arith}
 use Rattle.local_store.specs.About.{About}
 use Rattle.chain_model.proofs.JoiningSteps.{volume_grows}
 use Rattle.joining.specs.Copying.{IsCopyOf, Seen}
-use Rattle.world_model.specs.Machine.{Move, RunsOn, State, machine_volume}
+use Rattle.world_model.specs.Machine.{Move, RunsOn, State}
 use Rattle.candidate.specs.Copies.{HasCopy, IsCopied, IsCopying}
 use Rattle.candidate.specs.declared.candidate.Candidate.{Candidate}
 use Rattle.candidate.specs.declared.candidate.Candidate.TheVariants.{Nobody, Copying, Whole, Counted, Refused}

@@ -1,11 +1,10 @@
 -- The disk that is counted has what the tail holds: lemmas.
-use Rattle.std.proofs.Common.{◌≡◌, ◌≢◌, ◌∙◌, ap, sym, subst, inl, inr, ℕ, ◌<◌, List, map, refl, arith}
+use Rattle.std.proofs.Common.{◌≡◌, ◌≢◌, ◌∙◌, ap, sym, subst, inl, inr, ℕ, List, arith}
 use Rattle.std.specs.Prelude.{All, AllPairs, None, Some, option_map, slice_get, true}
 use Rattle.std.proofs.lemmas.Bool.{cases_lt}
 use Rattle.std.proofs.lemmas.Option.{get_or_from_slice_get, same_Some, slice_get-map, slice_get_within}
 use Rattle.gate_journal.specs.Receipt.{Receipt}
 use Rattle.local_store.specs.About.{About}
-use Rattle.chain_steps.specs.Node.{durable_of}
 use Rattle.chain_steps.specs.Steps.{volume_at}
 use Rattle.chain.specs.Chain.{bytes_of}
 use Rattle.chain.specs.Joining.{IsCopyAt}
@@ -57,9 +56,9 @@ module _ {S : Type 0} (about : S → About) (keeps : S → List ℕ → Type 0) 
       let its : m ≡ tail.stands.member = same_Some m tail.stands.member (sym here ∙ tail.stands.here) in
       let holder_is : may.holder ≡ counts.tail.stands.member = same_Some may.holder counts.tail.stands.member (sym may.here ∙ counts.tail.stands.here) in
       let one : m ≡ may.holder = one_member at counts.at m may.holder here may.here
-          (ap (λ (x : Linked S). x.node.state.place.slot) its ∙ tail.stands.slot_is ∙ slot ∙ sym counts.tail.stands.slot_is ∙ ap (λ (x : Linked S). x.node.state.place.slot) (sym holder_is)) in
+      (ap (λ (x : Linked S). x.node.state.place.slot) its ∙ tail.stands.slot_is ∙ slot ∙ sym counts.tail.stands.slot_is ∙ ap (λ (x : Linked S). x.node.state.place.slot) (sym holder_is)) in
       let has = shown_at about keeps may_leave_now law world v s shows stands inside at m here
-          (subst (λ (x : Linked S). is_in world.chain.recorded x.node.state.place.slot x.node.state.incarnation ≡ true) (sym its) (recorded_so tail)) in
+      (subst (λ (x : Linked S). is_in world.chain.recorded x.node.state.place.slot x.node.state.incarnation ≡ true) (sym its) (recorded_so tail)) in
       let runs : m.node.state.stopped ≡ None = ap (λ (x : Linked S). x.node.state.stopped) one ∙ may.holding.runs in
       let known : m.node.state.known ≡ (about store).front = ap (λ (x : Linked S). x.node.state.known) one ∙ may.holding.known in
       let same : volume ≡ has.shown.volume = once m.node.store volume has.shown.volume kept (has.is.keeping runs) in

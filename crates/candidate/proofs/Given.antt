@@ -1,5 +1,5 @@
 -- A block that is given leaves a copy of the machine's volume one: lemmas.
-use Rattle.std.proofs.Common.{◌≡◌, ◌∙◌, ap, sym, subst, inl, inr, ℕ, ◌+◌, ◌*◌, ◌≤◌, Bool, false, List, length, set, refl, arith}
+use Rattle.std.proofs.Common.{◌≡◌, ◌∙◌, ap, sym, subst, inl, inr, ℕ, ◌*◌, ◌≤◌, false, List, length, refl, arith}
 use Rattle.std.specs.Prelude.{All, IfSome, None, Option, Some, nat_lt, slice_get}
 use Rattle.std.proofs.lemmas.Bool.{cases_Bool}
 use Rattle.std.proofs.lemmas.List.{length-set}
@@ -48,13 +48,13 @@ module _ {S D : Type 0} (gives : D → List ℕ) (leaves : D → List ℕ → Ty
   pub given_is : (premise : Type 0) (failures : S → ℕ) (moment : S → ℕ) (left_since : S → ℕ → List ℕ → Type 0) (block : ℕ) (c d : Seen D) (after : worlds.Seen S) → IsOfRecorded world.chain c → IsNoted world.chain c
       → GivesBlock premise about failures keeps moment left_since block c d world after
       → IfSome (slice_get world.chain.members c.at) (λ m. (volume : List ℕ) → keeps m.node.store volume → length (volume_at volume m.node.state m.node.state.known) ≡ 4096 * length c.sender.marks
-          → (sb : Superblock) → IsCopyOf gives leaves sb (volume_at volume m.node.state m.node.state.known) c → IsCopyOf gives leaves sb (volume_at volume m.node.state m.node.state.known) d)
+      → (sb : Superblock) → IsCopyOf gives leaves sb (volume_at volume m.node.state m.node.state.known) c → IsCopyOf gives leaves sb (volume_at volume m.node.state m.node.state.known) d)
       → IsCopying gives leaves about keeps (bytes_of world.chain) s incarnation c → IsCopying gives leaves about keeps (bytes_of world.chain) s incarnation d
   given_is premise failures moment left_since block c d after is noted gives_block copies was =
       let (m, here, recorded) = its_member world c is in
       let known : c.front ≡ m.node.state.known = subst (λ (o : Option (Linked S)). IfSome o (λ x. c.front ≡ x.node.state.known)) here noted in
       let copied = subst (λ (o : Option (Linked S)). IfSome o (λ x. (volume : List ℕ) → keeps x.node.store volume → length (volume_at volume x.node.state x.node.state.known) ≡ 4096 * length c.sender.marks
-          → (sb : Superblock) → IsCopyOf gives leaves sb (volume_at volume x.node.state x.node.state.known) c → IsCopyOf gives leaves sb (volume_at volume x.node.state x.node.state.known) d)) here copies in
+      → (sb : Superblock) → IsCopyOf gives leaves sb (volume_at volume x.node.state x.node.state.known) c → IsCopyOf gives leaves sb (volume_at volume x.node.state x.node.state.known) d)) here copies in
       let has = shown_at about keeps may_leave_now law world v s shows stands inside c.at m here recorded in
       let (bytes, moves) = gives_block.read in
       let same : moves.did.before ≡ m = same_Some moves.did.before m (sym moves.did.here ∙ here) in

@@ -1,7 +1,7 @@
 -- Where a front is noted, the disk has a copy of the machine's volume there: lemmas.
-use Rattle.std.proofs.Common.{◌≡◌, ◌≢◌, ◌⊎◌, ◌∙◌, ap, sym, subst, inl, inr, ℕ, ◌*◌, ◌<◌, ◌≤◌, Bool, true, false, List, length, refl, arith}
+use Rattle.std.proofs.Common.{◌≡◌, ◌∙◌, ap, sym, subst, inl, inr, ℕ, ◌*◌, ◌≤◌, Bool, true, false, List, length, refl, arith}
 use Rattle.std.specs.Prelude.{All, IfSome, Option, Some, slice_get}
-use Rattle.std.proofs.lemmas.Bool.{cases_Bool, cases_lt}
+use Rattle.std.proofs.lemmas.Bool.{cases_lt}
 use Rattle.std.proofs.lemmas.Option.{slice_get_cases}
 use Rattle.home_blocks.specs.Superblock.{Superblock}
 use Rattle.local_store.specs.About.{About}
@@ -49,13 +49,13 @@ module _ {S D : Type 0} (gives : D → List ℕ) (leaves : D → List ℕ → Ty
 
   pub noted_is : (premise : Type 0) → premise → (c d : Seen D) → IsOfRecorded world.chain c → IfSome (slice_get world.chain.members c.at) (λ m. HasNoted m.node.state c d)
       → IfSome (slice_get world.chain.members c.at) (λ m. d.broken ≡ false → premise → (volume : List ℕ) → length (volume_at volume m.node.state c.front) ≡ 4096 * length c.sender.marks
-          → (sb : Superblock) → IsCopyOf gives leaves sb (volume_at volume m.node.state c.front) c → IsCopyOf gives leaves sb (volume_at volume m.node.state m.node.state.known) d)
+      → (sb : Superblock) → IsCopyOf gives leaves sb (volume_at volume m.node.state c.front) c → IsCopyOf gives leaves sb (volume_at volume m.node.state m.node.state.known) d)
       → (c.broken ≡ false → IsCopying gives leaves about keeps size s incarnation c) → d.broken ≡ false → IsCopying gives leaves about keeps size s incarnation d
   noted_is premise holds c d is notes copies had runs =
       let (m, here, recorded) = its_member world c is in
       let noted = subst (λ (o : Option (Linked S)). IfSome o (λ x. HasNoted x.node.state c d)) here notes in
       let copied = subst (λ (o : Option (Linked S)). IfSome o (λ x. d.broken ≡ false → premise → (volume : List ℕ) → length (volume_at volume x.node.state c.front) ≡ 4096 * length c.sender.marks
-          → (sb : Superblock) → IsCopyOf gives leaves sb (volume_at volume x.node.state c.front) c → IsCopyOf gives leaves sb (volume_at volume x.node.state x.node.state.known) d)) here copies in
+      → (sb : Superblock) → IsCopyOf gives leaves sb (volume_at volume x.node.state c.front) c → IsCopyOf gives leaves sb (volume_at volume x.node.state x.node.state.known) d)) here copies in
       let broke : ¬ (d.broken ≡ true) = λ broken. let clash : true ≡ false = sym broken ∙ runs in absurd (cc) in
       let ran : c.broken ≡ false = not_true c.broken (λ broken. broke (noted.broken.1 (inl broken))) in
       let has = shown_at about keeps may_leave_now law world v s shows stands inside c.at m here recorded in

@@ -1,5 +1,5 @@
 -- What a recorded member of a world has, by the machine's state that the world stands for: lemmas.
-use Rattle.std.proofs.Common.{◌≡◌, ◌∙◌, ap, sym, subst, ℕ, ◌≤◌, Bool, true, List, [], ◌∷◌, ◌++◌, length, refl}
+use Rattle.std.proofs.Common.{◌≡◌, ◌∙◌, ap, sym, subst, ℕ, ◌≤◌, Bool, true, List, length, refl}
 use Rattle.std.specs.Prelude.{◌||◌, All, Some, slice_get}
 use Rattle.std.proofs.lemmas.Option.{get_or_from_slice_get, slice_get_within}
 use Rattle.version_table.specs.Held.{writes_upto}
@@ -14,7 +14,7 @@ use Rattle.chain.specs.Member.{IsShown, KeepsInside, Linked}
 use Rattle.chain.proofs.Cells.{place_of, zip_at}
 use Rattle.chain_model.specs.Chain.{StandsFor}
 use Rattle.chain_model.specs.Laws.{IsOnEachDisk, with_members}
-use Rattle.chain_model.specs.View.{Member, View, is_in, may_be_recorded}
+use Rattle.chain_model.specs.View.{Member, View, is_in}
 use Rattle.world.specs.World.{Seen, Shows}
 use Rattle.world_model.specs.Machine.{State, machine_volume}
 
@@ -39,7 +39,7 @@ module _ {S : Type 0} (about : S → About) (keeps : S → List ℕ → Type 0) 
       let place = place_of v.members at own there in
       let node : own.node ≡ m.node.state = ap (λ (x : Member). x.node) is.is in
       let known : is_in v.recorded own.node.place.slot own.node.incarnation ≡ true =
-          subst (λ (n : NodeState). is_in v.recorded n.place.slot n.incarnation ≡ true) (sym node) (subst (λ (r : Record). is_in r m.node.state.place.slot m.node.state.incarnation ≡ true) (sym shows.chain.recorded) recorded) in
+      subst (λ (n : NodeState). is_in v.recorded n.place.slot n.incarnation ≡ true) (sym node) (subst (λ (r : Record). is_in r m.node.state.place.slot m.node.state.incarnation ≡ true) (sym shows.chain.recorded) recorded) in
       record {
         shown = own;
         is = is;
@@ -49,6 +49,6 @@ module _ {S : Type 0} (about : S → About) (keeps : S → List ℕ → Type 0) 
             let same_at : volume_at own.volume m.node.state p ≡ machine_volume (bytes_of world.chain) s p = subst (λ (n : NodeState). volume_at own.volume n p ≡ machine_volume (bytes_of world.chain) s p) node same in
             let fits = all_at (KeepsInside (bytes_of world.chain)) world.chain.members at m inside here in
             let long : length (volume_at own.volume m.node.state p) ≡ length own.volume =
-                length-writes own.volume (writes_upto m.node.state.table p) (subst (λ (n : ℕ). All (Fits n) (writes_upto m.node.state.table p)) (sym is.whole) (upto_fits (bytes_of world.chain) m.node.state.table p fits)) in
+            length-writes own.volume (writes_upto m.node.state.table p) (subst (λ (n : ℕ). All (Fits n) (writes_upto m.node.state.table p)) (sym is.whole) (upto_fits (bytes_of world.chain) m.node.state.table p fits)) in
             (taken, same_at, ap (λ (l : List ℕ). length l) (sym same_at) ∙ long ∙ is.whole);
       }

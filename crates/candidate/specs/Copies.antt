@@ -1,8 +1,9 @@
 -- Of which volume a disk on its way into a chain has a copy: that of the one volume's machine, at the front that was noted.
-use Rattle.std.specs.Prelude.{◌≡◌, ℕ, ◌*◌, ◌≤◌, false, List, length}
+use Rattle.std.specs.Prelude.{◌≡◌, ℕ, suc, ◌*◌, ◌≤◌, false, List, length}
 use Rattle.home_blocks.specs.Superblock.{Superblock}
 use Rattle.local_store.specs.About.{About}
-use Rattle.chain.specs.Chain.{bytes_of}
+use Rattle.local_store.specs.Installer.{unfinished}
+use Rattle.chain.specs.Chain.{Chained, bytes_of}
 use Rattle.chain_model.specs.Chain.{StandsFor}
 use Rattle.chain_model.specs.View.{View}
 use Rattle.joining.specs.Copying.{IsCopyOf, Seen}
@@ -50,3 +51,11 @@ module _ {S D : Type 0} (gives : D → List ℕ) (leaves : D → List ℕ → Ty
   IsOfOneVolumeCopied fed handed incarnation old world after =
       (v : View) (s : State) → Shows about keeps may_leave_now world v → StandsFor (bytes_of world.chain) v s
       → HasCopy gives leaves about keeps (bytes_of world.chain) s incarnation old → HappensSo about keeps may_leave_now world after fed handed v
+
+-- no block was given yet: the disk will have this volume, at this slot, with the next epoch as its incarnation
+abbrev pub BeginsAt : {S D : Type 0} → (D → List ℕ) → (D → List ℕ → Type 0) → (slot : ℕ) → Chained S → List ℕ → Candidate S D → Type 0
+BeginsAt gives leaves slot chain volume (Copying c) = (c.sender.given ≡ 0) × IsCopyOf gives leaves (unfinished slot (suc chain.recorded.epoch) chain.geometry) volume c
+BeginsAt gives leaves slot chain volume Nobody = ⊥
+BeginsAt gives leaves slot chain volume (Whole w) = ⊥
+BeginsAt gives leaves slot chain volume Counted = ⊥
+BeginsAt gives leaves slot chain volume (Refused disk) = ⊥

@@ -1,5 +1,5 @@
 -- What becomes of a disk on its way when an order of its joining is carried out.
-use Rattle.std.specs.Prelude.{◌≡◌, ◌≢◌, ◌⊎◌, ◌≤◌, ◌==◌, ℕ, suc, Bool, true, false, Option, None, Some, is_some, not, Result, Ok, Err, IfErr, IfOk, IfSome, IsNone, OnErr, List, length, slice_get}
+use Rattle.std.specs.Prelude.{◌≡◌, ◌≢◌, ◌⊎◌, ◌≤◌, ◌==◌, ℕ, suc, Bool, true, false, Option, None, Some, is_some, not, Result, Ok, Err, IfErr, IfOk, IfSome, OnErr, List, length, slice_get}
 use Rattle.flush_barrier.specs.declared.session_id.SessionId.{SessionId}
 use Rattle.local_store.specs.About.{About}
 use Rattle.local_store.specs.Refusal.{IsOfFormatting}

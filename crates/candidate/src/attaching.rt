@@ -1,11 +1,13 @@
 //! A disk is attached, and later it is counted.
-ghost use Rattle.std.specs.Prelude.{◌≡◌, ◌+◌, ◌≤◌, ℕ, suc};
-ghost use Rattle.candidate.specs.Copies.{HasCopy};
+ghost use Rattle.std.specs.Prelude.{◌≡◌, ◌+◌, ◌≤◌, List, ℕ, length, suc, true, IfOk};
+ghost use Rattle.candidate.specs.Copies.{BeginsAt, HasCopy};
 ghost use Rattle.candidate.specs.Orders.{Attaches};
 ghost use Rattle.chain.specs.Chain.{bytes_of};
 ghost use Rattle.chain_model.specs.Chain.{StandsFor};
 ghost use Rattle.chain_model.specs.View.{View};
 ghost use Rattle.home_blocks.specs.Places.{disk_size_of};
+ghost use Rattle.manager.specs.Manager.{next_of};
+ghost use Rattle.manager.specs.declared.order.Order.TheVariants as orders;
 ghost use Rattle.world.specs.World.{Shows};
 ghost use Rattle.world_model.specs.Machine.{State};
 
@@ -35,6 +37,8 @@ impl<D: Disk + Drop> Candidate<Store<D>, D> {
     ) -> Result<bool, Refusal>
         requires on_disk { disk_size_of world.now.chain.geometry ≤ D.size disk }
         ensures attaches { Attaches result self.old self.new management.old management.new world.now }
+        ensures begins { D.keeps_model → (slot : ℕ) → next_of management.old.manager ≡ orders.Attach slot → (volume : List ℕ) → length volume ≡ bytes_of world.now.chain
+            → IfOk result (λ done. done ≡ true → BeginsAt D.gives D.may_leave_now slot world.now.chain volume self.new) }
 
         // Whatever state of the one volume the world stands for.
         ensures copy { D.keeps_model → (v : View) (s : State) → Shows ⟦<Store<D> as StoreLike>⟧.about ⟦<Store<D> as StoreLike>⟧.keeps ⟦<Store<D> as StoreLike>⟧.may_leave_now world.now v → StandsFor (bytes_of world.now.chain) v s

@@ -1,10 +1,9 @@
-use Rattle.std.proofs.Common.{List, ℕ, refl, subst, ◌≡◌}
-use Rattle.local_store.specs.About.{About, about_of}
+use Rattle.std.proofs.Common.{List, ℕ, refl, subst}
+use Rattle.local_store.specs.About.{about_of}
 use Rattle.local_store.specs.Store.{IsStored}
 use Rattle.local_store.specs.declared.store.Store as stores
 use Rattle.chain.specs.Chain.{bytes_of}
 use Rattle.candidate.specs.Copies.{HasCopy}
-use Rattle.candidate.specs.declared.candidate.Candidate.{Candidate}
 use Rattle.candidate.proofs.Noted.{noted_is}
 use Rattle.candidate.proofs.candidate.Candidate+Store+D+D.note.Goals as goal
 

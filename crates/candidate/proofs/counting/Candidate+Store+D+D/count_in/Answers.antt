@@ -1,4 +1,4 @@
-use Rattle.std.proofs.Common.{List, inl, inr, ℕ, Bool, true, false, ap, refl, sym, subst, ◌≡◌, ◌∙◌, arith}
+use Rattle.std.proofs.Common.{List, inr, ℕ, true, false, ap, refl, sym, subst, ◌≡◌, ◌∙◌, arith}
 use Rattle.gate_journal.specs.Receipt.{Receipt}
 use Rattle.local_store.specs.About.{about_of}
 use Rattle.local_store.specs.Kept.{one_volume}
@@ -55,8 +55,8 @@ returns-in-Ok-clause-one_volume g c = λ keeps incarnation v s shows stands had.
     let leaves = λ (x : stores.Store g.row.D.Denot g.D.Disk). g.D.Disk.may_leave_now x.disk in
     let store = c.into_parts-store.ensures.parts.0 in
     let copied : IsCopied {D = g.row.D.Denot} g.D.Disk.gives g.D.Disk.may_leave_now about kept (bytes_of c.args.world.now.chain) s incarnation c.into_parts-store.result.0 =
-        subst (λ (x : stores.Store g.row.D.Denot g.D.Disk). IsCopied {D = g.row.D.Denot} g.D.Disk.gives g.D.Disk.may_leave_now about kept (bytes_of c.args.world.now.chain) s incarnation x) (sym store)
-        (subst (HasCopy g.D.Disk.gives g.D.Disk.may_leave_now about kept (bytes_of c.args.world.now.chain) s incarnation) (sym c.replace.ensures.value ∙ c.in-Whole.is) had) in
+    subst (λ (x : stores.Store g.row.D.Denot g.D.Disk). IsCopied {D = g.row.D.Denot} g.D.Disk.gives g.D.Disk.may_leave_now about kept (bytes_of c.args.world.now.chain) s incarnation x) (sym store)
+    (subst (HasCopy g.D.Disk.gives g.D.Disk.may_leave_now about kept (bytes_of c.args.world.now.chain) s incarnation) (sym c.replace.ensures.value ∙ c.in-Whole.is) had) in
     c.in-Ok.ensures.one_volume keeps
     (copy_at about kept leaves c.each_disk_has_what_is_owed.ensures.owed c.args.world.now v s shows stands c.sound.ensures.inside (λ x one other here there. one_volume here there)
     g.row.D.Denot g.D.Disk.gives g.D.Disk.may_leave_now _ c.into_parts-store.result.0 c.into_parts-store.result.1 c.args.management.now c.count_in.new.self c.count_in.new.world c.in-Ok.ensures.counted incarnation copied) v s shows stands

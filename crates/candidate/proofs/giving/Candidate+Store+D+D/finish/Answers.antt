@@ -1,4 +1,4 @@
-use Rattle.std.proofs.Common.{List, ℕ, ap, refl, sym, subst, ◌≡◌, ◌∙◌, ◌≤◌, length}
+use Rattle.std.proofs.Common.{List, ℕ, refl, sym, subst, ◌∙◌, ◌≤◌, length}
 use Rattle.local_store.specs.About.{about_of}
 use Rattle.local_store.specs.Store.{IsStored}
 use Rattle.local_store.specs.declared.store.Store as stores

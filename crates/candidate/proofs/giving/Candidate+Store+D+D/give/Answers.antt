@@ -1,15 +1,14 @@
-use Rattle.std.proofs.Common.{List, ℕ, ap, refl, sym, subst, true, false, ◌≡◌, ◌∙◌}
+use Rattle.std.proofs.Common.{List, ℕ, ap, refl, sym, subst, ◌∙◌}
 use Rattle.local_store.specs.About.{about_of}
 use Rattle.local_store.specs.Store.{IsStored}
 use Rattle.local_store.specs.declared.store.Store as stores
 use Rattle.chain.specs.Chain.{bytes_of}
 use Rattle.world.proofs.InnerSteps.{rests_so}
 use Rattle.candidate.specs.Copies.{HasCopy}
-use Rattle.candidate.specs.declared.candidate.Candidate.{Candidate}
 use Rattle.candidate.specs.declared.candidate.Candidate.TheVariants.{Copying}
 use Rattle.candidate.proofs.Copied.{copy_stays, stays_as}
 use Rattle.candidate.proofs.Given.{given_is, stopped_same}
-use Rattle.std.specs.Prelude.{Err, None, Ok, Some}
+use Rattle.std.specs.Prelude.{Err, None, Some}
 use Rattle.clients.specs.Clients.{no_one}
 use Rattle.joining.specs.Giving.{handed_giving}
 use Rattle.joining.specs.declared.refusal.NotGiven.{NotGiven}
@@ -51,7 +50,7 @@ returns-in-Ok-true-clause-copy g c = λ keeps incarnation v w s t moves shows st
     let (recorded, noted) = c.is_noted.ensures.0 c.if-not-is_noted.false in
     let was = subst (HasCopy g.D.Disk.gives g.D.Disk.may_leave_now about kept (bytes_of c.args.world.now.chain) s incarnation) c.in-Copying.is had given.runs in
     let is = given_is g.D.Disk.gives g.D.Disk.may_leave_now about kept leaves c.each_disk_has_what_is_owed.ensures.owed c.args.world.now v s shows stands c.sound.ensures.inside incarnation _ _ _ _ block c.in-Copying.copying c.give.new.self c.give.new.world
-        recorded noted given (c.in-Ok-true.ensures.copies keeps keeps) was in
+    recorded noted given (c.in-Ok-true.ensures.copies keeps keeps) was in
     copy_stays {S = stores.Store g.row.D.Denot g.D.Disk} {D = g.row.D.Denot} g.D.Disk.gives g.D.Disk.may_leave_now about kept (bytes_of c.args.world.now.chain) s t moves run incarnation (Copying c.give.new.self) (λ runs. is)
 
 pub returns-in-Err-Stopped-Some-clause-copy : goal.returns-in-Err-Stopped-Some-clause-copy

@@ -1,4 +1,4 @@
-use Rattle.std.proofs.Common.{List, ℕ, refl, sym, subst, ◌≡◌, ◌∙◌}
+use Rattle.std.proofs.Common.{List, ℕ, refl, sym, subst, ◌∙◌}
 use Rattle.std.proofs.lemmas.Result.{err_from_is_err_and}
 use Rattle.local_store.specs.About.{about_of}
 use Rattle.local_store.specs.Store.{IsStored}
@@ -34,7 +34,7 @@ returns-in_err-finish-clause-one_volume g c = λ keeps.
     let about = λ (x : stores.Store g.row.D.Denot g.D.Disk). about_of x.contents in
     let kept = λ (x : stores.Store g.row.D.Denot g.D.Disk) (volume : List ℕ). IsStored x.contents volume (g.D.Disk.gives x.disk) (g.D.Disk.may_leave_now x.disk) in
     let leaves = λ (x : stores.Store g.row.D.Denot g.D.Disk). g.D.Disk.may_leave_now x.disk in
-    let p = err_from_is_err_and c.from_residual.result c.from_residual.ensures.1 in 
+    let p = err_from_is_err_and c.from_residual.result c.from_residual.ensures.1 in
     subst (λ (r : Result Gave Refusal). IsOfOneVolume about kept leaves no_one (handed_gave r) c.args.world.now c.args.world.now) (sym p.1) (rests_so about kept leaves c.args.world.now c.args.world.now refl)
 
 pub returns-clause-copy : goal.returns-clause-copy
