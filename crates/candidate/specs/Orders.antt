@@ -7,13 +7,14 @@ use Rattle.local_store.specs.declared.refusal.Refusal.{Refusal}
 use Rattle.gate_journal.specs.declared.batch.TheConstants.{MAX_NUMBER}
 use Rattle.chain.specs.Chain.{Chained, RestsAt}
 use Rattle.clients.specs.Clients.{no_one}
-use Rattle.joining.specs.Copying.{HasNoted, Seen}
+use Rattle.joining.specs.Copying.{HasNoted, LeadsOn, Seen}
 use Rattle.joining.specs.Giving.{GivesBlock, RefusesFinish, RefusesGiving}
 use Rattle.joining.specs.Standing.{IsNoted, IsOfRecorded}
 use Rattle.joining.specs.declared.refusal.NotGiven.{NotGiven}
 use Rattle.joining.specs.declared.refusal.NotGiven.TheVariants as not_given
 use Rattle.manager.specs.Manager.{done_of, next_of}
 use Rattle.manager.specs.declared.order.Order.TheVariants as orders
+use Rattle.rejoin_catchup.specs.Receiving.{disk_of}
 use Rattle.rejoin_catchup.specs.Sending.{due_of}
 use Rattle.world.specs.Joining.{CountsIn, CountsNobody, HasNoTail, HoldsNext, HoldsNobody, IsTailAt}
 use Rattle.world.specs.Management.{Managing}
@@ -85,6 +86,17 @@ module _ {S D : Type 0} (premise : Type 0) (about : S → About) (failures : S �
   Gives (Ok (Stopped told)) old new world after = RefusesDue (not_given.Stopped (Some told)) old new world after
   Gives (Err refusal) old new world after = RefusesDue (not_given.Refused refusal) old new world after
 
+-- this holds of the disk before and of what it is behind a refusal: it is given the volume still, or is refused at the end
+abbrev pub LedOn : {S D : Type 0} → (D → D → Type 0) → Candidate S D → Candidate S D → Type 0
+LedOn R (Copying c) (Copying d) = LeadsOn R c d
+LedOn R (Copying c) (Refused disk) = IfSome (disk_of c.receiver) (λ was. R was disk)
+LedOn R _ _ = ⊥
+
+-- this holds of the disk that refused
+abbrev pub OfRefused : {S D : Type 0} → Candidate S D → (D → Type 0) → Type 0
+OfRefused (Refused disk) P = P disk
+OfRefused _ P = ⊥
+
 -- ---- orders
 
 -- the order was carried out, or not
@@ -97,14 +109,6 @@ pub record AllStay {S D C : Type 0} (old new : Candidate S D) (m n : Managing C)
   pub candidate : new ≡ old
   pub management : n ≡ m
   pub same : after ≡ world
-
--- the disk's copying
-abbrev pub copying_in : {S D : Type 0} → Candidate S D → Option (Seen D)
-copying_in (Copying c) = Some c
-copying_in Nobody = None
-copying_in (Whole w) = None
-copying_in Counted = None
-copying_in (Refused disk) = None
 
 -- whether each block was given once
 abbrev pub has_given_all : {S D : Type 0} → Candidate S D → Bool

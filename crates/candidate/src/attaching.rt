@@ -1,11 +1,12 @@
 //! A disk is attached, and later it is counted.
-ghost use Rattle.std.specs.Prelude.{◌≡◌, ◌+◌, ◌≤◌, List, ℕ, length, suc, true, IfOk};
+ghost use Rattle.std.specs.Prelude.{◌≡◌, ◌+◌, ◌≤◌, List, ℕ, length, suc, true, IfErr, IfOk};
 ghost use Rattle.candidate.specs.Copies.{BeginsAt, HasCopy};
-ghost use Rattle.candidate.specs.Orders.{Attaches};
+ghost use Rattle.candidate.specs.Orders.{Attaches, OfRefused};
 ghost use Rattle.chain.specs.Chain.{bytes_of};
 ghost use Rattle.chain_model.specs.Chain.{StandsFor};
 ghost use Rattle.chain_model.specs.View.{View};
 ghost use Rattle.home_blocks.specs.Places.{disk_size_of};
+ghost use Rattle.local_store.specs.Refusal.{IsCaused};
 ghost use Rattle.manager.specs.Manager.{next_of};
 ghost use Rattle.manager.specs.declared.order.Order.TheVariants as orders;
 ghost use Rattle.world.specs.World.{Shows};
@@ -37,6 +38,9 @@ impl<D: Disk + Drop> Candidate<Store<D>, D> {
     ) -> Result<bool, Refusal>
         requires on_disk { disk_size_of world.now.chain.geometry ≤ D.size disk }
         ensures attaches { Attaches result self.old self.new management.old management.new world.now }
+        ensures size { IfErr result (λ e. OfRefused self.new (λ given. D.size given ≡ D.size disk)) }
+        ensures cause { IfErr result (λ e. OfRefused self.new (λ given. IsCaused (D.failures disk) (D.failures given) e)) }
+        ensures unchanged { IfErr result (λ e. e ≡ Refusal.Memory → OfRefused self.new (λ given. given ≡ disk)) }
         ensures begins { D.keeps_model → (slot : ℕ) → next_of management.old.manager ≡ orders.Attach slot → (volume : List ℕ) → length volume ≡ bytes_of world.now.chain
             → IfOk result (λ done. done ≡ true → BeginsAt D.gives D.may_leave_now slot world.now.chain volume self.new) }
 

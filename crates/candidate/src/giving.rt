@@ -1,8 +1,9 @@
 //! The disk is given the volume, a block at a time, and at last the end.
-ghost use Rattle.std.specs.Prelude.{◌≡◌, ℕ, true};
+ghost use Rattle.std.specs.Prelude.{◌≡◌, ℕ, true, IfErr};
 ghost use Rattle.candidate.specs.Copies.{HasCopy, KeepsCopy};
-ghost use Rattle.candidate.specs.Orders.{Copies, Finishes, Gives, Rests, handed_gave, is_filled};
+ghost use Rattle.candidate.specs.Orders.{Copies, Finishes, Gives, LedOn, Rests, handed_gave, is_filled};
 ghost use Rattle.clients.specs.Clients.{no_one};
+ghost use Rattle.local_store.specs.Refusal.{IsCaused};
 ghost use Rattle.world.specs.World.{IsOfOneVolume};
 ghost use Rattle.world_model.specs.Machine.{State};
 
@@ -41,6 +42,7 @@ impl<D: Disk + Drop> Candidate<Store<D>, D> {
     ) -> Result<Gave, Refusal>
         ensures copies { Copies D.keeps_model ⟦<Store<D> as StoreLike>⟧.about ⟦<Store<D> as StoreLike>⟧.failures ⟦<Store<D> as StoreLike>⟧.keeps ⟦<Store<D> as StoreLike>⟧.moment ⟦<Store<D> as StoreLike>⟧.may_have_left_since
             result self.old self.new management.old management.new world.old world.new }
+        ensures cause { IfErr result (λ e. LedOn (λ was now. IsCaused (D.failures was) (D.failures now) e) self.old self.new) }
         ensures copy { D.keeps_model → (incarnation : ℕ) → KeepsCopy D.gives D.may_leave_now ⟦<Store<D> as StoreLike>⟧.about ⟦<Store<D> as StoreLike>⟧.keeps ⟦<Store<D> as StoreLike>⟧.may_leave_now incarnation self.old self.new world.old world.new }
         ensures one_volume { D.keeps_model → IsOfOneVolume ⟦<Store<D> as StoreLike>⟧.about ⟦<Store<D> as StoreLike>⟧.keeps ⟦<Store<D> as StoreLike>⟧.may_leave_now no_one (handed_gave result) world.old world.new }
     {
@@ -66,6 +68,7 @@ impl<D: Disk + Drop> Candidate<Store<D>, D> {
     ) -> Result<Gave, Refusal>
         ensures rests { Rests D.keeps_model ⟦<Store<D> as StoreLike>⟧.about ⟦<Store<D> as StoreLike>⟧.failures ⟦<Store<D> as StoreLike>⟧.keeps ⟦<Store<D> as StoreLike>⟧.moment ⟦<Store<D> as StoreLike>⟧.may_have_left_since
             result self.old self.new management.old management.new world.old world.new }
+        ensures cause { IfErr result (λ e. LedOn (λ was now. IsCaused (D.failures was) (D.failures now) e) self.old self.new) }
         ensures copy { D.keeps_model → (incarnation : ℕ) → KeepsCopy D.gives D.may_leave_now ⟦<Store<D> as StoreLike>⟧.about ⟦<Store<D> as StoreLike>⟧.keeps ⟦<Store<D> as StoreLike>⟧.may_leave_now incarnation self.old self.new world.old world.new }
         ensures one_volume { D.keeps_model → IsOfOneVolume ⟦<Store<D> as StoreLike>⟧.about ⟦<Store<D> as StoreLike>⟧.keeps ⟦<Store<D> as StoreLike>⟧.may_leave_now no_one (handed_gave result) world.old world.new }
     {
@@ -84,6 +87,7 @@ impl<D: Disk + Drop> Candidate<Store<D>, D> {
     fn give(&mut self, world: &mut World<Store<D>>) -> Result<Gave, Refusal>
         ensures gives { Gives D.keeps_model ⟦<Store<D> as StoreLike>⟧.about ⟦<Store<D> as StoreLike>⟧.failures ⟦<Store<D> as StoreLike>⟧.keeps ⟦<Store<D> as StoreLike>⟧.moment ⟦<Store<D> as StoreLike>⟧.may_have_left_since
             result self.old self.new world.old world.new }
+        ensures cause { IfErr result (λ e. LedOn (λ was now. IsCaused (D.failures was) (D.failures now) e) self.old self.new) }
         ensures copy { D.keeps_model → (incarnation : ℕ) → KeepsCopy D.gives D.may_leave_now ⟦<Store<D> as StoreLike>⟧.about ⟦<Store<D> as StoreLike>⟧.keeps ⟦<Store<D> as StoreLike>⟧.may_leave_now incarnation self.old self.new world.old world.new }
         ensures one_volume { D.keeps_model → IsOfOneVolume ⟦<Store<D> as StoreLike>⟧.about ⟦<Store<D> as StoreLike>⟧.keeps ⟦<Store<D> as StoreLike>⟧.may_leave_now no_one (handed_gave result) world.old world.new }
     {
@@ -108,6 +112,7 @@ impl<D: Disk + Drop> Candidate<Store<D>, D> {
     fn finish(&mut self, alloc: Global) -> Result<(), Refusal>
         requires { is_filled self.old ≡ true }
         ensures finishes { Finishes result self.old self.new }
+        ensures cause { IfErr result (λ e. LedOn (λ was now. IsCaused (D.failures was) (D.failures now) e) self.old self.new) }
         ensures copy { D.keeps_model → (incarnation size : ℕ) (s : State) → HasCopy D.gives D.may_leave_now ⟦<Store<D> as StoreLike>⟧.about ⟦<Store<D> as StoreLike>⟧.keeps size s incarnation self.old
             → HasCopy D.gives D.may_leave_now ⟦<Store<D> as StoreLike>⟧.about ⟦<Store<D> as StoreLike>⟧.keeps size s incarnation self.new }
     {

@@ -24,6 +24,7 @@ returns-in_default g c =
         due = λ slot is. absurd (c.in_default.not-Copy slot (c.next.ensures ∙ is));
         idle = λ _. (refl, record { candidate = refl; management = refl; same = refl });
       };
+      cause = tt;
       copy = λ keeps incarnation v w s t moves shows stands run shows_then stands_then had. copy_stays g.D.Disk.gives g.D.Disk.may_leave_now about kept (bytes_of c.args.world.now.chain) s t moves run incarnation c.args.self.now had;
       one_volume = λ keeps. rests_so about kept leaves c.args.world.now c.args.world.now refl;
     }

@@ -23,6 +23,7 @@ returns-in_default g c =
     let leaves = λ (x : stores.Store g.row.D.Denot g.D.Disk). g.D.Disk.may_leave_now x.disk in
     record {
       gives = (refl, refl, λ d is. absurd (c.in_default.not-Copying d is));
+      cause = tt;
       copy = λ keeps incarnation v w s t moves shows stands run shows_then stands_then had. copy_stays g.D.Disk.gives g.D.Disk.may_leave_now about kept (bytes_of c.args.world.now.chain) s t moves run incarnation c.args.self.now had;
       one_volume = λ keeps. rests_so about kept leaves c.args.world.now c.args.world.now refl;
     }
