@@ -92,3 +92,9 @@ zip_second R Q more [] [] zipped = All-nil Q
 zip_second R Q more [] (y ∷ ys) zipped = absurd zipped
 zip_second R Q more (x ∷ xs) [] zipped = absurd zipped
 zip_second R Q more (x ∷ xs) (y ∷ ys) zipped = All-cons Q y ys (more x y zipped.0) (zip_second R Q more xs ys zipped.1)
+
+pub zip_long : {A B : Type 0} (R : A → B → Type 0) (xs : List A) (ys : List B) → AllZip R xs ys → length xs ≡ length ys
+zip_long R [] [] zipped = refl
+zip_long R [] (y ∷ ys) zipped = absurd zipped
+zip_long R (x ∷ xs) [] zipped = absurd zipped
+zip_long R (x ∷ xs) (y ∷ ys) zipped = ap suc (zip_long R xs ys zipped.1)

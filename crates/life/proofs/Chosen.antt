@@ -267,7 +267,7 @@ recovers_same was now config config_now new outside same same_config found = rec
   alone = found.alone;
   member = found.member;
   begins = found.begins;
-  rests = record { manager = found.rests.manager; idle = found.rests.idle; part = found.rests.part; current = found.rests.current; settled = found.rests.settled };
+  rests = record { manager = found.rests.manager; idle = found.rests.idle; nobody = found.rests.nobody; alone = found.rests.alone; part = found.rests.part; current = found.rests.current; settled = found.rests.settled };
 }
 
 -- the chosen one is no stranger

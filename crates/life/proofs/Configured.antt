@@ -1,10 +1,10 @@
--- What the manager and the deeds of an era leave of members' disks, and of the configuration's. Lemmas.
-use Rattle.std.proofs.Common.{◌≡◌, ℕ, zero, suc, ◌≤◌, Bool, true, false, List, [], ◌∷◌, ◌++◌, map, refl, ap, sym, subst, ◌∙◌, inl, inr}
-use Rattle.std.specs.Prelude.{◌⊎◌, Option, None, Some, Result, Ok, Err, slice_get}
+-- What the manager leaves of the configuration's disk. Lemmas.
+use Rattle.std.proofs.Common.{◌≡◌, ℕ, suc, ◌≤◌, Bool, true, false, List, refl, ap, sym, subst, ◌∙◌, inl, inr, arith}
+use Rattle.std.specs.Prelude.{◌⊎◌, None, Some, Result, Ok, Err}
 use Rattle.configurations.specs.Record.{Record}
-use Rattle.configurations.specs.declared.member.Member.{Member}
-use Rattle.configurations.specs.Store.{HoldsRecord, IsSettledConfig, settled_leaves}
+use Rattle.configurations.specs.Store.{HoldsRecord, IsSettledConfig, recorded as recorded_config, settled_leaves}
 use Rattle.configurations.specs.Store as configs
+use Rattle.configurations.specs.Refusal.{IsOfDevice}
 use Rattle.configurations.specs.declared.refusal.Refusal as config
 use Rattle.configurations.specs.declared.refusal.Refusal.TheVariants as refusals
 use Rattle.disk_model.specs.Disk.{LeavesOnly, NothingNew}
@@ -15,34 +15,21 @@ use Rattle.disk_model.specs.Waiting.{waiting_first, waiting_now}
 use Rattle.disk_model.specs.declared.memory.MemDisk.{MemDisk}
 use Rattle.disk_model.specs.declared.part.Part.{Part}
 use Rattle.gate_journal.specs.Pair.{IsSettledPair}
-use Rattle.flush_barrier.specs.Reply.{GivenReply}
 use Rattle.manager.specs.declared.refusal.Refusal as manager
 use Rattle.std.proofs.lemmas.Option.{same_Some}
 use Rattle.local_store.specs.About.{About}
 use Rattle.chain.specs.Chain.{Chained}
-use Rattle.chain.specs.Recording.{HaltsAt, IsNextOf, IsToldAt}
-use Rattle.chain_steps.specs.Steps.{stop}
-use Rattle.chain_steps.specs.declared.cause.Cause.TheVariants.{Memory}
 use Rattle.std.specs.declared.alloc.AllocError.{AllocError}
-use Rattle.world.specs.Management.{HoldsOne, HoldsWritten, Managing, TellsSlot}
-use Rattle.world.specs.World.{Seen}
-use Rattle.world.specs.declared.told.Told.{Told}
-use Rattle.life.specs.Calls.{BeginsRecord, CountsSlotOut, EndsRecord, IsSame, Removes, TellsRecord}
-use Rattle.life.specs.Does.{DoesDeed, Manages}
-use Rattle.life.specs.Managed.{AreInStep, IsAtRest, IsConfigured, Managed, MayStand, config_part}
-use Rattle.life.specs.Plays.{DeedsLead}
-use Rattle.life.specs.declared.answer.Answer.{Answer}
-use Rattle.life.specs.declared.era.Deed.{Deed}
-use Rattle.life.specs.declared.era.Deed.TheVariants as deeds
-use Rattle.life.specs.declared.step.ManagerAct.{ManagerAct}
-use Rattle.life.specs.declared.step.ManagerAct.TheVariants as manages
-use Rattle.life.proofs.InStep.{begins_in_step, counts_in_step, ends_in_step, removes_in_step, still_in_step, tells_in_step}
-use Rattle.life.proofs.Owners.{KeepOwn, StayOwn, at_place, does_stay, keep_then, map_set, own, own_of, stay_changed, stay_same, they_keep}
+use Rattle.world.specs.Joining.{HasRecorded}
+use Rattle.world.specs.Management.{HoldsOne, HoldsWritten, Managing}
+use Rattle.life.specs.Calls.{BeginsNext, BeginsRecord, BeginsWithJoiner, CountsSlotOut, EndsNext, EndsRecord, EndsWithJoiner, IsSame, Removes}
+use Rattle.life.specs.Managed.{IsAtRest, IsConfigured, Managed, MayStand, config_part}
+use Rattle.life.proofs.Newcomers.{if_and}
 
 -- ---- the record on the disk
 
 -- the same bytes hold it, and nothing else may be left than before
-settled_still : (store : configs.State) (old new : MemDisk) → given_of new ≡ given_of old → NothingNew (may_be_left old) (may_be_left new) → IsSettledConfig store (given_of old) (may_be_left old)
+pub settled_still : (store : configs.State) (old new : MemDisk) → given_of new ≡ given_of old → NothingNew (may_be_left old) (may_be_left new) → IsSettledConfig store (given_of old) (may_be_left old)
     → IsSettledConfig store (given_of new) (may_be_left new)
 settled_still store old new same nothing settled = record {
   slots = settled.slots;
@@ -66,22 +53,34 @@ left_now d t c le left = counts_later d.eras.items d.content.base.items d.conten
 pub left_by_run : (old new : MemDisk) (P : List ℕ → Type 0) → LeavesOnly moment_of left_since old new P → (c : List ℕ) → may_be_left new c → P c
 left_by_run old new P run c left = run.each c (left_now new (moment_of old) c run.later left)
 
-module _ {S : Type 0} where
-  -- a store's record that stands, and nothing else, is the chain's
-  stands_so : (c : Chained S) (m : Managing MemDisk) → m.config.pair.part ≡ config_part → m.config.current ≡ c.recorded → IsSettledConfig m.config (given_of m.disk) (may_be_left m.disk)
-      → (bytes : List ℕ) → may_be_left m.disk bytes → HoldsOne c (inside config_part bytes)
-  stands_so c m part current settled bytes left =
-      inl (subst (λ (p : Part). HoldsRecord c.recorded (inside p bytes)) part
-      (subst (λ r. HoldsRecord r (inside m.config.pair.part bytes)) current (settled_leaves settled (inside m.config.pair.part bytes) (bytes, left, refl))))
+-- the configuration's disk is settled with this store's record
+abbrev IsSettledOn : configs.State → MemDisk → Type 0
+IsSettledOn config disk = IsSettledConfig config (given_of disk) (may_be_left disk)
 
-  settled_so : (w : Managed S) → w.management.config.pair.part ≡ config_part → w.management.config.current ≡ w.world.chain.recorded
-      → IsSettledConfig w.management.config (given_of w.management.disk) (may_be_left w.management.disk) → IsConfigured w
-  settled_so w part current settled = record { part = part; left = stands_so w.world.chain w.management part current settled; goes_on = inr (current, settled) }
+module _ {S : Type 0} where
+  -- a store's record that stands, and nothing else, is one of the chain's
+  stands_so : (c : Chained S) (m : Managing MemDisk) → m.config.pair.part ≡ config_part → MayStand c m.config.current → IsSettledOn m.config m.disk
+      → (bytes : List ℕ) → may_be_left m.disk bytes → HoldsOne c (inside config_part bytes)
+  stands_so c m part stand settled bytes left =
+      let holds = subst (λ (p : Part). HoldsRecord m.config.current (inside p bytes)) part (settled_leaves settled (inside m.config.pair.part bytes) (bytes, left, refl)) in
+      elim stand [
+        | inl current ↦ inl (subst (λ r. HoldsRecord r (inside config_part bytes)) current holds)
+        | inr written ↦ inr (m.config.current, written, holds)
+      ]
+
+  settled_so : (w : Managed S) → w.management.config.pair.part ≡ config_part → MayStand w.world.chain w.management.config.current → IsSettledOn w.management.config w.management.disk → IsConfigured w
+  settled_so w part stand settled = record { part = part; left = stands_so w.world.chain w.management part stand settled; goes_on = inr (stand, settled) }
 
   pub rests_configured : (w : Managed S) → IsAtRest w → IsConfigured w
-  rests_configured w rests = settled_so w rests.part rests.current rests.settled
+  rests_configured w rests = settled_so w rests.part (inl rests.current) rests.settled
 
   -- ---- where the record stays
+
+  -- what might stand may stand still
+  stands_still : (old new : Chained S) (r : Record) → new.recorded ≡ old.recorded → (old.writing ≡ None) ⊎ (new.writing ≡ old.writing) → MayStand old r → MayStand new r
+  stands_still old new r recorded writing (inl is) = inl (is ∙ sym recorded)
+  stands_still old new r recorded (inl none) (inr is) = let clash : None ≡ Some r = sym none ∙ is in absurd (cc)
+  stands_still old new r recorded (inr same) (inr is) = inr (same ∙ is)
 
   -- the chain's records stay, or a next one is being written; the configuration's disk stays
   same_disk : (old new : Managed S) → IsConfigured old → new.world.chain.recorded ≡ old.world.chain.recorded → (old.world.chain.writing ≡ None) ⊎ (new.world.chain.writing ≡ old.world.chain.writing)
@@ -90,11 +89,10 @@ module _ {S : Type 0} where
     part = ap (λ (s : configs.State). s.pair.part) config ∙ was.part;
     left = λ bytes left. holds bytes (was.left bytes (subst (λ (d : MemDisk). may_be_left d bytes) disk left));
     goes_on = elim was.goes_on [
-      | inl broken ↦ inl (ap (λ (s : configs.State). s.pair.broken) config ∙ broken)
-      | inr (current, settled) ↦ inr (
-        ap (λ (s : configs.State). s.current) config ∙ current ∙ sym recorded,
-        subst (λ (s : configs.State). IsSettledConfig s (given_of new.management.disk) (may_be_left new.management.disk)) (sym config)
-            (subst (λ (d : MemDisk). IsSettledConfig old.management.config (given_of d) (may_be_left d)) (sym disk) settled),
+      | inl (broken, current) ↦ inl (ap (λ (s : configs.State). s.pair.broken) config ∙ broken, ap (λ (s : configs.State). s.current) config ∙ current ∙ sym recorded)
+      | inr (stand, settled) ↦ inr (
+        subst (λ (s : configs.State). MayStand new.world.chain s.current) (sym config) (stands_still old.world.chain new.world.chain old.management.config.current recorded writing stand),
+        subst (λ (s : configs.State). IsSettledOn s new.management.disk) (sym config) (subst (IsSettledOn old.management.config) (sym disk) settled),
       )
     ];
   }
@@ -106,15 +104,15 @@ module _ {S : Type 0} where
         | inr same ↦ inr (next, same ∙ is, stands)
       ]
 
-  same_chain : (old new : Managed S) → IsConfigured old → new.world.chain.recorded ≡ old.world.chain.recorded → new.world.chain.writing ≡ old.world.chain.writing
+  pub same_chain : (old new : Managed S) → IsConfigured old → new.world.chain.recorded ≡ old.world.chain.recorded → new.world.chain.writing ≡ old.world.chain.writing
       → new.management.config ≡ old.management.config → new.management.disk ≡ old.management.disk → IsConfigured new
   same_chain old new was recorded writing config disk = same_disk old new was recorded (inr writing) config disk
 
-  nothing_new : (old new : Managed S) → IsConfigured old → IsSame old new → IsConfigured new
+  pub nothing_new : (old new : Managed S) → IsConfigured old → IsSame old new → IsConfigured new
   nothing_new old new was (world, management) =
       same_chain old new was (ap (λ w. w.chain.recorded) world) (ap (λ w. w.chain.writing) world) (ap (λ m. m.config) management) (ap (λ m. m.disk) management)
 
-  -- ---- what the manager does
+  -- ---- a record is begun
 
   begins_configured : (given : Result Bool AllocError) (old new : Managed S) → BeginsRecord given old new → IsConfigured old → IsConfigured new
   begins_configured (Ok true) old new is was =
@@ -124,6 +122,40 @@ module _ {S : Type 0} where
   begins_configured (Ok false) old new is was = nothing_new old new was (is.idle refl).1
   begins_configured (Err e) old new is was = nothing_new old new was is.err
 
+  join_begins_configured : (about : S → About) (given : Result Bool AllocError) (old new : Managed S) → BeginsWithJoiner about given old new → IsConfigured old → IsConfigured new
+  join_begins_configured about (Ok true) old new is was =
+      let did = is.begun refl in
+      let chain = did.begun.begun in
+      let (store, joined, may) = if_and old.world.joiner _ did.may in
+      same_disk old new was (ap (λ c. c.recorded) chain) (inl may.1) (ap (λ m. m.config) did.are) (ap (λ m. m.disk) did.are)
+  join_begins_configured about (Ok false) old new is was = nothing_new old new was (is.idle refl).1
+  join_begins_configured about (Err e) old new is was = nothing_new old new was is.err
+
+  pub next_begins_configured : (about : S → About) (given : Result Bool AllocError) (old new : Managed S) → BeginsNext about given old new → IsConfigured old → IsConfigured new
+  next_begins_configured about given old new (inl (counted, is)) was = join_begins_configured about given old new is was
+  next_begins_configured about given old new (inr (other, is)) was = begins_configured given old new is was
+
+  -- ---- it is written
+
+  -- the device failed meanwhile: the one before it stands, or this one, and nothing is written any more
+  failed_configured : (old new : Managed S) → IsConfigured old → new.world ≡ old.world
+      → new.management.config ≡ record old.management.config { pair = record old.management.config.pair { is_closed = new.management.config.pair.is_closed; broken = true } }
+      → ((next : Record) → old.world.chain.writing ≡ Some next → old.management.config.current.epoch ≡ next.epoch → ⊥) → IsSettledOn old.management.config old.management.disk → MayStand old.world.chain old.management.config.current
+      → LeavesOnly moment_of left_since old.management.disk new.management.disk (λ c. HoldsRecord old.management.config.current (inside old.management.config.pair.part c)
+      ⊎ HoldsWritten old.world.chain.writing (inside old.management.config.pair.part c)) → IsConfigured new
+  failed_configured old new was world device attempted settled stand any_moment = record {
+    part = ap (λ (s : configs.State). s.pair.part) device ∙ was.part;
+    left = λ bytes left.
+        subst (λ (c : Chained S). HoldsOne c (inside config_part bytes)) (sym (ap (λ w. w.chain) world))
+        (subst (λ r. HoldsRecord r (inside config_part bytes) ⊎ HoldsWritten old.world.chain.writing (inside config_part bytes)) current
+        (subst (λ (p : Part). HoldsRecord old.management.config.current (inside p bytes) ⊎ HoldsWritten old.world.chain.writing (inside p bytes)) was.part
+        (left_by_run old.management.disk new.management.disk _ any_moment bytes left)));
+    goes_on = inl (ap (λ (s : configs.State). s.pair.broken) device, ap (λ (s : configs.State). s.current) device ∙ current ∙ sym (ap (λ w. w.chain.recorded) world));
+  }
+    where
+      current : old.management.config.current ≡ old.world.chain.recorded
+      current = elim stand [ inl is ↦ is | inr written ↦ absurd (attempted old.management.config.current written refl) ]
+
   ends_configured : (given : Result Bool config.Refusal) (old new : Managed S) → EndsRecord given old new → IsConfigured old → IsConfigured new
   ends_configured (Ok true) old new is was =
       let did = is.ended refl in
@@ -132,22 +164,14 @@ module _ {S : Type 0} where
       let next : did.next ≡ moved.next = same_Some did.next moved.next (sym did.written ∙ moved.begun) in
       let current : new.management.config.current ≡ new.world.chain.recorded = ap (λ (s : configs.State). s.current) did.config ∙ next ∙ sym (ap (λ c. c.recorded) moved.are) in
       elim was.goes_on [
-        | inl broken ↦ let no : true ≡ false = (is.broken broken).1 in absurd (cc)
-        | inr (before, settled) ↦ settled_so new part current (is.settled settled)
+        | inl (broken, before) ↦ let no : true ≡ false = (is.broken broken).1 in absurd (cc)
+        | inr (before, settled) ↦ settled_so new part (inl current) (is.settled settled)
       ]
   ends_configured (Ok false) old new is was = nothing_new old new was (is.idle refl).1
   ends_configured (Err (refusals.Device error)) old new is was =
       elim was.goes_on [
-        | inl broken ↦ absurd ((is.broken broken).0 tt)
-        | inr (current, settled) ↦ record {
-          part = ap (λ (s : configs.State). s.pair.part) (is.device tt) ∙ was.part;
-          left = λ bytes left.
-              subst (λ (c : Chained S). HoldsOne c (inside config_part bytes)) (sym (ap (λ w. w.chain) is.world))
-              (subst (λ r. HoldsRecord r (inside config_part bytes) ⊎ HoldsWritten old.world.chain.writing (inside config_part bytes)) current
-              (subst (λ (p : Part). HoldsRecord old.management.config.current (inside p bytes) ⊎ HoldsWritten old.world.chain.writing (inside p bytes)) was.part
-              (left_by_run old.management.disk new.management.disk _ (is.any_moment settled) bytes left)));
-          goes_on = inl (ap (λ (s : configs.State). s.pair.broken) (is.device tt));
-        }
+        | inl (broken, before) ↦ absurd ((is.broken broken).0 tt)
+        | inr (stand, settled) ↦ failed_configured old new was is.world (is.device tt) (is.attempted tt) settled stand (is.any_moment settled)
       ]
   ends_configured (Err refusals.Memory) old new is was = nothing_new old new was (is.world, is.unchanged (λ no. no))
   ends_configured (Err refusals.Broken) old new is was = nothing_new old new was (is.world, is.unchanged (λ no. no))
@@ -155,196 +179,83 @@ module _ {S : Type 0} where
   ends_configured (Err refusals.NotNext) old new is was = nothing_new old new was (is.world, is.unchanged (λ no. no))
   ends_configured (Err refusals.BadMembers) old new is was = nothing_new old new was (is.world, is.unchanged (λ no. no))
 
-  counts_configured : (done : Bool) (old new : Managed S) → CountsSlotOut done old new → IsConfigured old → IsConfigured new
+  -- it stood there already, or it was written
+  module _ (old new : Managed S) (was : IsConfigured old) (next : Record) (written : old.world.chain.writing ≡ Some next) where
+    -- where the store's record has its epoch, it is the store's record
+    it_stands : next.epoch ≡ suc old.world.chain.recorded.epoch → old.management.config.current.epoch ≡ next.epoch → MayStand old.world.chain old.management.config.current → old.management.config.current ≡ next
+    it_stands follows same (inl current) = let e = ap (λ (r : Record). r.epoch) current in absurd (omega (arith, e, follows, same))
+    it_stands follows same (inr is) = same_Some old.management.config.current next (sym is ∙ written)
+
+    -- nothing was written, and memory ran out; or it was written
+    only_recorded : new.world ≡ old.world → HasRecorded next old.management new.management → IsSettledOn new.management.config new.management.disk → IsConfigured new
+    only_recorded world (inl are) settled =
+        let config = ap (λ (m : Managing MemDisk). m.config) are in
+        settled_so new (ap (λ (s : configs.State). s.pair.part) config ∙ was.part)
+        (inr (ap (λ w. w.chain.writing) world ∙ written ∙ ap Some (sym (ap (λ (s : configs.State). s.current) config)))) settled
+    only_recorded world (inr (same, are)) settled = nothing_new old new was (world, are)
+
+  -- where a device call failed before, nothing is written
+  join_refused : (about : S → About) (refusal : config.Refusal) (old new : Managed S) → EndsWithJoiner about (Err refusal) old new → (IsOfDevice refusal → ⊥) → IsConfigured old → IsConfigured new
+  join_refused about refusal old new is not was = elim was.goes_on [
+    | inl (broken, before) ↦
+        let (config, disk) = is.untouched broken in
+        same_chain old new was (ap (λ w. w.chain.recorded) is.world) (ap (λ w. w.chain.writing) is.world) config disk
+    | inr (stand, settled) ↦ elim (is.unchanged not) [
+      | inl same ↦ nothing_new old new was (is.world, same)
+      | inr (next, written, recorded) ↦ only_recorded old new was next written is.world recorded (is.settled_still settled not)
+    ]
+  ]
+
+  join_ends_configured : (about : S → About) (given : Result Bool config.Refusal) (old new : Managed S) → EndsWithJoiner about given old new → IsConfigured old → IsConfigured new
+  join_ends_configured about (Ok true) old new is was =
+      let did = (is.ended refl).0 in
+      let moved = did.ended.ended in
+      let (store, joined, may) = if_and old.world.joiner _ did.may in
+      let its : did.next ≡ may.next = same_Some did.next may.next (sym did.written ∙ may.begun) in
+      let follows : did.next.epoch ≡ suc old.world.chain.recorded.epoch = ap (λ (r : Record). r.epoch) its ∙ may.follows.epoch in
+      let recorded : new.world.chain.recorded ≡ did.next = ap (λ c. c.recorded) moved.are ∙ same_Some moved.next did.next (sym moved.begun ∙ did.written) in
+      by did.next did.written follows recorded did.stands was.goes_on
+    where
+      by : (next : Record) → old.world.chain.writing ≡ Some next → next.epoch ≡ suc old.world.chain.recorded.epoch → new.world.chain.recorded ≡ next → HasRecorded next old.management (record new.management { manager = old.management.manager })
+          → ((old.management.config.pair.broken ≡ true) × (old.management.config.current ≡ old.world.chain.recorded)) ⊎ (MayStand old.world.chain old.management.config.current × IsSettledOn old.management.config old.management.disk) → IsConfigured new
+      by next written follows recorded (inl are) (inl (broken, before)) =
+          let (config, disk) = is.untouched broken in
+          let same : next ≡ old.world.chain.recorded = sym (ap (λ (m : Managing MemDisk). m.config.current) are) ∙ ap (λ (s : configs.State). s.current) config ∙ before in
+          let e = ap (λ (r : Record). r.epoch) same in absurd (omega (arith, e, follows))
+      by next written follows recorded (inr (same, are)) (inl (broken, before)) = let e = ap (λ (r : Record). r.epoch) before in absurd (omega (arith, e, follows, same))
+      by next written follows recorded (inl are) (inr (stand, settled)) =
+          let config = ap (λ (m : Managing MemDisk). m.config) are in
+          settled_so new (ap (λ (s : configs.State). s.pair.part) config ∙ was.part) (inl (ap (λ (s : configs.State). s.current) config ∙ sym recorded)) (is.settled settled)
+      by next written follows recorded (inr (same, are)) (inr (stand, settled)) =
+          let config : new.management.config ≡ old.management.config = ap (λ (m : Managing MemDisk). m.config) are in
+          settled_so new (ap (λ (s : configs.State). s.pair.part) config ∙ was.part)
+          (inl (ap (λ (s : configs.State). s.current) config ∙ it_stands old new was next written follows same stand ∙ sym recorded)) (is.settled settled)
+  join_ends_configured about (Ok false) old new is was = nothing_new old new was (is.idle refl).1.0
+  join_ends_configured about (Err (refusals.Device error)) old new is was = elim was.goes_on [
+    | inl (broken, before) ↦
+        let (config, disk) = is.untouched broken in
+        same_chain old new was (ap (λ w. w.chain.recorded) is.world) (ap (λ w. w.chain.writing) is.world) config disk
+    | inr (stand, settled) ↦ failed_configured old new was is.world (is.device tt) (is.attempted tt) settled stand (is.any_moment settled)
+  ]
+  join_ends_configured about (Err refusals.Memory) old new is was = join_refused about refusals.Memory old new is (λ no. no) was
+  join_ends_configured about (Err refusals.Broken) old new is was = join_refused about refusals.Broken old new is (λ no. no) was
+  join_ends_configured about (Err refusals.NoRecord) old new is was = join_refused about refusals.NoRecord old new is (λ no. no) was
+  join_ends_configured about (Err refusals.NotNext) old new is was = join_refused about refusals.NotNext old new is (λ no. no) was
+  join_ends_configured about (Err refusals.BadMembers) old new is was = join_refused about refusals.BadMembers old new is (λ no. no) was
+
+  pub next_ends_configured : (about : S → About) (given : Result Bool config.Refusal) (old new : Managed S) → EndsNext about given old new → IsConfigured old → IsConfigured new
+  next_ends_configured about given old new (inl (counted, is)) was = join_ends_configured about given old new is was
+  next_ends_configured about given old new (inr (other, is)) was = ends_configured given old new is was
+
+  -- ---- other orders
+
+  pub counts_configured : (done : Bool) (old new : Managed S) → CountsSlotOut done old new → IsConfigured old → IsConfigured new
   counts_configured true old new is was =
       let did = is.out refl in
       let chain = did.moves.did.1 in
       same_chain old new was (ap (λ c. c.recorded) chain) (ap (λ c. c.writing) chain) (ap (λ m. m.config) did.are) (ap (λ m. m.disk) did.are)
   counts_configured false old new is was = nothing_new old new was (is.idle refl).1
 
-  removes_configured : (slot : ℕ) (given : Result (Unit {0}) manager.Refusal) (old new : Managed S) → Removes slot given old new → IsConfigured old → IsConfigured new
+  pub removes_configured : (slot : ℕ) (given : Result (Unit {0}) manager.Refusal) (old new : Managed S) → Removes slot given old new → IsConfigured old → IsConfigured new
   removes_configured slot (Ok done) old new is was = same_chain old new was (ap (λ w. w.chain.recorded) is.world) (ap (λ w. w.chain.writing) is.world) (ap (λ m. m.config) is.done) (ap (λ m. m.disk) is.done)
   removes_configured slot (Err e) old new is was = same_chain old new was (ap (λ w. w.chain.recorded) is.world) (ap (λ w. w.chain.writing) is.world) (ap (λ m. m.config) is.only_noted) (ap (λ m. m.disk) is.only_noted)
-
-module _ {S : Type 0} (about : S → About) where
-  -- a member is told: its store stays
-  told_stays : (at : ℕ) (old new : Chained S) (replies : List GivenReply) → IsToldAt at old new replies ⊎ HaltsAt at old new replies → StayOwn about old new
-  told_stays at old new replies (inl is) = record {
-    geometry = ap (λ c. c.geometry) is.are;
-    recorded = ap (λ c. c.recorded) is.are;
-    writing = ap (λ c. c.writing) is.are;
-    owners = ap (λ c. map (own_of about) c.members) is.are
-        ∙ map_set (own_of about) old.members at is.before (record is.before { node = record { store = is.before.node.store; state = is.stepped.node } }) is.here refl;
-  }
-  told_stays at old new replies (inr is) = record {
-    geometry = ap (λ c. c.geometry) is.are;
-    recorded = ap (λ c. c.recorded) is.are;
-    writing = ap (λ c. c.writing) is.are;
-    owners = ap (λ c. map (own_of about) c.members) is.are
-        ∙ map_set (own_of about) old.members at is.before (record is.before { node = record { store = is.before.node.store; state = (stop Memory is.before.node.state).node } }) is.here refl;
-  }
-
-  slot_stays : (slot : ℕ) (told : Told) (old new : Seen S) → TellsSlot slot told old new → StayOwn about old.chain new.chain
-  slot_stays slot told old new (inl (at, there, answers)) = told_stays at old.chain new.chain answers.replies answers.did
-  slot_stays slot told old new (inr (inl (at, refusal, there, moves, whole, none))) = stay_same about old.chain new.chain moves.did.same
-  slot_stays slot told old new (inr (inr (nobody, same, whole, none))) = stay_same about old.chain new.chain (ap (λ w. w.chain) same)
-
-  -- ---- whom a stop may leave recorded
-
-  -- they are all among the members of this record
-  abbrev pub AreAmong : Record → Chained S → Type 0
-  AreAmong first c = (r : Record) → MayStand c r → (seat : ℕ) (m : Member) → slice_get r.members seat ≡ Some m → (k : ℕ) × (slice_get first.members k ≡ Some m)
-
-  -- the chain's records stay
-  among_still : (first : Record) (old new : Chained S) → new.recorded ≡ old.recorded → new.writing ≡ old.writing → AreAmong first old → AreAmong first new
-  among_still first old new recorded writing among r (inl is) = among r (inl (is ∙ recorded))
-  among_still first old new recorded writing among r (inr is) = among r (inr (sym writing ∙ is))
-
-  -- who is left when one is taken out was there
-  left_there : (before behind : List Member) (removed m : Member) (seat : ℕ) → slice_get (before ++ behind) seat ≡ Some m → (k : ℕ) × (slice_get (before ++ removed ∷ behind) k ≡ Some m)
-  left_there [] behind removed m seat here = (suc seat, here)
-  left_there (x ∷ before) behind removed m zero here = (0, here)
-  left_there (x ∷ before) behind removed m (suc k) here = let (at, there) = left_there before behind removed m k here in (suc at, there)
-
-  next_among : (first : Record) (old : Chained S) (next : Record) → IsNextOf old next → AreAmong first old → (seat : ℕ) (m : Member) → slice_get next.members seat ≡ Some m → (k : ℕ) × (slice_get first.members k ≡ Some m)
-  next_among first old next follows among seat m here = elim follows.members [
-    | inl without ↦
-        let (k, there) = left_there without.before without.behind without.removed m seat (ap (λ (ms : List Member). slice_get ms seat) (sym without.are) ∙ here) in
-        among old.recorded (inl refl) k m (ap (λ (ms : List Member). slice_get ms k) without.were ∙ there)
-    | inr same ↦ among old.recorded (inl refl) seat m (ap (λ (ms : List Member). slice_get ms seat) (sym same) ∙ here)
-  ]
-
-  begins_among : (first : Record) (given : Result Bool AllocError) (old new : Managed S) → BeginsRecord given old new → AreAmong first old.world.chain → AreAmong first new.world.chain
-  begins_among first (Ok true) old new is among = λ r stands.
-      let did = is.begun refl in
-      let chain = did.moves.did.1 in
-      elim stands [
-        | inl recorded ↦ among r (inl (recorded ∙ ap (λ c. c.recorded) chain))
-        | inr written ↦
-            let same : did.next ≡ r = same_Some did.next r (sym (ap (λ c. c.writing) chain) ∙ written) in
-            λ seat m here. next_among first old.world.chain did.next did.moves.did.0.0 among seat m (ap (λ (x : Record). slice_get x.members seat) same ∙ here)
-      ]
-  begins_among first (Ok false) old new is among = among_still first old.world.chain new.world.chain (ap (λ w. w.chain.recorded) (is.idle refl).1.0) (ap (λ w. w.chain.writing) (is.idle refl).1.0) among
-  begins_among first (Err e) old new is among = among_still first old.world.chain new.world.chain (ap (λ w. w.chain.recorded) is.err.0) (ap (λ w. w.chain.writing) is.err.0) among
-
-  ends_among : (first : Record) (given : Result Bool config.Refusal) (old new : Managed S) → EndsRecord given old new → AreAmong first old.world.chain → AreAmong first new.world.chain
-  ends_among first (Ok true) old new is among = λ r stands.
-      let moved = (is.ended refl).moves.did.1 in
-      elim stands [
-        | inl recorded ↦ among r (inr (moved.begun ∙ ap Some (sym (recorded ∙ ap (λ c. c.recorded) moved.are))))
-        | inr written ↦ let clash : None ≡ Some r = sym (ap (λ c. c.writing) moved.are) ∙ written in absurd (cc)
-      ]
-  ends_among first (Ok false) old new is among = among_still first old.world.chain new.world.chain (ap (λ w. w.chain.recorded) (is.idle refl).1.0) (ap (λ w. w.chain.writing) (is.idle refl).1.0) among
-  ends_among first (Err e) old new is among = among_still first old.world.chain new.world.chain (ap (λ w. w.chain.recorded) is.world) (ap (λ w. w.chain.writing) is.world) among
-
-  counts_among : (first : Record) (done : Bool) (old new : Managed S) → CountsSlotOut done old new → AreAmong first old.world.chain → AreAmong first new.world.chain
-  counts_among first true old new is among = let chain = (is.out refl).moves.did.1 in among_still first old.world.chain new.world.chain (ap (λ c. c.recorded) chain) (ap (λ c. c.writing) chain) among
-  counts_among first false old new is among = among_still first old.world.chain new.world.chain (ap (λ w. w.chain.recorded) (is.idle refl).1.0) (ap (λ w. w.chain.writing) (is.idle refl).1.0) among
-
-  -- what of a chain the configuration's disk stands to, and its members' disks
-  pub record Keep (old new : Managed S) : Type 0 where
-    pub among : (first : Record) → AreAmong first old.world.chain → AreAmong first new.world.chain
-    pub own : KeepOwn about old.world.chain new.world.chain
-    pub configured : IsConfigured old → IsConfigured new
-    pub in_step : AreInStep old → AreInStep new
-
-  -- where the world's chain stays, but for what members do, and the configuration's disk
-  keep_so : (old new : Managed S) → StayOwn about old.world.chain new.world.chain → new.management ≡ old.management → Keep old new
-  keep_so old new stay same = record {
-    among = λ first. among_still first old.world.chain new.world.chain stay.recorded stay.writing;
-    own = they_keep about old.world.chain new.world.chain stay;
-    configured = λ was. same_chain old new was stay.recorded stay.writing (ap (λ m. m.config) same) (ap (λ m. m.disk) same);
-    in_step = still_in_step old new stay.recorded stay.writing (ap (λ m. m.manager) same);
-  }
-
-  keep_same : (old new : Managed S) → IsSame old new → Keep old new
-  keep_same old new (world, management) = keep_so old new (stay_same about old.world.chain new.world.chain (ap (λ w. w.chain) world)) management
-
-  -- the chain has other records or words
-  own_as : (old new chain : Chained S) → new ≡ chain → chain.geometry ≡ old.geometry → chain.members ≡ old.members → KeepOwn about old new
-  own_as old new chain are geometry members = record { geometry = ap (λ c. c.geometry) are ∙ geometry; owners = ap (λ c. map (own_of about) c.members) are ∙ ap (map (own_of about)) members }
-
-  begins_own : (given : Result Bool AllocError) (old new : Managed S) → BeginsRecord given old new → KeepOwn about old.world.chain new.world.chain
-  begins_own (Ok true) old new is = own_as old.world.chain new.world.chain _ (is.begun refl).moves.did.1 refl refl
-  begins_own (Ok false) old new is = own_as old.world.chain new.world.chain old.world.chain (ap (λ w. w.chain) (is.idle refl).1.0) refl refl
-  begins_own (Err e) old new is = own_as old.world.chain new.world.chain old.world.chain (ap (λ w. w.chain) is.err.0) refl refl
-
-  ends_own : (given : Result Bool config.Refusal) (old new : Managed S) → EndsRecord given old new → KeepOwn about old.world.chain new.world.chain
-  ends_own (Ok true) old new is = own_as old.world.chain new.world.chain _ (is.ended refl).moves.did.1.are refl refl
-  ends_own (Ok false) old new is = own_as old.world.chain new.world.chain old.world.chain (ap (λ w. w.chain) (is.idle refl).1.0) refl refl
-  ends_own (Err e) old new is = own_as old.world.chain new.world.chain old.world.chain (ap (λ w. w.chain) is.world) refl refl
-
-  counts_own : (done : Bool) (old new : Managed S) → CountsSlotOut done old new → KeepOwn about old.world.chain new.world.chain
-  counts_own true old new is = own_as old.world.chain new.world.chain _ (is.out refl).moves.did.1 refl refl
-  counts_own false old new is = own_as old.world.chain new.world.chain old.world.chain (ap (λ w. w.chain) (is.idle refl).1.0) refl refl
-
-  tells_keep : (given : Option Told) (old new : Managed S) → TellsRecord given old new → Keep old new
-  tells_keep (Some told) old new is =
-      let stay = slot_stays is.told.slot told old.world new.world is.told.tells in
-      record {
-        among = λ first. among_still first old.world.chain new.world.chain stay.recorded stay.writing;
-        own = they_keep about old.world.chain new.world.chain stay;
-        configured = λ was. same_chain old new was stay.recorded stay.writing (ap (λ m. m.config) is.told.are) (ap (λ m. m.disk) is.told.are);
-        in_step = tells_in_step (Some told) old new is stay.recorded stay.writing;
-      }
-  tells_keep None old new is = keep_same old new is.idle.1
-
-  manages_keep : (act : ManagerAct) (answer : Answer) (old new : Managed S) → Manages act answer old new → Keep old new
-  manages_keep (manages.Remove slot) answer old new (given, tells, did) = record {
-    among = λ first. among_still first old.world.chain new.world.chain (ap (λ w. w.chain.recorded) did.world) (ap (λ w. w.chain.writing) did.world);
-    own = own_as old.world.chain new.world.chain old.world.chain (ap (λ w. w.chain) did.world) refl refl;
-    configured = removes_configured slot given old new did;
-    in_step = removes_in_step slot given old new did;
-  }
-  manages_keep manages.BeginRecord answer old new (given, tells, did) = record { among = λ first. begins_among first given old new did; own = begins_own given old new did; configured = begins_configured given old new did; in_step = begins_in_step given old new did }
-  manages_keep manages.EndRecord answer old new (given, tells, did) = record { among = λ first. ends_among first given old new did; own = ends_own given old new did; configured = ends_configured given old new did; in_step = ends_in_step given old new did }
-  manages_keep manages.CountOut answer old new (done, tells, did) = record { among = λ first. counts_among first done old new did; own = counts_own done old new did; configured = counts_configured done old new did; in_step = counts_in_step done old new did }
-  manages_keep manages.Tell answer old new (given, tells, did) = tells_keep given old new did
-
-  -- ---- deeds
-
-  module _ (premise : Type 0) (keeps : S → List ℕ → Type 0) (is_pending : S → ℕ → Type 0) (may_leave_now : S → List ℕ → Type 0) (moment : S → ℕ) (left_since : S → ℕ → List ℕ → Type 0) (failures : S → ℕ) (disk : S → MemDisk) where
-    deed_keeps : (deed : Deed) (answer : Answer) (old new : Managed S) → DoesDeed premise about keeps is_pending may_leave_now moment left_since failures disk deed answer old new → Keep old new
-    deed_keeps (deeds.Step step) answer old new (is, same) =
-        keep_so old new (does_stay about premise keeps is_pending may_leave_now moment left_since failures step answer old.world new.world is) same
-    deed_keeps (deeds.Manage act) answer old new is = manages_keep act answer old new is
-    deed_keeps (deeds.Arm at event) answer old new (is, same) =
-        keep_so old new (at_place about premise keeps is_pending may_leave_now moment left_since failures at answer old.world new.world _ is
-        (λ (given, tells, did). stay_changed about at old.world.chain new.world.chain _ did.armed.did (λ m n so. ap own so.stays.tells))) same
-    deed_keeps (deeds.ArmConfig event) answer old new (given, tells, is) = record {
-      among = λ first. among_still first old.world.chain new.world.chain (ap (λ w. w.chain.recorded) is.world) (ap (λ w. w.chain.writing) is.world);
-      own = own_as old.world.chain new.world.chain old.world.chain (ap (λ w. w.chain) is.world) refl refl;
-      configured = λ was. record {
-        part = ap (λ (s : configs.State). s.pair.part) is.config ∙ was.part;
-        left = λ bytes left. subst (λ (c : Chained S). HoldsOne c (inside config_part bytes)) (sym (ap (λ w. w.chain) is.world)) (was.left bytes (is.leaves bytes left));
-        goes_on = elim was.goes_on [
-          | inl broken ↦ inl (ap (λ (s : configs.State). s.pair.broken) is.config ∙ broken)
-          | inr (current, settled) ↦ inr (
-            ap (λ (s : configs.State). s.current) is.config ∙ current ∙ sym (ap (λ w. w.chain.recorded) is.world),
-            subst (λ (s : configs.State). IsSettledConfig s (given_of new.management.disk) (may_be_left new.management.disk)) (sym is.config)
-                (settled_still old.management.config old.management.disk new.management.disk is.stays.given is.leaves settled),
-          )
-        ];
-      };
-      in_step = still_in_step old new (ap (λ w. w.chain.recorded) is.world) (ap (λ w. w.chain.writing) is.world) is.manager;
-    }
-
-    pub deeds_keep : (deeds : List Deed) (answers : List Answer) (old new : Managed S) → DeedsLead premise about keeps is_pending may_leave_now moment left_since failures disk deeds answers old new
-        → Keep old new
-    deeds_keep [] [] old new same = record {
-      among = λ first. among_still first old.world.chain new.world.chain (ap (λ w. w.world.chain.recorded) same) (ap (λ w. w.world.chain.writing) same);
-      own = own_as old.world.chain new.world.chain old.world.chain (ap (λ w. w.world.chain) same) refl refl;
-      configured = λ was. subst IsConfigured (sym same) was;
-      in_step = λ was. subst AreInStep (sym same) was;
-    }
-    deeds_keep [] (a ∷ answers) old new leads = absurd leads
-    deeds_keep (d ∷ deeds) [] old new (answer, did, met) = deed_keeps d answer old new did
-    deeds_keep (d ∷ deeds) (a ∷ answers) old new (mid, did, runs, later) =
-        let one = deed_keeps d a old mid did in
-        let more = deeds_keep deeds answers mid new later in
-        record {
-          among = λ first among. more.among first (one.among first among);
-          own = keep_then about old.world.chain mid.world.chain new.world.chain one.own more.own;
-          configured = λ was. more.configured (one.configured was);
-          in_step = λ was. more.in_step (one.in_step was);
-        }

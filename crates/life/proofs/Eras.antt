@@ -1,19 +1,20 @@
 -- One era after another: lemmas.
-use Rattle.std.proofs.Common.{◌≡◌, ℕ, List, [], ◌∷◌, ◌++◌, map, refl, ap, sym, subst, ◌∙◌}
-use Rattle.std.specs.Prelude.{◌*◌, All, Some, slice_get, zip}
+use Rattle.std.proofs.Common.{◌≡◌, ℕ, List, [], ◌∷◌, ◌++◌, map, refl, ap, sym, subst, ◌∙◌, inl, inr}
+use Rattle.std.specs.Prelude.{◌⊎◌, ◌*◌, All, Some, slice_get, zip}
 use Rattle.std.specs.List.{range_with_len}
+use Rattle.std.specs.Option.{ForSome}
 use Rattle.disk_model.specs.Memory.{given_of}
 use Rattle.disk_model.specs.declared.memory.MemDisk.{MemDisk}
 use Rattle.flush_barrier.specs.declared.session_id.SessionId.{SessionId}
-use Rattle.local_store.specs.About.{About}
+use Rattle.local_store.specs.About.{About, meaning_with}
 use Rattle.local_store.specs.Meaning.{Meaning, Means}
 use Rattle.nbd_session.specs.declared.answer.Export.{Export}
 use Rattle.volume.specs.Writes.{volume_of}
 use Rattle.volume.specs.declared.geometry.Geometry.{Geometry}
 use Rattle.chain_model.specs.Chain.{StandsFor}
-use Rattle.chain_model.specs.Laws.{FirstChain, IsOnEachDisk, RestartsChain}
+use Rattle.chain_model.specs.Laws.{FirstChain, IsOnEachDisk, RestartsChain, RestartsFromJoiner}
 use Rattle.chain_model.specs.Life.{HappeningsAreOfOneVolume}
-use Rattle.world_model.specs.Machine.{Restart, State, after, shown, start}
+use Rattle.world_model.specs.Machine.{May, Restart, State, after, shown, start}
 use Rattle.chain_model.specs.Refusing.{RefusalsHavePleas, StopsHaveCauses}
 use Rattle.chain.specs.Chain.{bytes_of}
 use Rattle.chain.specs.Member.{HasOwnDisk, Linked}
@@ -29,7 +30,7 @@ use Rattle.life.specs.Plays.{DeedsLead, GoesOnFrom}
 use Rattle.life.specs.declared.answer.Answer.{Answer}
 use Rattle.life.specs.declared.era.Answers.{Answers}
 use Rattle.life.specs.declared.era.Era.{Era}
-use Rattle.life.proofs.Lives.{each_disk, era_lawful, exported_as, in_own, may_be_in, recovers}
+use Rattle.life.proofs.Lives.{each_disk, era_lawful, exported_as, in_own, joiner_disk, may_be_in, recovers, recovers_joiner}
 use Rattle.life.proofs.Passing.{goes_plays}
 use Rattle.life.proofs.Pleas.{refused_so}
 use Rattle.life.proofs.Places.{all_at, all_from}
@@ -49,17 +50,26 @@ module _ {S : Type 0} (premise : Type 0) (about : S → About) (keeps : S → Li
   abbrev HasOwed : ℕ → State → Seen S → Linked S → Type 0
   HasOwed size s w m = (r : Record) → MayStand w.chain r → HasDisk r (about m.node.store) → (bytes : List ℕ) → may_leave_now m.node.store bytes → HasWhatIsOwed size s (about m.node.store) bytes
 
+  -- so has that of who joins
+  abbrev JoinerHasOwed : ℕ → State → Seen S → Type 0
+  JoinerHasOwed size s w = ForSome w.joiner (λ store. (r : Record) → MayStand w.chain r → HasDisk r (about store) → (bytes : List ℕ) → may_leave_now store bytes → HasWhatIsOwed size s (about store) bytes)
+
+  -- the disk that the chain went on from is a member's, or that of who joined
+  abbrev pub IsSource : Managed S → (place : ℕ) → List ℕ → Type 0
+  IsSource mid place bytes =
+      ((m : Linked S) × (slice_get mid.world.chain.members place ≡ Some m) × may_leave_now m.node.store bytes) ⊎ ((store : S) × (mid.world.joiner ≡ Some store) × may_leave_now store bytes)
+
   -- an era whose deeds were played, behind which the chain goes on from a disk
-  pub era_leads : HappeningsAreOfOneVolume → RefusalsHavePleas → StopsHaveCauses → RestartsChain → IsOnEachDisk → FirstHasNone → OutputsAreLawful
+  pub era_leads : HappeningsAreOfOneVolume → RefusalsHavePleas → StopsHaveCauses → RestartsChain → RestartsFromJoiner → ((store : S) (volume c : List ℕ) → keeps store volume → may_leave_now store c → Means (meaning_with (about store) volume) c) → IsOnEachDisk → FirstHasNone → OutputsAreLawful
       → ((one other : Meaning) (bytes : List ℕ) → Means one bytes → Means other bytes → one ≡ other)
       → (era : Era) (answers : List Answer) (dropped : SessionId → List ℕ) (old mid new : Managed S) → IsJoined old.world → IsJoined mid.world → AreSessions mid.world.sessions
       → All (HasOwnDisk about) mid.world.chain.members → IsConfigured mid → AreInStep mid
       → DeedsLead premise about keeps is_pending may_leave_now moment left_since failures disk era.deeds.items answers old mid
       → AreOfOneVolume about keeps may_leave_now (zip era.deeds.items answers) dropped old.world mid.world
-      → (goes : GoesOnFrom about keeps may_leave_now disk era mid new) → (m : Linked S) × (slice_get mid.world.chain.members goes.from.place ≡ Some m) × may_leave_now m.node.store (given_of goes.from.source.disk)
+      → (goes : GoesOnFrom about keeps may_leave_now disk era mid new) → IsSource mid goes.from.place (given_of goes.from.source.disk)
       → mid.outside ≡ old.outside → NoImpostor mid
       → (export : Export) (s : State) → Fresh export old.world s → (t : State) × Leads export era answers old s new t × Fresh export new.world t
-  era_leads happenings pleas causes restarts each_has first lawful one_meaning era answers dropped old mid new joined joined_then are owners configured in_step played pass goes (m, here, left) outside none export s fresh =
+  era_leads happenings pleas causes restarts from_joiner means_now each_has first lawful one_meaning era answers dropped old mid new joined joined_then are owners configured in_step played pass goes source outside none export s fresh =
       let size : export.size ≡ bytes_of old.world.chain = ap (λ e. e.size) (sym fresh.has) ∙ joined.size in
       let stands = subst (λ n. StandsFor n fresh.view s) size fresh.stands in
       let turn = pass fresh.view s fresh.shows stands in
@@ -70,8 +80,14 @@ module _ {S : Type 0} (premise : Type 0) (about : S → About) (keeps : S → Li
       let exported : mid.world.sessions.export ≡ export = one.remain.export ∙ fresh.has in
       let again : export_of mid.world.chain.geometry ≡ export = exported_as about keeps may_leave_now mid.world joined_then ∙ exported in
       let found = goes.from.recovers in
-      let (may, later) = recovers about keeps may_leave_now restarts mid.world one.w plays.1 goes.from.place m (given_of goes.from.source.disk) found.meaning new.world one_meaning one.shows stands_then here
-      found.recorded goes.recorded.either found.has (all_at (HasOwnDisk about) mid.world.chain.members goes.from.place m owners here) left found.means (ap export_of goes.sizes) found.begins in (
+      let both : May plays.1 (Restart found.meaning.front) × IsFresh about keeps may_leave_now (bytes_of mid.world.chain) (export_of mid.world.chain.geometry) new.world (after plays.1 (Restart found.meaning.front)) = elim source [
+        | inl (m, here, left) ↦
+            recovers about keeps may_leave_now restarts mid.world one.w plays.1 goes.from.place m (given_of goes.from.source.disk) found.meaning new.world one_meaning one.shows stands_then here
+            found.recorded goes.recorded.either found.has (all_at (HasOwnDisk about) mid.world.chain.members goes.from.place m owners here) left found.means (ap export_of goes.sizes) found.begins
+        | inr (store, joined, left) ↦
+            recovers_joiner about keeps may_leave_now from_joiner means_now mid.world one.w plays.1 store (given_of goes.from.source.disk) found.meaning new.world one_meaning one.shows stands_then joined left found.means (ap export_of goes.sizes) found.begins
+      ] in
+      let (may, later) = both in (
         after plays.1 (Restart found.meaning.front),
         record {
           end = mid;
@@ -90,6 +106,7 @@ module _ {S : Type 0} (premise : Type 0) (about : S → About) (keeps : S → Li
               (all_from (HasOwed (bytes_of mid.world.chain) plays.1 mid.world) mid.world.chain.members
               (λ at x there r stood has bytes left. each_disk about keeps may_leave_now each_has mid.world one.w plays.1 one.shows stands_then at x there
               (may_be_in mid.world.chain x r stood (in_own about r x (all_at (HasOwnDisk about) mid.world.chain.members at x owners there) has)) bytes left));
+          joiner = subst (λ n. JoinerHasOwed n plays.1 mid.world) (stays ∙ sym size) (λ store joined r stood has bytes left. joiner_disk about keeps may_leave_now means_now mid.world one.w plays.1 one.shows stands_then store joined bytes left);
           outside = outside;
           no_impostor = none;
           goes_on = goes;

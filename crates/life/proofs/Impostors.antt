@@ -1,6 +1,7 @@
--- No disk outside is a recorded member's: through an era, and when the chain goes on. Lemmas.
-use Rattle.std.proofs.Common.{◌≡◌, ◌≢◌, ℕ, zero, suc, ◌<◌, List, [], ◌∷◌, ◌++◌, refl, ap, sym, subst, ◌∙◌, inl, inr, arith}
-use Rattle.std.specs.Prelude.{◌⊎◌, All, AllPairs, None, Some, option_map, remove, slice_get}
+-- Whose the disks are that a cut left, and that no disk outside is a recorded member's when the chain goes on. Lemmas.
+use Rattle.std.proofs.Common.{◌≡◌, ◌≢◌, ℕ, zero, suc, ◌<◌, ◌≤◌, List, [], ◌∷◌, ◌++◌, length, map, refl, ap, sym, subst, ◌∙◌, inl, inr, arith}
+use Rattle.std.specs.Prelude.{◌⊎◌, All, AllPairs, None, Option, Some, option_map, remove, slice_get}
+use Rattle.std.specs.Option.{option_to_list}
 use Rattle.std.proofs.lemmas.Bool.{cases_lt}
 use Rattle.std.proofs.lemmas.List.Elements.{All-nil}
 use Rattle.std.proofs.lemmas.Option.{get_or_from_slice_get, same_Some, slice_get-map, slice_get_within}
@@ -14,29 +15,29 @@ use Rattle.chain_model.specs.View.{View, slot_of, slots_of}
 use Rattle.disk_model.specs.Memory.{given_of, may_be_left}
 use Rattle.disk_model.specs.declared.content.Cut.{Cut}
 use Rattle.disk_model.specs.declared.memory.MemDisk.{MemDisk}
-use Rattle.local_store.specs.About.{About}
+use Rattle.local_store.specs.About.{meaning_with}
+use Rattle.local_store.specs.Kept.{stored_means}
 use Rattle.local_store.specs.Meaning.{Meaning, Means}
+use Rattle.manager.specs.Manager.{coming_record}
 use Rattle.world.specs.World.{Shows}
 use Rattle.world_model.specs.Machine.{State}
-use Rattle.life.specs.Begun.{AreOnDisks, IsCut, IsCutFrom}
-use Rattle.life.specs.Managed.{IsAmong, IsAtRest, Managed, MayStand, NoImpostor}
+use Rattle.std.specs.List.{range_with_len}
+use Rattle.volume.specs.declared.geometry.Geometry.{Geometry}
+use Rattle.life.specs.Begun.{IsCut, IsCutFrom, IsOfMember, first_about, stores_of}
+use Rattle.life.specs.Headline.{first_record}
+use Rattle.life.specs.Managed.{AreDated, IsAmong, Managed, MayStand, NoImpostor}
 use Rattle.life.specs.Plays.{AreCut, IsCutAt, IsCutOutside}
 use Rattle.life.specs.Recovered.{GivesOnly, IsSpared, RecoversFrom, recorded_as}
 use Rattle.life.specs.declared.managed.SlotDisk.{SlotDisk}
-use Rattle.life.proofs.Beside.{others_of, remove_is, zip_there}
+use Rattle.life.proofs.Beside.{others_of, remove_is, zip_long, zip_there}
 use Rattle.life.proofs.Chosen.{IsTheSource, source_is}
-use Rattle.life.proofs.Configured.{AreAmong, Keep}
-use Rattle.life.proofs.Places.{all_at, all_from}
-use Rattle.life.proofs.Returning.{cut_of_member}
-use Rattle.life.proofs.Starting.{IsStore, about_of_store, disk_in, keeps_volume, leaves_now}
+use Rattle.life.proofs.Deeds.{Holds, IsNone, IsOld, dated_members, on_disks}
+use Rattle.life.proofs.Newcomers.{joiner_shown}
+use Rattle.life.proofs.Places.{all_at, all_from, get_either, of_mapped}
+use Rattle.life.proofs.Returning.{cut_of_joiner, cut_of_member}
+use Rattle.life.proofs.Starting.{IsStore, about_of_store, disk_in, first_all, keeps_volume, leaves_now}
 
 -- ---- lists
-
--- what stands in two lists, one behind the other, stands in one of them
-pub get_either : {A : Type 0} (xs ys : List A) (k : ℕ) (x : A) → slice_get (xs ++ ys) k ≡ Some x → (slice_get xs k ≡ Some x) ⊎ ((j : ℕ) × (slice_get ys j ≡ Some x))
-get_either [] ys k x here = inr (k, here)
-get_either (y ∷ xs) ys zero x here = inl here
-get_either (y ∷ xs) ys (suc k) x here = get_either xs ys k x here
 
 -- what is left when one is taken out stood at another place
 get_among : {A : Type 0} (xs : List A) (place k : ℕ) (x : A) → slice_get (others_of xs place) k ≡ Some x → (j : ℕ) × (j ≢ place) × (slice_get xs j ≡ Some x)
@@ -60,35 +61,44 @@ apart_in ns i j n apart here there = elim (cases_lt i j) [
     two : (x y : ℕ) → x < y → slice_get ns x ≡ Some n → slice_get ns y ≡ Some n → ⊥
     two x y below at_x at_y = apart x y n below (slice_get_within ns y n at_y) (get_or_from_slice_get ns x n n at_x ∙ sym (get_or_from_slice_get ns y n n at_y))
 
--- ---- through an era
+-- the one that may be there
+one_there : {A : Type 0} (o : Option A) (j : ℕ) (x : A) → slice_get (option_to_list o) j ≡ Some x → (o ≡ Some x) × (j ≡ 0)
+one_there None j x here = let none : None ≡ Some x = here in absurd (cc)
+one_there (Some y) zero x here = (here, refl)
+one_there (Some y) (suc j) x here = let none : None ≡ Some x = here in absurd (cc)
 
--- whatever a stop may leave of the disk, it is none of a member of a record that a stop may leave
-abbrev IsNobodys : {S : Type 0} → Managed S → SlotDisk MemDisk → Type 0
-IsNobodys w d = (bytes : List ℕ) → may_be_left d.disk bytes → (meaning : Meaning) → Means meaning bytes → (r : Record) → MayStand w.world.chain r → IsAmong r meaning.slot meaning.incarnation → ⊥
+-- whatever a stop may leave of a store's disk means the volume that it keeps
+pub store_means : (store : IsStore) (volume c : List ℕ) → keeps_volume store volume → leaves_now store c → Means (meaning_with (about_of_store store) volume) c
+store_means store volume c kept left = stored_means kept.stands kept c left
 
--- where nothing is outside there is none
+-- where nothing is outside there is no impostor
 pub none_outside : {S : Type 0} (w : Managed S) → w.outside ≡ [] → NoImpostor w
-none_outside w nothing = subst (All (IsNobodys w)) (sym nothing) (All-nil (IsNobodys w))
+none_outside w nothing = subst (All (IsNone w)) (sym nothing) (All-nil (IsNone w))
 
-pub impostors_stay : {S : Type 0} (about : S → About) (old new : Managed S) → Keep about old new → new.outside ≡ old.outside → IsAtRest old → NoImpostor old → NoImpostor new
-impostors_stay about old new keep outside rests none =
-    subst (All (IsNobodys new)) (sym outside) (λ k d within bytes left meaning means r stands (seat, here). none k d within bytes left meaning means old.world.chain.recorded (inl refl) (among r stands seat (recorded_as meaning) here))
-  where
-    first : AreAmong about old.world.chain.recorded old.world.chain
-    first r (inl is) seat m here = (seat, ap (λ (x : Record). slice_get x.members seat) (sym is) ∙ here)
-    first r (inr written) seat m here = let clash : None ≡ Some r = sym rests.idle ∙ written in absurd (cc)
+-- and the first members' disks are dated
+pub first_dated : (w : Managed IsStore) (geometry : Geometry) (n : ℕ) → map about_of_store (stores_of w.world) ≡ map (first_about geometry) (range_with_len 0 n) → w.world.chain.recorded ≡ first_record n → w.outside ≡ [] → AreDated about_of_store w
+first_dated w geometry n slots recorded nothing = record {
+  members = of_mapped (λ s. (about_of_store s).incarnation ≤ w.world.chain.recorded.epoch) (λ (m : Linked IsStore). m.node.store) w.world.chain.members
+      (first_all about_of_store geometry n (λ a. a.incarnation ≤ w.world.chain.recorded.epoch) (stores_of w.world) slots (λ k. let e = ap (λ (r : Record). r.epoch) recorded in omega (arith, e)));
+  outside = subst (All (IsOld w)) (sym nothing) (All-nil (IsOld w));
+}
 
-    among : AreAmong about old.world.chain.recorded new.world.chain
-    among = keep.among old.world.chain.recorded first
-
--- ---- the source is a member's
+-- ---- a cut
 
 module _ (mid : Managed IsStore) (cut : Cut) (disks : List (SlotDisk MemDisk)) (config : MemDisk) (cuts : AreCut about_of_store leaves_now disk_in cut mid disks config) where
-  -- a disk at a place is a member's, or it was outside
-  pub record IsMembers (place : ℕ) (d : SlotDisk MemDisk) : Type 0 where
-    pub member : Linked IsStore
-    pub here : slice_get mid.world.chain.members place ≡ Some member
-    pub cut_is : IsCutFrom leaves_now disk_in cut member.node.store d.disk
+  -- the store of a member at this place
+  abbrev pub IsMembers : ℕ → IsStore → Type 0
+  IsMembers place store = (m : Linked IsStore) × (slice_get mid.world.chain.members place ≡ Some m) × (m.node.store ≡ store)
+
+  -- or of who joins, behind them
+  abbrev pub IsJoiners : ℕ → IsStore → Type 0
+  IsJoiners place store = (place ≡ length mid.world.chain.members) × (mid.world.joiner ≡ Some store)
+
+  -- a disk at a place is that of such a store, or it was outside
+  pub record IsOwned (place : ℕ) (d : SlotDisk MemDisk) : Type 0 where
+    pub store : IsStore
+    pub cut_is : IsCutFrom leaves_now disk_in cut store d.disk
+    pub whose : IsMembers place store ⊎ IsJoiners place store
 
   pub record WasOutside (d : SlotDisk MemDisk) : Type 0 where
     pub was : SlotDisk MemDisk
@@ -96,72 +106,155 @@ module _ (mid : Managed IsStore) (cut : Cut) (disks : List (SlotDisk MemDisk)) (
     pub here : slice_get mid.outside at ≡ Some was
     pub cut_is : IsCut cut was.disk d.disk
 
-  pub whose : (place : ℕ) (d : SlotDisk MemDisk) → slice_get disks place ≡ Some d → IsMembers place d ⊎ WasOutside d
-  whose place d there = elim (get_either cuts.of_members cuts.outside place d (ap (λ (ds : List (SlotDisk MemDisk)). slice_get ds place) (sym cuts.are) ∙ there)) [
+  pub whose : (place : ℕ) (d : SlotDisk MemDisk) → slice_get disks place ≡ Some d → IsOwned place d ⊎ WasOutside d
+  whose place d there = elim (get_either cuts.of_members (cuts.of_joiner ++ cuts.outside) place d (ap (λ (ds : List (SlotDisk MemDisk)). slice_get ds place) (sym cuts.are) ∙ there)) [
     | inl in_chain ↦
         let (m, here, is) = zip_there (λ (x : Linked IsStore) left. IsCutAt about_of_store leaves_now disk_in cut x.node.store left) mid.world.chain.members cuts.of_members place d cuts.members_cut in_chain in
-        inl (record { member = m; here = here; cut_is = is.0 })
-    | inr (j, out) ↦
-        let (was, here, is) = zip_there (IsCutOutside cut) mid.outside cuts.outside j d cuts.outside_cut out in
-        inr (record { was = was; at = j; here = here; cut_is = is.0 })
+        inl (record { store = m.node.store; cut_is = is.0; whose = inl (m, here, refl) })
+    | inr (j, at, behind) ↦ elim (get_either cuts.of_joiner cuts.outside j d behind) [
+      | inl joins ↦
+          let (store, here, is) = zip_there (IsCutAt about_of_store leaves_now disk_in cut) (option_to_list mid.world.joiner) cuts.of_joiner j d cuts.joiner_cut joins in
+          let (joined, first) = one_there mid.world.joiner j store here in
+          let long = zip_long (λ (x : Linked IsStore) left. IsCutAt about_of_store leaves_now disk_in cut x.node.store left) mid.world.chain.members cuts.of_members cuts.members_cut in
+          inl (record { store = store; cut_is = is.0; whose = inr (omega (arith, at, first, long), joined) })
+      | inr (k, place_is, out) ↦
+          let (was, here, is) = zip_there (IsCutOutside cut) mid.outside cuts.outside k d cuts.outside_cut out in
+          inr (record { was = was; at = k; here = here; cut_is = is.0 })
+    ]
   ]
 
   -- nothing else may be left of any of them
   pub gives_only : (place : ℕ) (d : SlotDisk MemDisk) → slice_get disks place ≡ Some d → GivesOnly d
-  gives_only place d there = elim (whose place d there) [ inl m ↦ m.cut_is.only | inr o ↦ o.cut_is.only ]
+  gives_only place d there = elim (whose place d there) [ inl o ↦ o.cut_is.only | inr o ↦ o.cut_is.only ]
 
   -- one that was outside is none of a member that may be recorded
   pub outside_is_none : NoImpostor mid → (d : SlotDisk MemDisk) → WasOutside d → (meaning : Meaning) → Means meaning (given_of d.disk) → (r : Record) → MayStand mid.world.chain r → IsAmong r meaning.slot meaning.incarnation → ⊥
   outside_is_none none d o meaning means r stands among =
-      all_at (IsNobodys mid) mid.outside o.at o.was none o.here
+      all_at (IsNone mid) mid.outside o.at o.was none o.here
       (given_of d.disk) o.cut_is.left meaning means r stands among
 
-  pub source_is_members : NoImpostor mid → (returned : List ℕ) (r : Record) (place : ℕ) → MayStand mid.world.chain r → (s : IsTheSource returned disks r place) → IsMembers place s.disk
-  source_is_members none returned r place stands s = elim (whose place s.disk s.there) [
-    | inl m ↦ m
+  pub source_is_owned : NoImpostor mid → (returned : List ℕ) (r : Record) (place : ℕ) → MayStand mid.world.chain r → (s : IsTheSource returned disks r place) → IsOwned place s.disk
+  source_is_owned none returned r place stands s = elim (whose place s.disk s.there) [
+    | inl o ↦ o
     | inr o ↦ absurd (outside_is_none none s.disk o s.is.meaning s.is.means r stands (s.seat, s.recorded))
   ]
 
-  -- ---- and the others aren't it
+  -- so it is a source
+  pub source_so : (place : ℕ) (d source : SlotDisk MemDisk) → d ≡ source → IsOwned place d
+      → ((m : Linked IsStore) × (slice_get mid.world.chain.members place ≡ Some m) × leaves_now m.node.store (given_of source.disk)) ⊎ ((store : IsStore) × (mid.world.joiner ≡ Some store) × leaves_now store (given_of source.disk))
+  source_so place d source same o =
+      let left : leaves_now o.store (given_of source.disk) = subst (λ (x : SlotDisk MemDisk). leaves_now o.store (given_of x.disk)) same o.cut_is.left in
+      elim o.whose [
+        | inl (m, here, is) ↦ inl (m, here, subst (λ s. leaves_now s (given_of source.disk)) (sym is) left)
+        | inr (at, joined) ↦ inr (o.store, joined, left)
+      ]
 
-  module _ (v : View) (shows : Shows about_of_store keeps_volume leaves_now mid.world v) (on : AreOnDisks about_of_store mid.world) (owners : All (HasOwnDisk about_of_store) mid.world.chain.members) (size : ℕ) (s : State)
-      (stands : StandsFor size v s) where
-    -- two members aren't at one slot
-    members_apart : (i j : ℕ) (a b : Linked IsStore) → slice_get mid.world.chain.members i ≡ Some a → slice_get mid.world.chain.members j ≡ Some b → (about_of_store a.node.store).slot ≡ (about_of_store b.node.store).slot → i ≡ j
-    members_apart i j a b here there same =
-        let (x, at_x, is_x) = zip_at (IsShown about_of_store keeps_volume leaves_now (bytes_of mid.world.chain)) mid.world.chain.members v.members i a shows.chain.members here in
-        let (y, at_y, is_y) = zip_at (IsShown about_of_store keeps_volume leaves_now (bytes_of mid.world.chain)) mid.world.chain.members v.members j b shows.chain.members there in
-        let own_a = (all_at (HasOwnDisk about_of_store) mid.world.chain.members i a owners here).slot in
-        let own_b = (all_at (HasOwnDisk about_of_store) mid.world.chain.members j b owners there).slot in
-        let slots : slot_of x ≡ slot_of y = ap slot_of is_x.is ∙ sym own_a ∙ same ∙ own_b ∙ sym (ap slot_of is_y.is) in
-        apart_in (slots_of v.members) i j (slot_of y) stands.0.2.slots (slice_get-map slot_of v.members i ∙ ap (option_map slot_of) at_x ∙ ap Some slots) (slice_get-map slot_of v.members j ∙ ap (option_map slot_of) at_y)
+  -- ---- what they mean
 
-    -- another disk means another member than the source's
-    pub others_differ : ((one other : Meaning) (bytes : List ℕ) → Means one bytes → Means other bytes → one ≡ other) → NoImpostor mid → (returned : List ℕ) (r : Record) (place : ℕ) → MayStand mid.world.chain r → (src : IsTheSource returned disks r place)
-        → (j : ℕ) (d : SlotDisk MemDisk) → j ≢ place → slice_get disks j ≡ Some d → (meaning : Meaning) → Means meaning (given_of d.disk) → recorded_as src.is.meaning ≡ recorded_as meaning → ⊥
-    others_differ one_meaning none returned r place may src j d other there meaning means same = elim (whose j d there) [
-      | inr o ↦ outside_is_none none d o meaning means r may (src.seat, src.recorded ∙ ap Some same)
-      | inl m ↦
-          let its = source_is_members none returned r place may src in
-          let (is, geometry, slot, incarnation) = cut_of_member mid.world v j m.member d.disk shows m.here cut m.cut_is on in
-          let (own, own_geometry, own_slot, own_incarnation) = cut_of_member mid.world v place its.member src.disk.disk shows its.here cut its.cut_is on in
-          let meant : meaning ≡ is.meaning = one_meaning meaning is.meaning (given_of d.disk) means is.means in
-          let own_meant : src.is.meaning ≡ own.meaning = one_meaning src.is.meaning own.meaning (given_of src.disk.disk) src.is.means own.means in
-          let slots : (about_of_store m.member.node.store).slot ≡ (about_of_store its.member.node.store).slot =
-          sym slot ∙ ap (λ (x : Meaning). x.slot) (sym meant) ∙ ap (λ (x : Member). x.slot) (sym same) ∙ ap (λ (x : Meaning). x.slot) own_meant ∙ own_slot in
-          other (members_apart j place m.member its.member m.here its.here slots)
+  module _ (v : View) (shows : Shows about_of_store keeps_volume leaves_now mid.world v) (holds : Holds about_of_store mid) where
+    -- it means that it is its store's member
+    pub owned_means : (place : ℕ) (d : SlotDisk MemDisk) (o : IsOwned place d)
+        → (is : IsOfMember d.disk) × (is.meaning.geometry ≡ (about_of_store o.store).geometry) × (is.meaning.slot ≡ (about_of_store o.store).slot) × (is.meaning.incarnation ≡ (about_of_store o.store).incarnation)
+    owned_means place d o = elim o.whose [
+      | inl (m, here, same) ↦
+          let cut_is : IsCutFrom leaves_now disk_in cut m.node.store d.disk = subst (λ s. IsCutFrom leaves_now disk_in cut s d.disk) (sym same) o.cut_is in
+          let (is, geometry, slot, incarnation) = cut_of_member mid.world v place m d.disk shows here cut cut_is (on_disks about_of_store mid holds) in
+          let sizes = (all_at (λ n. (0 < (about_of_store n.node.store).incarnation) × ((about_of_store n.node.store).geometry ≡ mid.world.chain.geometry)) mid.world.chain.members place m (on_disks about_of_store mid holds) here).1 in
+          (is, geometry ∙ sym sizes ∙ ap (λ s. (about_of_store s).geometry) same, slot ∙ ap (λ s. (about_of_store s).slot) same, incarnation ∙ ap (λ s. (about_of_store s).incarnation) same)
+      | inr (at, joined) ↦
+          let (j, joins, of) = joiner_shown about_of_store keeps_volume leaves_now mid.world v o.store shows joined in
+          let newer = (holds.joins o.store joined).incarnation in
+          cut_of_joiner o.store j.volume d.disk of.keeping cut o.cut_is (omega (arith, newer))
     ]
 
-    -- so none of those that are outside then is the member's that goes on
-    pub impostors_after : ((one other : Meaning) (bytes : List ℕ) → Means one bytes → Means other bytes → one ≡ other) → NoImpostor mid → (returned : List ℕ) (new : Managed IsStore)
-        → (from : RecoversFrom about_of_store keeps_volume leaves_now returned disks config new) → MayStand mid.world.chain from.recovers.recorded → NoImpostor new
-    impostors_after one_meaning none returned new from may =
-        all_from (IsNobodys new) new.outside (λ k now there bytes left meaning means r stands among.
-        let (d, here, spared) = zip_there IsSpared (remove disks from.place) new.outside k now from.outside there in
-        let (j, other, at) = get_other disks from.place k d here in
-        let gives : bytes ≡ given_of d.disk = elim (spared.leaves bytes left) [ inl was ↦ gives_only j d at bytes was | inr is ↦ is ] in
-        others_differ one_meaning none returned from.recovers.recorded from.place may src j d other at meaning (subst (Means meaning) gives means) (ap recorded_as (sym meant) ∙ alone r stands meaning among))
-      where
+    -- its incarnation was recorded, or is the next epoch
+    owned_dated : (place : ℕ) (d : SlotDisk MemDisk) (o : IsOwned place d) → (about_of_store o.store).incarnation ≤ suc mid.world.chain.recorded.epoch
+    owned_dated place d o = elim o.whose [
+      | inl (m, here, same) ↦
+          let le = all_at (λ n. (about_of_store n.node.store).incarnation ≤ mid.world.chain.recorded.epoch) mid.world.chain.members place m (dated_members about_of_store mid holds) here in
+          let e : (about_of_store m.node.store).incarnation ≡ (about_of_store o.store).incarnation = ap (λ s. (about_of_store s).incarnation) same in
+          omega (arith, le, e)
+      | inr (at, joined) ↦ let e = (holds.joins o.store joined).incarnation in omega (arith, e)
+    ]
+
+    -- whatever it is, it is of no later one
+    disk_dated : ((one other : Meaning) (bytes : List ℕ) → Means one bytes → Means other bytes → one ≡ other) → (place : ℕ) (d : SlotDisk MemDisk) → slice_get disks place ≡ Some d → (meaning : Meaning) → Means meaning (given_of d.disk)
+        → meaning.incarnation ≤ suc mid.world.chain.recorded.epoch
+    disk_dated one_meaning place d there meaning means = elim (whose place d there) [
+      | inl o ↦
+          let (is, geometry, slot, incarnation) = owned_means place d o in
+          let e : meaning.incarnation ≡ (about_of_store o.store).incarnation = ap (λ (x : Meaning). x.incarnation) (one_meaning meaning is.meaning (given_of d.disk) means is.means) ∙ incarnation in
+          let le = owned_dated place d o in omega (arith, e, le)
+      | inr o ↦ let le = all_at (IsOld mid) mid.outside o.at o.was holds.old o.here (given_of d.disk) o.cut_is.left meaning means in omega (arith, le)
+    ]
+
+    -- ---- and the others aren't the source's
+
+    module _ (owners : All (HasOwnDisk about_of_store) mid.world.chain.members) (size : ℕ) (s : State) (stands : StandsFor size v s) where
+      -- a member's slot, as it is shown
+      shown_slot : (i : ℕ) (a : Linked IsStore) → slice_get mid.world.chain.members i ≡ Some a → slice_get (slots_of v.members) i ≡ Some (about_of_store a.node.store).slot
+      shown_slot i a here =
+          let (x, at_x, is_x) = zip_at (IsShown about_of_store keeps_volume leaves_now (bytes_of mid.world.chain)) mid.world.chain.members v.members i a shows.chain.members here in
+          let its = (all_at (HasOwnDisk about_of_store) mid.world.chain.members i a owners here).slot in
+          slice_get-map slot_of v.members i ∙ ap (option_map slot_of) at_x ∙ ap Some (ap slot_of is_x.is ∙ sym its)
+
+      -- one that may be recorded has the sizes of the chain's volume
+      pub owned_sizes : (place : ℕ) (d : SlotDisk MemDisk) (o : IsOwned place d) (r : Record) → MayStand mid.world.chain r → (seat : ℕ) (m : Member) → slice_get r.members seat ≡ Some m → m.incarnation ≡ (about_of_store o.store).incarnation
+          → (about_of_store o.store).geometry ≡ mid.world.chain.geometry
+      owned_sizes place d o r may seat m there its = elim o.whose [
+        | inl (x, here, same) ↦
+            ap (λ s. (about_of_store s).geometry) (sym same)
+            ∙ (all_at (λ n. (0 < (about_of_store n.node.store).incarnation) × ((about_of_store n.node.store).geometry ≡ mid.world.chain.geometry)) mid.world.chain.members place x (on_disks about_of_store mid holds) here).1
+        | inr (at, joined) ↦ elim may [
+          | inl is ↦
+              let (j, joins, of) = joiner_shown about_of_store keeps_volume leaves_now mid.world v o.store shows joined in
+              let newer = (stands.1 j joins).incarnation in
+              let recorded : v.recorded ≡ mid.world.chain.recorded = shows.chain.recorded in
+              let le = all_at (λ (x : Member). x.incarnation ≤ v.youngest) v.recorded.members seat m stands.0.2.dated (ap (λ (x : Record). slice_get x.members seat) (recorded ∙ sym is) ∙ there) in
+              absurd (omega (arith, newer, le, its, of.incarnation))
+          | inr written ↦ ((holds.joins o.store joined).writing r written).sizes
+        ]
+      ]
+
+      -- two aren't at one slot
+      owned_apart : (i j : ℕ) (d e : SlotDisk MemDisk) (a : IsOwned i d) (b : IsOwned j e) → (about_of_store a.store).slot ≡ (about_of_store b.store).slot → i ≡ j
+      owned_apart i j d e a b same = by a.whose b.whose
+        where
+          members : (x y : Linked IsStore) → slice_get mid.world.chain.members i ≡ Some x → slice_get mid.world.chain.members j ≡ Some y → (about_of_store x.node.store).slot ≡ (about_of_store y.node.store).slot → i ≡ j
+          members x y here there slots = apart_in (slots_of v.members) i j (about_of_store y.node.store).slot stands.0.2.slots (shown_slot i x here ∙ ap Some slots) (shown_slot j y there)
+
+          -- a member isn't at the slot of who joins
+          newcomer : (k : ℕ) (x : Linked IsStore) (store : IsStore) → slice_get mid.world.chain.members k ≡ Some x → mid.world.joiner ≡ Some store → (about_of_store x.node.store).slot ≡ (about_of_store store).slot → ⊥
+          newcomer k x store here joined slots =
+              let (j, joins, of) = joiner_shown about_of_store keeps_volume leaves_now mid.world v store shows joined in
+              let (m, at, is) = zip_at (IsShown about_of_store keeps_volume leaves_now (bytes_of mid.world.chain)) mid.world.chain.members v.members k x shows.chain.members here in
+              let its = (all_at (HasOwnDisk about_of_store) mid.world.chain.members k x owners here).slot in
+              all_at (λ m. slot_of m ≢ j.slot) v.members k m (stands.1 j joins).apart at (ap slot_of is.is ∙ sym its ∙ slots ∙ sym of.slot)
+
+          by : IsMembers i a.store ⊎ IsJoiners i a.store → IsMembers j b.store ⊎ IsJoiners j b.store → i ≡ j
+          by (inl (x, here, is)) (inl (y, there, other)) = members x y here there (ap (λ s. (about_of_store s).slot) is ∙ same ∙ ap (λ s. (about_of_store s).slot) (sym other))
+          by (inl (x, here, is)) (inr (at, joined)) = absurd (newcomer i x b.store here joined (ap (λ s. (about_of_store s).slot) is ∙ same))
+          by (inr (at, joined)) (inl (y, there, other)) = absurd (newcomer j y a.store there joined (ap (λ s. (about_of_store s).slot) other ∙ sym same))
+          by (inr (at, joined)) (inr (place, too)) = at ∙ sym place
+
+      -- another disk means another member than the source's
+      pub others_differ : ((one other : Meaning) (bytes : List ℕ) → Means one bytes → Means other bytes → one ≡ other) → (returned : List ℕ) (r : Record) (place : ℕ) → MayStand mid.world.chain r → (src : IsTheSource returned disks r place)
+          → (j : ℕ) (d : SlotDisk MemDisk) → j ≢ place → slice_get disks j ≡ Some d → (meaning : Meaning) → Means meaning (given_of d.disk) → recorded_as src.is.meaning ≡ recorded_as meaning → ⊥
+      others_differ one_meaning returned r place may src j d other there meaning means same = elim (whose j d there) [
+        | inr o ↦ outside_is_none holds.none d o meaning means r may (src.seat, src.recorded ∙ ap Some same)
+        | inl o ↦
+            let its = source_is_owned holds.none returned r place may src in
+            let (is, geometry, slot, incarnation) = owned_means j d o in
+            let (own, own_geometry, own_slot, own_incarnation) = owned_means place src.disk its in
+            let meant : meaning ≡ is.meaning = one_meaning meaning is.meaning (given_of d.disk) means is.means in
+            let own_meant : src.is.meaning ≡ own.meaning = one_meaning src.is.meaning own.meaning (given_of src.disk.disk) src.is.means own.means in
+            let slots : (about_of_store o.store).slot ≡ (about_of_store its.store).slot =
+            sym slot ∙ ap (λ (x : Meaning). x.slot) (sym meant) ∙ ap (λ (x : Member). x.slot) (sym same) ∙ ap (λ (x : Meaning). x.slot) own_meant ∙ own_slot in
+            other (owned_apart j place d src.disk o its slots)
+      ]
+
+      module _ (one_meaning : (one other : Meaning) (bytes : List ℕ) → Means one bytes → Means other bytes → one ≡ other) (returned : List ℕ) (new : Managed IsStore)
+          (from : RecoversFrom about_of_store keeps_volume leaves_now returned disks config new) (may : MayStand mid.world.chain from.recovers.recorded) where
         src : IsTheSource returned disks from.recovers.recorded from.place
         src = source_is returned disks from.recovers.recorded from.place from.chosen
 
@@ -179,3 +272,53 @@ module _ (mid : Managed IsStore) (cut : Cut) (disks : List (SlotDisk MemDisk)) (
         alone : (r : Record) → MayStand new.world.chain r → (meaning : Meaning) → IsAmong r meaning.slot meaning.incarnation → recorded_as from.recovers.meaning ≡ recorded_as meaning
         alone r (inl is) meaning (seat, here) = one_in r (ap (λ (x : Record). x.members) is ∙ from.recovers.alone) seat (recorded_as meaning) here
         alone r (inr written) meaning among = let clash : None ≡ Some r = sym from.recovers.rests.idle ∙ written in absurd (cc)
+
+        -- what is outside then was another disk, and gives what that gave
+        pub record WasAnother (k : ℕ) (bytes : List ℕ) : Type 0 where
+          pub at : ℕ
+          pub disk : SlotDisk MemDisk
+          pub other : at ≢ from.place
+          pub there : slice_get disks at ≡ Some disk
+          pub gives : bytes ≡ given_of disk.disk
+
+        was_another : (k : ℕ) (now : SlotDisk MemDisk) → slice_get new.outside k ≡ Some now → (bytes : List ℕ) → may_be_left now.disk bytes → WasAnother k bytes
+        was_another k now there bytes left =
+            let (d, here, spared) = zip_there IsSpared (remove disks from.place) new.outside k now from.outside there in
+            let (j, other, at) = get_other disks from.place k d here in
+            record { at = j; disk = d; other = other; there = at; gives = elim (spared.leaves bytes left) [ inl was ↦ gives_only j d at bytes was | inr is ↦ is ] }
+
+        -- so none of those that are outside then is the member's that goes on
+        pub impostors_after : NoImpostor new
+        impostors_after = all_from (IsNone new) new.outside (λ k now there bytes left meaning means r stands among.
+            let was = was_another k now there bytes left in
+            others_differ one_meaning returned from.recovers.recorded from.place may src was.at was.disk was.other was.there meaning (subst (Means meaning) was.gives means) (ap recorded_as (sym meant) ∙ alone r stands meaning among))
+
+        -- the record that stood is of this epoch, or the next one
+        not_before : mid.world.chain.recorded.epoch ≤ from.recovers.recorded.epoch
+        not_before = elim may [
+          | inl is ↦ let e = ap (λ (r : Record). r.epoch) is in omega (arith, e)
+          | inr written ↦ elim holds.in_step.writing [
+            | inl none ↦ let clash : None ≡ Some from.recovers.recorded = sym none ∙ written in absurd (cc)
+            | inr (is, begun, due) ↦
+                let e = ap (λ (r : Record). r.epoch) (same_Some (coming_record mid.management.manager) from.recovers.recorded (sym is ∙ written)) in
+                let at = ap (λ (r : Record). r.epoch) holds.in_step.chain in
+                omega (arith, e, at)
+          ]
+        ]
+
+        -- so the next one's epoch is later than all of them
+        later : suc mid.world.chain.recorded.epoch ≤ new.world.chain.recorded.epoch
+        later = elim from.recovers.later [ inl one ↦ omega (arith, one, not_before) | inr two ↦ omega (arith, two, not_before) ]
+
+        pub dated_after : AreDated about_of_store new
+        dated_after = record {
+          members = all_from (λ m. (about_of_store m.node.store).incarnation ≤ new.world.chain.recorded.epoch) new.world.chain.members (λ at m here.
+              let its = (all_at (λ n. ((about_of_store n.node.store).slot ≡ from.recovers.meaning.slot) × ((about_of_store n.node.store).incarnation ≡ from.recovers.meaning.incarnation)) new.world.chain.members at m
+              (of_mapped (λ s. ((about_of_store s).slot ≡ from.recovers.meaning.slot) × ((about_of_store s).incarnation ≡ from.recovers.meaning.incarnation)) (λ (n : Linked IsStore). n.node.store) new.world.chain.members from.recovers.member) here).1 in
+              let le = disk_dated one_meaning from.place from.source from.there from.recovers.meaning from.recovers.means in
+              omega (arith, its, le, later));
+          outside = all_from (IsOld new) new.outside (λ k now there bytes left meaning means.
+              let was = was_another k now there bytes left in
+              let le = disk_dated one_meaning was.at was.disk was.there meaning (subst (Means meaning) was.gives means) in
+              omega (arith, le, later));
+        }

@@ -1,11 +1,12 @@
 -- The manager's record and the chain's go in step. Lemmas.
 use Rattle.std.proofs.Common.{◌≡◌, ℕ, ◌+◌, ◌<◌, Bool, true, false, List, [], ◌∷◌, length, refl, ap, sym, subst, ◌∙◌, inl, inr, arith}
-use Rattle.std.specs.Prelude.{◌&&◌, ◌==◌, not, if◌then◌else◌, Option, None, Some, Result, Ok, Err, fold}
+use Rattle.std.specs.Prelude.{◌⊎◌, ◌&&◌, ◌==◌, not, if◌then◌else◌, Option, None, Some, Result, Ok, Err, fold, is_some}
 use Rattle.configurations.specs.Record.{Record}
 use Rattle.configurations.specs.declared.refusal.Refusal as config
-use Rattle.manager.specs.Manager.{State, carried_out, coming_record, done_of, is_busy, is_held, next_of, stopped_at}
+use Rattle.manager.specs.Manager.{State, abandoned, abandoned_at, begun_of, carried_out, coming_record, done_of, is_busy, is_cut, is_held, next_of, record_of, stopped_at, why_no_abandoning}
 use Rattle.manager.specs.Orders.{first_of, is_record}
 use Rattle.manager.specs.declared.order.Order.{Order}
+use Rattle.manager.specs.declared.order.Order.TheVariants.{Idle}
 use Rattle.manager.specs.declared.refusal.Refusal as manager
 use Rattle.manager.specs.declared.refusal.Refusal.TheVariants.{OneAtATime}
 use Rattle.std.proofs.lemmas.Bool.{eqb-true}
@@ -13,8 +14,8 @@ use Rattle.std.proofs.lemmas.Option.{same_Some}
 use Rattle.std.specs.declared.alloc.AllocError.{AllocError}
 use Rattle.chain.specs.Member.{Linked}
 use Rattle.world.specs.Management.{has_stopped_in, knows, noted, noted_one}
-use Rattle.world.specs.declared.told.Told.{Told}
-use Rattle.life.specs.Calls.{BeginsRecord, CountsSlotOut, EndsRecord, IsSame, Removes, TellsRecord}
+use Rattle.local_store.specs.About.{About}
+use Rattle.life.specs.Calls.{BeginsNext, BeginsRecord, BeginsWithJoiner, CountsSlotOut, EndsNext, EndsRecord, EndsWithJoiner, IsSame, Joins, Removes}
 use Rattle.life.specs.Managed.{AreInStep, IsAtRest, Managed}
 
 -- ---- what a manager knows, but for who has stopped
@@ -44,34 +45,48 @@ noted_all r st (m ∷ ms) =
     alike_then (fold (noted_one r) (noted_one r st m) ms) (noted_one r st m) st (noted_all r (noted_one r st m) ms)
     (noted_if (has_stopped_in r m && knows st m.node.state.place.slot) m.node.state.place.slot st)
 
--- ---- its next order, where nobody joins
+-- ---- its next order
 
-and_none : (b : Bool) → (b && false) ≡ false
-and_none true = refl
-and_none false = refl
+-- where the next one is the record's, the manager isn't held
+not_held : (b : Bool) (o : Order) → is_record (if b then Idle else o) ≡ true → b ≡ false
+not_held true o is = let clash : false ≡ true = is in absurd (cc)
+not_held false o is = refl
 
-held_by_none : (st : State) (o : Option ℕ) → o ≡ None → st.joining ≡ o → is_held st ≡ false
-held_by_none st None none is = ap (λ (j : Option ℕ). is_held (record st { joining = j })) is ∙ and_none (not st.begun)
-held_by_none st (Some j) none is = let clash : Some j ≡ None = none in absurd (cc)
+next_is : (st : State) → is_held st ≡ false → next_of st ≡ first_of st.left
+next_is st free = rw free refl
 
-goes_on : (st : State) → st.joining ≡ None → is_held st ≡ false
-goes_on st none = held_by_none st None refl none
+done_is : (st : State) → is_held st ≡ false → done_of st ≡ carried_out st st.left
+done_is st free = rw free refl
 
-next_is : (st : State) → st.joining ≡ None → next_of st ≡ first_of st.left
-next_is st none = rw (goes_on st none) refl
+-- so the record's is the first that is left
+record_free : (st : State) → is_record (next_of st) ≡ true → is_held st ≡ false
+record_free st is = not_held (is_held st) (first_of st.left) is
 
-done_is : (st : State) → st.joining ≡ None → done_of st ≡ carried_out st st.left
-done_is st none = rw (goes_on st none) refl
+record_first : (st : State) → is_record (next_of st) ≡ true → is_record (first_of st.left) ≡ true
+record_first st is = ap is_record (sym (next_is st (record_free st is))) ∙ is
+
+-- once its writing has begun, it isn't held
+begun_free : (st : State) → st.begun ≡ true → is_held st ≡ false
+begun_free st begun = ap (λ b. not b && is_cut st st.joining) begun
+
+-- where the first that is left isn't the record's, the next order isn't
+other_next : (st : State) (b : Bool) → is_held st ≡ b → is_record (first_of st.left) ≡ false → is_record (next_of st) ≡ false
+other_next st true held isnt = rw held refl
+other_next st false free isnt = ap is_record (next_is st free) ∙ isnt
 
 -- the record is carried out
-record_done : (st : State) (left : List Order) → is_record (first_of left) ≡ true → ((carried_out st left).chain ≡ coming_record st) × ((carried_out st left).joining ≡ None)
+record_done : (st : State) (left : List Order) → is_record (first_of left) ≡ true → (carried_out st left).chain ≡ coming_record st
 record_done st [] is = let clash : false ≡ true = is in absurd (cc)
-record_done st (order ∷ rest) is = rw is (refl, refl)
+record_done st (order ∷ rest) is = rw is refl
 
 -- another order is
-other_done : (st : State) (left : List Order) → is_record (first_of left) ≡ false → ((carried_out st left).chain ≡ st.chain) × ((carried_out st left).joining ≡ st.joining)
-other_done st [] isnt = (refl, refl)
-other_done st (order ∷ rest) isnt = rw isnt (refl, refl)
+other_done : (st : State) (left : List Order) → is_record (first_of left) ≡ false → (carried_out st left).chain ≡ st.chain
+other_done st [] isnt = refl
+other_done st (order ∷ rest) isnt = rw isnt refl
+
+other_keeps : (st : State) (b : Bool) → is_held st ≡ b → is_record (next_of st) ≡ false → (done_of st).chain ≡ st.chain
+other_keeps st true held isnt = rw held refl
+other_keeps st false free isnt = ap (λ (x : State). x.chain) (done_is st free) ∙ other_done st st.left (ap is_record (sym (next_is st free)) ∙ isnt)
 
 -- it isn't busy: nothing is left
 not_busy : (b : Bool) (rest : Option manager.Refusal) → (if b then Some OneAtATime else rest) ≡ None → b ≡ false
@@ -95,20 +110,19 @@ record_due st false next is = let clash : ◌≡◌ {A = Option Record} None (So
 
 module _ {S : Type 0} where
   pub rests_in_step : (w : Managed S) → IsAtRest w → AreInStep w
-  rests_in_step w rests = record {
-    chain = ap (λ (st : State). st.chain) rests.manager;
-    nobody_joins = ap (λ (st : State). st.joining) rests.manager;
-    writing = inl rests.idle;
-  }
+  rests_in_step w rests = record { chain = ap (λ (st : State). st.chain) rests.manager; writing = inl rests.idle }
 
   -- the chain's records and the manager stay
   pub still_in_step : (old new : Managed S) → new.world.chain.recorded ≡ old.world.chain.recorded → new.world.chain.writing ≡ old.world.chain.writing → new.management.manager ≡ old.management.manager → AreInStep old → AreInStep new
   still_in_step old new recorded writing manager was = record {
     chain = ap (λ (st : State). st.chain) manager ∙ was.chain ∙ sym recorded;
-    nobody_joins = ap (λ (st : State). st.joining) manager ∙ was.nobody_joins;
     writing = elim was.writing [
       | inl none ↦ inl (writing ∙ none)
-      | inr (is, due) ↦ inr (writing ∙ is ∙ ap (λ (st : State). Some (coming_record st)) (sym manager), ap (λ (st : State). is_record (next_of st)) manager ∙ due)
+      | inr (is, begun, due) ↦ inr (
+        writing ∙ is ∙ ap (λ (st : State). Some (coming_record st)) (sym manager),
+        ap (λ (st : State). st.begun) manager ∙ begun,
+        ap (λ (st : State). is_record (next_of st)) manager ∙ due,
+      )
     ];
   }
 
@@ -117,90 +131,132 @@ module _ {S : Type 0} where
 
   -- who has stopped is noted, and the chain stays
   alike_in_step : (old new : Managed S) → new.world.chain.recorded ≡ old.world.chain.recorded → new.world.chain.writing ≡ old.world.chain.writing → IsAlike new.management.manager old.management.manager → AreInStep old → AreInStep new
-  alike_in_step old new recorded writing alike was =
-      let none : new.management.manager.joining ≡ None = alike.joining ∙ was.nobody_joins in
-      record {
-        chain = alike.chain ∙ was.chain ∙ sym recorded;
-        nobody_joins = none;
-        writing = elim was.writing [
-          | inl idle ↦ inl (writing ∙ idle)
-          | inr (is, due) ↦ inr (
+  alike_in_step old new recorded writing alike was = record {
+    chain = alike.chain ∙ was.chain ∙ sym recorded;
+    writing = elim was.writing [
+      | inl idle ↦ inl (writing ∙ idle)
+      | inr (is, begun, due) ↦
+          let begins : new.management.manager.begun ≡ true = alike.begun ∙ begun in
+          inr (
             writing ∙ is ∙ ap (λ (c : Record). Some (record { epoch = c.epoch + 1; members = old.management.manager.coming })) (sym alike.chain)
                 ∙ ap (λ ms. Some (record { epoch = new.management.manager.chain.epoch + 1; members = ms })) (sym alike.coming),
-            ap is_record (next_is new.management.manager none) ∙ ap (λ l. is_record (first_of l)) alike.left ∙ ap is_record (sym (next_is old.management.manager was.nobody_joins)) ∙ due,
+            begins,
+            ap is_record (next_is new.management.manager (begun_free new.management.manager begins)) ∙ ap (λ l. is_record (first_of l)) alike.left ∙ record_first old.management.manager due,
           )
-        ];
-      }
+    ];
+  }
+
+  -- a change begins: nothing was under way
+  module _ (old new : Managed S) (same : new.world ≡ old.world) (was : AreInStep old) where
+    abbrev NotedNow : State
+    NotedNow = noted old.world.chain old.management.manager
+
+    alike_now : IsAlike NotedNow old.management.manager
+    alike_now = noted_all old.world.chain.recorded old.management.manager old.world.chain.members
+
+    change_in_step : is_busy NotedNow ≡ false → new.management.manager.chain ≡ NotedNow.chain → AreInStep new
+    change_in_step free chain =
+        let st = old.management.manager in
+        let first : is_record (first_of st.left) ≡ false = ap (λ l. is_record (first_of l)) (sym alike_now.left) ∙ none_left NotedNow.left free in
+        record {
+          chain = chain ∙ alike_now.chain ∙ was.chain ∙ sym (ap (λ w. w.chain.recorded) same);
+          writing = elim was.writing [
+            | inl none ↦ inl (ap (λ w. w.chain.writing) same ∙ none)
+            | inr (written, begun, due) ↦ let clash : false ≡ true = sym (other_next st (is_held st) refl first) ∙ due in absurd (cc)
+          ];
+        }
+
+    only_noted_in_step : new.management ≡ record old.management { manager = NotedNow } → AreInStep new
+    only_noted_in_step noted =
+        alike_in_step old new (ap (λ w. w.chain.recorded) same) (ap (λ w. w.chain.writing) same) (subst (λ st. IsAlike st old.management.manager) (sym (ap (λ m. m.manager) noted)) alike_now) was
 
   pub removes_in_step : (slot : ℕ) (given : Result (Unit {0}) manager.Refusal) (old new : Managed S) → Removes slot given old new → AreInStep old → AreInStep new
-  removes_in_step slot (Ok done) old new is was =
-      let st = old.management.manager in
-      let now = noted old.world.chain st in
-      let alike = noted_all old.world.chain.recorded st old.world.chain.members in
-      let free : is_busy now ≡ false = not_busy (is_busy now) _ (is.ok refl) in
-      let idle : is_record (next_of st) ≡ false = ap is_record (next_is st was.nobody_joins) ∙ ap (λ l. is_record (first_of l)) (sym alike.left) ∙ none_left now.left free in
-      record {
-        chain = ap (λ m. m.manager.chain) is.done ∙ alike.chain ∙ was.chain ∙ sym (ap (λ w. w.chain.recorded) is.world);
-        nobody_joins = ap (λ m. m.manager.joining) is.done ∙ alike.joining ∙ was.nobody_joins;
-        writing = elim was.writing [
-          | inl none ↦ inl (ap (λ w. w.chain.writing) is.world ∙ none)
-          | inr (written, due) ↦ let clash : false ≡ true = sym idle ∙ due in absurd (cc)
-        ];
-      }
-  removes_in_step slot (Err e) old new is was =
-      alike_in_step old new (ap (λ w. w.chain.recorded) is.world) (ap (λ w. w.chain.writing) is.world)
-      (subst (λ st. IsAlike st old.management.manager) (sym (ap (λ m. m.manager) is.only_noted)) (noted_all old.world.chain.recorded old.management.manager old.world.chain.members)) was
+  removes_in_step slot (Ok done) old new is was = change_in_step old new is.world was (not_busy _ _ (is.ok refl)) (ap (λ m. m.manager.chain) is.done)
+  removes_in_step slot (Err e) old new is was = only_noted_in_step old new is.world was is.only_noted
 
-  pub begins_in_step : (given : Result Bool AllocError) (old new : Managed S) → BeginsRecord given old new → AreInStep old → AreInStep new
-  begins_in_step (Ok true) old new is was =
-      let did = is.begun refl in
+  pub joins_in_step : (slot : ℕ) (given : Result (Unit {0}) manager.Refusal) (old new : Managed S) → Joins slot given old new → AreInStep old → AreInStep new
+  joins_in_step slot (Ok done) old new is was = change_in_step old new is.world was (not_busy _ _ (is.ok refl)) (ap (λ m. m.manager.chain) is.done)
+  joins_in_step slot (Err e) old new is was = only_noted_in_step old new is.world was is.only_noted
+
+  -- the next record is being written
+  begun_in_step : (old new : Managed S) (next : Record) → record_of old.management.manager ≡ Some next → new.world.chain.recorded ≡ old.world.chain.recorded → new.world.chain.writing ≡ Some next
+      → new.management.manager ≡ begun_of old.management.manager → AreInStep old → AreInStep new
+  begun_in_step old new next due_of recorded writing manager was =
       let st = old.management.manager in
-      let (due, next) = record_due st (is_record (next_of st)) did.next did.due in
-      let begun : new.management.manager ≡ record st { begun = true } = ap (λ m. m.manager) did.are ∙ rw due refl in
-      let none : new.management.manager.joining ≡ None = ap (λ (x : State). x.joining) begun ∙ was.nobody_joins in
+      let (due, is) = record_due st (is_record (next_of st)) next due_of in
+      let begun : new.management.manager ≡ record st { begun = true } = manager ∙ rw due refl in
+      let begins : new.management.manager.begun ≡ true = ap (λ (x : State). x.begun) begun in
       record {
-        chain = ap (λ (x : State). x.chain) begun ∙ was.chain ∙ sym (ap (λ c. c.recorded) did.moves.did.1);
-        nobody_joins = none;
+        chain = ap (λ (x : State). x.chain) begun ∙ was.chain ∙ sym recorded;
         writing = inr (
-          ap (λ c. c.writing) did.moves.did.1 ∙ ap Some (sym next) ∙ ap (λ (x : State). Some (coming_record x)) (sym begun),
-          ap is_record (next_is new.management.manager none) ∙ ap (λ (x : State). is_record (first_of x.left)) begun ∙ ap is_record (sym (next_is st was.nobody_joins)) ∙ due,
+          writing ∙ ap Some (sym is) ∙ ap (λ (x : State). Some (coming_record x)) (sym begun),
+          begins,
+          ap is_record (next_is new.management.manager (begun_free new.management.manager begins)) ∙ ap (λ (x : State). is_record (first_of x.left)) begun ∙ record_first st due,
         );
       }
+
+  begins_in_step : (given : Result Bool AllocError) (old new : Managed S) → BeginsRecord given old new → AreInStep old → AreInStep new
+  begins_in_step (Ok true) old new is was =
+      let did = is.begun refl in
+      let chain = did.moves.did.1 in
+      begun_in_step old new did.next did.due (ap (λ c. c.recorded) chain) (ap (λ c. c.writing) chain) (ap (λ m. m.manager) did.are) was
   begins_in_step (Ok false) old new is was = same_in_step old new (is.idle refl).1 was
   begins_in_step (Err e) old new is was = same_in_step old new is.err was
 
-  pub ends_in_step : (given : Result Bool config.Refusal) (old new : Managed S) → EndsRecord given old new → AreInStep old → AreInStep new
+  join_begins_in_step : (about : S → About) (given : Result Bool AllocError) (old new : Managed S) → BeginsWithJoiner about given old new → AreInStep old → AreInStep new
+  join_begins_in_step about (Ok true) old new is was =
+      let did = is.begun refl in
+      let chain = did.begun.begun in
+      begun_in_step old new did.next did.due (ap (λ c. c.recorded) chain) (ap (λ c. c.writing) chain) (ap (λ m. m.manager) did.are) was
+  join_begins_in_step about (Ok false) old new is was = same_in_step old new (is.idle refl).1 was
+  join_begins_in_step about (Err e) old new is was = same_in_step old new is.err was
+
+  pub next_begins_in_step : (about : S → About) (given : Result Bool AllocError) (old new : Managed S) → BeginsNext about given old new → AreInStep old → AreInStep new
+  next_begins_in_step about given old new (inl (counted, is)) was = join_begins_in_step about given old new is was
+  next_begins_in_step about given old new (inr (other, is)) was = begins_in_step given old new is was
+
+  -- it is the recorded one
+  ended_in_step : (old new : Managed S) (next : Record) → is_record (next_of old.management.manager) ≡ true → old.world.chain.writing ≡ Some next → new.world.chain.recorded ≡ next → new.world.chain.writing ≡ None
+      → new.management.manager ≡ done_of old.management.manager → AreInStep old → AreInStep new
+  ended_in_step old new next due written recorded idle manager was =
+      let st = old.management.manager in
+      let done : new.management.manager ≡ carried_out st st.left = manager ∙ done_is st (record_free st due) in
+      let is : new.world.chain.recorded ≡ coming_record st = elim was.writing [
+        | inl none ↦ let clash : ◌≡◌ {A = Option Record} None (Some next) = sym none ∙ written in absurd (cc)
+        | inr (coming, begun, is_due) ↦ recorded ∙ same_Some next (coming_record st) (sym written ∙ coming)
+      ] in
+      record { chain = ap (λ (x : State). x.chain) done ∙ record_done st st.left (record_first st due) ∙ sym is; writing = inl idle }
+
+  ends_in_step : (given : Result Bool config.Refusal) (old new : Managed S) → EndsRecord given old new → AreInStep old → AreInStep new
   ends_in_step (Ok true) old new is was =
       let did = is.ended refl in
-      let st = old.management.manager in
       let moved = did.moves.did.1 in
-      let due : is_record (first_of st.left) ≡ true = ap is_record (sym (next_is st was.nobody_joins)) ∙ did.due in
-      let (chain, joining) = record_done st st.left due in
-      let done : new.management.manager ≡ carried_out st st.left = did.manager ∙ done_is st was.nobody_joins in
-      let recorded : new.world.chain.recorded ≡ coming_record st = elim was.writing [
-        | inl none ↦ let clash : ◌≡◌ {A = Option Record} None (Some did.next) = sym none ∙ did.written in absurd (cc)
-        | inr (written, next) ↦ ap (λ c. c.recorded) moved.are ∙ same_Some moved.next (coming_record st) (sym moved.begun ∙ written)
-      ] in
-      record {
-        chain = ap (λ (x : State). x.chain) done ∙ chain ∙ sym recorded;
-        nobody_joins = ap (λ (x : State). x.joining) done ∙ joining;
-        writing = inl (ap (λ c. c.writing) moved.are);
-      }
+      ended_in_step old new moved.next did.due moved.begun (ap (λ c. c.recorded) moved.are) (ap (λ c. c.writing) moved.are) did.manager was
   ends_in_step (Ok false) old new is was = same_in_step old new (is.idle refl).1 was
   ends_in_step (Err e) old new is was = still_in_step old new (ap (λ w. w.chain.recorded) is.world) (ap (λ w. w.chain.writing) is.world) is.manager was
 
-  -- an order is carried out that isn't the record's, while none is being written
+  join_ends_in_step : (about : S → About) (given : Result Bool config.Refusal) (old new : Managed S) → EndsWithJoiner about given old new → AreInStep old → AreInStep new
+  join_ends_in_step about (Ok true) old new is was =
+      let did = (is.ended refl).0 in
+      let moved = did.ended.ended in
+      ended_in_step old new moved.next did.due moved.begun (ap (λ c. c.recorded) moved.are) (ap (λ c. c.writing) moved.are) did.manager was
+  join_ends_in_step about (Ok false) old new is was = same_in_step old new (is.idle refl).1.0 was
+  join_ends_in_step about (Err e) old new is was = still_in_step old new (ap (λ w. w.chain.recorded) is.world) (ap (λ w. w.chain.writing) is.world) is.manager was
+
+  pub next_ends_in_step : (about : S → About) (given : Result Bool config.Refusal) (old new : Managed S) → EndsNext about given old new → AreInStep old → AreInStep new
+  next_ends_in_step about given old new (inl (counted, is)) was = join_ends_in_step about given old new is was
+  next_ends_in_step about given old new (inr (other, is)) was = ends_in_step given old new is was
+
+  -- an order that isn't the record's is the next: nothing is being written
+  idle_now : (w : Managed S) → is_record (next_of w.management.manager) ≡ false → AreInStep w → w.world.chain.writing ≡ None
+  idle_now w isnt are = elim are.writing [ inl none ↦ none | inr (written, begun, due) ↦ let clash : false ≡ true = sym isnt ∙ due in absurd (cc) ]
+
+  -- it is carried out
   other_in_step : (old new : Managed S) → new.world.chain.recorded ≡ old.world.chain.recorded → new.world.chain.writing ≡ None → new.management.manager ≡ done_of old.management.manager → is_record (next_of old.management.manager) ≡ false
       → AreInStep old → AreInStep new
   other_in_step old new recorded idle manager isnt was =
       let st = old.management.manager in
-      let (chain, joining) = other_done st st.left (ap is_record (sym (next_is st was.nobody_joins)) ∙ isnt) in
-      let done : new.management.manager ≡ carried_out st st.left = manager ∙ done_is st was.nobody_joins in
-      record {
-        chain = ap (λ (x : State). x.chain) done ∙ chain ∙ was.chain ∙ sym recorded;
-        nobody_joins = ap (λ (x : State). x.joining) done ∙ joining ∙ was.nobody_joins;
-        writing = inl idle;
-      }
+      record { chain = ap (λ (x : State). x.chain) manager ∙ other_keeps st (is_held st) refl isnt ∙ was.chain ∙ sym recorded; writing = inl idle }
 
   pub counts_in_step : (done : Bool) (old new : Managed S) → CountsSlotOut done old new → AreInStep old → AreInStep new
   counts_in_step true old new is was =
@@ -209,9 +265,32 @@ module _ {S : Type 0} where
       other_in_step old new (ap (λ c. c.recorded) chain) (ap (λ c. c.writing) chain ∙ did.moves.did.0.1) (ap (λ m. m.manager) did.are) (ap is_record did.due) was
   counts_in_step false old new is was = same_in_step old new (is.idle refl).1 was
 
-  pub tells_in_step : (given : Option Told) (old new : Managed S) → TellsRecord given old new → new.world.chain.recorded ≡ old.world.chain.recorded → new.world.chain.writing ≡ old.world.chain.writing → AreInStep old → AreInStep new
-  tells_in_step (Some told) old new is recorded writing was =
-      let isnt : is_record (next_of old.management.manager) ≡ false = ap is_record is.told.due in
-      let idle : old.world.chain.writing ≡ None = elim was.writing [ inl none ↦ none | inr (written, due) ↦ let clash : false ≡ true = sym isnt ∙ due in absurd (cc) ] in
-      other_in_step old new recorded (writing ∙ idle) (ap (λ m. m.manager) is.told.are) isnt was
-  tells_in_step None old new is recorded writing was = same_in_step old new is.idle.1 was
+  -- while the chain's records stay
+  pub led_in_step : (old new : Managed S) → new.world.chain.recorded ≡ old.world.chain.recorded → new.world.chain.writing ≡ old.world.chain.writing
+      → (new.management.manager ≡ old.management.manager) ⊎ ((new.management.manager ≡ done_of old.management.manager) × (is_record (next_of old.management.manager) ≡ false)) → AreInStep old → AreInStep new
+  led_in_step old new recorded writing (inl same) was = still_in_step old new recorded writing same was
+  led_in_step old new recorded writing (inr (done, isnt)) was = other_in_step old new recorded (writing ∙ idle_now old isnt was) done isnt was
+
+  -- a joining may be abandoned: no record's writing has begun
+  pub not_writing : (w : Managed S) → why_no_abandoning w.management.manager ≡ None → AreInStep w → w.world.chain.writing ≡ None
+  not_writing w ok are = elim are.writing [
+    | inl none ↦ none
+    | inr (written, begun, due) ↦ let clash : false ≡ true = sym (not_begun (is_some w.management.manager.joining) w.management.manager.begun ok) ∙ begun in absurd (cc)
+  ]
+    where
+      not_begun : (j b : Bool) → (if j && not b then None else Some OneAtATime) ≡ None → b ≡ false
+      not_begun true true is = let clash : ◌≡◌ {A = Option manager.Refusal} (Some OneAtATime) None = is in absurd (cc)
+      not_begun true false is = refl
+      not_begun false b is = let clash : ◌≡◌ {A = Option manager.Refusal} (Some OneAtATime) None = is in absurd (cc)
+
+  -- it is abandoned
+  pub abandoned_in_step : (old new : Managed S) → new.world.chain.recorded ≡ old.world.chain.recorded → new.world.chain.writing ≡ old.world.chain.writing → new.management.manager ≡ abandoned old.management.manager
+      → why_no_abandoning old.management.manager ≡ None → AreInStep old → AreInStep new
+  abandoned_in_step old new recorded writing manager ok was = record {
+    chain = ap (λ (x : State). x.chain) manager ∙ same_chain old.management.manager old.management.manager.joining ∙ was.chain ∙ sym recorded;
+    writing = inl (writing ∙ not_writing old ok was);
+  }
+    where
+      same_chain : (st : State) (o : Option ℕ) → (abandoned_at st o).chain ≡ st.chain
+      same_chain st None = refl
+      same_chain st (Some slot) = refl

@@ -19,11 +19,14 @@ use Rattle.chain_steps.specs.Node.{NodeState}
 use Rattle.chain_steps.specs.Steps.{volume_at}
 use Rattle.chain_model.specs.Chain.{StandsFor}
 use Rattle.chain_model.specs.View.{View, is_in, is_in_some, may_be_recorded}
-use Rattle.chain_model.specs.Laws.{IsBeginning, IsOnEachDisk, RestartsChain, with_members}
+use Rattle.chain_model.specs.Laws.{IsBeginning, IsOnEachDisk, RestartsChain, RestartsFromJoiner, with_members}
 use Rattle.world_model.specs.Event.{ClientEvent}
 use Rattle.world_model.specs.Life.{all_events}
 use Rattle.chain_model.specs.Life.{HappeningsAreOfOneVolume}
-use Rattle.world_model.specs.Machine.{May, Restart, State, after}
+use Rattle.world_model.specs.Machine.{May, Restart, State, after, machine_volume}
+use Rattle.candidate.specs.Copies.{HasCopy}
+use Rattle.candidate.specs.declared.candidate.Candidate.TheVariants.{Nobody}
+use Rattle.disk_model.specs.Memory.{given_of, may_be_left}
 use Rattle.chain.specs.Chain.{Chained, bytes_of}
 use Rattle.chain.specs.Member.{HasOwnDisk, IsShown, Linked}
 use Rattle.chain.proofs.Cells.{place_of as cell_of, twin_of}
@@ -31,13 +34,14 @@ use Rattle.clients.specs.Clients.{AllGo, AreSessions, Client, Extends, IsOf, Ses
 use Rattle.configurations.specs.Record.{Record}
 use Rattle.clients.specs.Laws.{FirstHasNone, IsLawfulFor, OutputsAreLawful}
 use Rattle.clients.proofs.Places.{same_id}
-use Rattle.world.specs.World.{HappensSo, IsJoined, IsOfOneVolume, Seen, Shows}
+use Rattle.world.specs.World.{HappensSo, IsJoined, Seen, Shows}
 use Rattle.life.specs.Begun.{BeginsWith, export_of}
 use Rattle.life.specs.Headline.{Fit, HasDisk, HasWhatIsOwed, IsLawfulEra, IsLawfulSession, Trace, fed_in, handed_in}
-use Rattle.life.specs.Lived.{AreOfOneVolume, HappenInTurn, HappenedUntil, IsFresh}
-use Rattle.life.specs.Managed.{MayStand}
+use Rattle.life.specs.Lived.{AreOfOneVolume, HappenInTurn, HappenedUntil, HasCopyIn, IsFresh, IsOfOneVolumeIn, KeepsCopyIn}
+use Rattle.life.specs.Managed.{Managed, MayStand}
 use Rattle.life.specs.Recovered.{HasMember}
-use Rattle.life.proofs.Passing.{happens_as, happens_then, none_happens}
+use Rattle.life.proofs.Newcomers.{joiner_shown}
+use Rattle.life.proofs.Passing.{goes_plays, happens_as, happens_then, none_happens, size_stays}
 use Rattle.life.specs.Played.{fed_by, handed_by}
 use Rattle.life.specs.declared.answer.Answer.{Answer}
 use Rattle.life.specs.declared.era.Deed.{Deed}
@@ -158,7 +162,7 @@ module _ {S : Type 0} (about : S → About) (keeps : S → List ℕ → Type 0) 
     many = turn.many;
     so_far = λ n within.
         let so = turn.so_far n within in
-        let (one, same) = happens_as about keeps may_leave_now old so.at (fed_in (take n told)) (fed_in (take n told)) (handed_in (take n told)) (λ id. handed_in (take n told) id ++ no_one id) (λ id. refl) (λ id. sym (append-nil (handed_in (take n told) id))) v so.happens in
+        let (one, view, same) = happens_as about keeps may_leave_now old so.at (fed_in (take n told)) (fed_in (take n told)) (handed_in (take n told)) (λ id. handed_in (take n told) id ++ no_one id) (λ id. refl) (λ id. sym (append-nil (handed_in (take n told) id))) v so.happens in
         subst (λ e. Fit e (take n told) (all_events (take n turn.each))) (so.happens.remain.export ∙ has)
         (fits old so.at (take n told) no_one v (all_events (take n turn.each)) one (same ∙ so.are) first lawful none so.sessions);
     whole = subst (λ e. Fit e told turn.happens.events) (turn.happens.remain.export ∙ has) (fits old new told dropped v turn.happens.events turn.happens refl first lawful none sessions);
@@ -166,23 +170,42 @@ module _ {S : Type 0} (about : S → About) (keeps : S → List ℕ → Type 0) 
 
   -- ---- one deed after another
 
-  -- before the first
-  pub none_turn : (w : Seen S) → AreSessions w.sessions → AreOfOneVolume about keeps may_leave_now [] no_one w w
-  none_turn w sessions v s shows stands =
-      let (one, none) = none_happens about keeps may_leave_now w v shows in
+  -- What happened in turn in a world that is shown so, for a state of the machine that it stands for then, of which the disk on its way has a copy.
+  pub record GoesOnCopied (told : Trace) (old new : Managed S) (v : View) : Type 0 where
+    pub turn : HappenInTurn about keeps may_leave_now told no_one old.world new.world v
+    pub state : State
+    pub stands : StandsFor (bytes_of old.world.chain) turn.happens.w state
+    pub copy : HasCopyIn about keeps (bytes_of old.world.chain) state new
+
+  -- whatever state of the one volume the world stood for
+  abbrev pub GoOnCopied : Trace → Managed S → Managed S → Type 0
+  GoOnCopied told old new = (v : View) (s : State) → Shows about keeps may_leave_now old.world v → StandsFor (bytes_of old.world.chain) v s → GoesOnCopied told old new v
+
+  pub are_of_one_volume : (told : Trace) (old new : Managed S) → GoOnCopied told old new → AreOfOneVolume about keeps may_leave_now told no_one old.world new.world
+  are_of_one_volume told old new go v s shows stands = (go v s shows stands).turn
+
+  -- before the first, where none is on its way
+  pub none_turn : (w : Managed S) → AreSessions w.world.sessions → w.candidate ≡ Nobody → GoOnCopied [] w w
+  none_turn w sessions nobody v s shows stands =
+      let (one, view, none) = none_happens about keeps may_leave_now w.world v shows in
       record {
-        each = [];
-        last = [];
-        many = refl;
-        so_far = λ n within. until n (omega (arith, within)) one none;
-        happens = one;
-        are = none;
+        turn = record {
+          each = [];
+          last = [];
+          many = refl;
+          so_far = λ n within. until n (omega (arith, within)) one none;
+          happens = one;
+          are = none;
+        };
+        state = s;
+        stands = subst (λ x. StandsFor (bytes_of w.world.chain) x s) (sym view) stands;
+        copy = (0, subst (HasCopy given_of may_be_left about keeps (bytes_of w.world.chain) s 0) (sym nobody) tt);
       }
     where
-      until : (n : ℕ) → n ≡ 0 → (one : HappensSo about keeps may_leave_now w w no_one no_one v) → one.events ≡ [] → HappenedUntil about keeps may_leave_now w v (take n []) (all_events (take n []))
-      until n zeroth one none = subst (λ m. HappenedUntil about keeps may_leave_now w v (take m []) (all_events (take m []))) (sym zeroth) (record { at = w; sessions = sessions; happens = one; are = none })
+      until : (n : ℕ) → n ≡ 0 → (one : HappensSo about keeps may_leave_now w.world w.world no_one no_one v) → one.events ≡ [] → HappenedUntil about keeps may_leave_now w.world v (take n []) (all_events (take n []))
+      until n zeroth one none = subst (λ m. HappenedUntil about keeps may_leave_now w.world v (take m []) (all_events (take m []))) (sym zeroth) (record { at = w.world; sessions = sessions; happens = one; are = none })
 
-  module _ (law : HappeningsAreOfOneVolume) (old mid new : Seen S) (joined : IsJoined old) (joined_then : IsJoined mid) (told : Trace) (deed : Deed) (answer : Answer) where
+  module _ (law : HappeningsAreOfOneVolume) (old mid new : Managed S) (joined : IsJoined old.world) (joined_then : IsJoined mid.world) (told : Trace) (deed : Deed) (answer : Answer) where
     abbrev More : Trace
     More = told ++ (deed, answer) ∷ []
 
@@ -193,54 +216,93 @@ module _ {S : Type 0} (about : S → About) (keeps : S → List ℕ → Type 0) 
     handed_more id = ap (λ l. l ++ handed_by deed answer id) (append-nil (handed_in told id))
         ∙ sym (flat_map-append (λ (one : Deed × Answer). handed_by one.0 one.1 id) told ((deed, answer) ∷ []) ∙ ap (λ l. handed_in told id ++ l) (append-nil (handed_by deed answer id)))
 
-    -- one deed more
-    pub turn_more : AreSessions new.sessions → AreOfOneVolume about keeps may_leave_now told no_one old mid → IsOfOneVolume about keeps may_leave_now (fed_by deed answer) (handed_by deed answer) mid new
-        → AreOfOneVolume about keeps may_leave_now More no_one old new
-    turn_more sessions before one v s shows stands =
-        let turn = before v s shows stands in
-        let (more, both, are) = happens_then about keeps may_leave_now law old mid new joined joined_then (fed_in told) (fed_by deed answer) (λ id. handed_in told id ++ no_one id) (handed_by deed answer) v s stands turn.happens one in
-        let (until, same) = happens_as about keeps may_leave_now old new (λ id. fed_in told id ++ fed_by deed answer id) (fed_in More) (λ id. (handed_in told id ++ no_one id) ++ handed_by deed answer id) (handed_in More) fed_more handed_more v both in
-        let (whole, still) = happens_as about keeps may_leave_now old new (fed_in More) (fed_in More) (handed_in More) (λ id. handed_in More id ++ no_one id) (λ id. refl) (λ id. sym (append-nil (handed_in More id))) v until in
-        let each = turn.each ++ (turn.last ++ more) ∷ [] in
-        let shown : until.events ≡ all_events each = same ∙ are ∙ ap (λ l. l ++ more) turn.are ∙ append_assoc (all_events turn.each) turn.last more ∙ sym (events_more turn.each (turn.last ++ more)) in
-        record {
-          each = each;
-          last = [];
-          many = let one = length-append turn.each ((turn.last ++ more) ∷ []) in let other = length-append told ((deed, answer) ∷ []) in omega (arith, one, other, turn.many);
-          so_far = λ n within. by_place turn more n within (ltb (length told) n) refl (record { at = new; sessions = sessions; happens = until; are = shown });
-          happens = whole;
-          are = still ∙ shown ∙ sym (append-nil (all_events each));
-        }
-      where
-        by_place : (turn : HappenInTurn about keeps may_leave_now told no_one old mid v) (more : List ClientEvent) (n : ℕ) → n ≤ length More → (is_all : Bool) → ltb (length told) n ≡ is_all
-            → HappenedUntil about keeps may_leave_now old v More (all_events (turn.each ++ (turn.last ++ more) ∷ []))
-            → HappenedUntil about keeps may_leave_now old v (take n More) (all_events (take n (turn.each ++ (turn.last ++ more) ∷ [])))
-        by_place turn more n within true above all =
-            let beyond = ltb-true (length told) n above in
-            let one = length-append turn.each ((turn.last ++ more) ∷ []) in
-            subst (λ l. HappenedUntil about keeps may_leave_now old v l (all_events (take n (turn.each ++ (turn.last ++ more) ∷ [])))) (sym (take_all n More (let other = length-append told ((deed, answer) ∷ []) in omega (arith, other, beyond))))
-            (subst (λ l. HappenedUntil about keeps may_leave_now old v More (all_events l)) (sym (take_all n (turn.each ++ (turn.last ++ more) ∷ []) (omega (arith, one, turn.many, beyond)))) all)
-        by_place turn more n within false above all =
-            let below = ltb-false (length told) n above in
-            subst (λ l. HappenedUntil about keeps may_leave_now old v l (all_events (take n (turn.each ++ (turn.last ++ more) ∷ [])))) (sym (take-append-le n told ((deed, answer) ∷ []) below))
-            (subst (λ l. HappenedUntil about keeps may_leave_now old v (take n told) (all_events l)) (sym (take-append-le n turn.each ((turn.last ++ more) ∷ []) (omega (arith, turn.many, below)))) (turn.so_far n below))
+    -- it can happen in the world to which the others led
+    module _ (v : View) (was : GoesOnCopied told old mid v) (one : IsOfOneVolumeIn about keeps may_leave_now (fed_by deed answer) (handed_by deed answer) mid new) where
+      same_size : bytes_of mid.world.chain ≡ bytes_of old.world.chain
+      same_size = size_stays about keeps may_leave_now law old.world mid.world new.world joined joined_then (fed_in told) (fed_by deed answer) (λ id. handed_in told id ++ no_one id) (handed_by deed answer) was.turn.happens.remain
 
-    -- one in which a stop was met: what it told is dropped
-    pub turn_to_stop : ((id : SessionId) → fed_by deed answer id ≡ []) → AreOfOneVolume about keeps may_leave_now told no_one old mid
-        → IsOfOneVolume about keeps may_leave_now (fed_by deed answer) (handed_by deed answer) mid new → AreOfOneVolume about keeps may_leave_now told (handed_by deed answer) old new
-    turn_to_stop unfed before one v s shows stands =
-        let turn = before v s shows stands in
-        let (more, both, are) = happens_then about keeps may_leave_now law old mid new joined joined_then (fed_in told) (fed_by deed answer) (λ id. handed_in told id ++ no_one id) (handed_by deed answer) v s stands turn.happens one in
-        let (whole, same) = happens_as about keeps may_leave_now old new (λ id. fed_in told id ++ fed_by deed answer id) (fed_in told) (λ id. (handed_in told id ++ no_one id) ++ handed_by deed answer id) (λ id. handed_in told id ++ handed_by deed answer id)
-        (λ id. ap (λ l. fed_in told id ++ l) (unfed id) ∙ append-nil (fed_in told id)) (λ id. ap (λ l. l ++ handed_by deed answer id) (append-nil (handed_in told id))) v both in
-        record {
-          each = turn.each;
-          last = turn.last ++ more;
-          many = turn.many;
-          so_far = turn.so_far;
-          happens = whole;
-          are = same ∙ are ∙ ap (λ l. l ++ more) turn.are ∙ append_assoc (all_events turn.each) turn.last more;
-        }
+      stands_mid : StandsFor (bytes_of mid.world.chain) was.turn.happens.w was.state
+      stands_mid = subst (λ n. StandsFor n was.turn.happens.w was.state) (sym same_size) was.stands
+
+      copy_mid : HasCopyIn about keeps (bytes_of mid.world.chain) was.state mid
+      copy_mid = subst (λ n. HasCopyIn about keeps n was.state mid) (sym same_size) was.copy
+
+      now : HappensSo about keeps may_leave_now mid.world new.world (fed_by deed answer) (handed_by deed answer) was.turn.happens.w
+      now = one was.turn.happens.w was.state was.turn.happens.shows stands_mid copy_mid
+
+      both : (both : HappensSo about keeps may_leave_now old.world new.world (λ id. fed_in told id ++ fed_by deed answer id) (λ id. (handed_in told id ++ no_one id) ++ handed_by deed answer id) v)
+          × (both.w ≡ now.w) × (both.events ≡ was.turn.happens.events ++ now.events)
+      both = happens_then about keeps may_leave_now law old.world mid.world new.world joined joined_then (fed_in told) (fed_by deed answer) (λ id. handed_in told id ++ no_one id) (handed_by deed answer) v was.turn.happens now
+
+      -- one deed more
+      turn_with : AreSessions new.world.sessions → (turn : HappenInTurn about keeps may_leave_now More no_one old.world new.world v) × (turn.happens.w ≡ now.w)
+      turn_with sessions =
+          let (together, shown, are) = both in
+          let turn = was.turn in
+          let (until, same_view, same) = happens_as about keeps may_leave_now old.world new.world (λ id. fed_in told id ++ fed_by deed answer id) (fed_in More) (λ id. (handed_in told id ++ no_one id) ++ handed_by deed answer id) (handed_in More) fed_more handed_more v together in
+          let (whole, still_view, still) = happens_as about keeps may_leave_now old.world new.world (fed_in More) (fed_in More) (handed_in More) (λ id. handed_in More id ++ no_one id) (λ id. refl) (λ id. sym (append-nil (handed_in More id))) v until in
+          let each = turn.each ++ (turn.last ++ now.events) ∷ [] in
+          let all : until.events ≡ all_events each = same ∙ are ∙ ap (λ l. l ++ now.events) turn.are ∙ append_assoc (all_events turn.each) turn.last now.events ∙ sym (events_more turn.each (turn.last ++ now.events)) in (
+            record {
+              each = each;
+              last = [];
+              many = let one = length-append turn.each ((turn.last ++ now.events) ∷ []) in let other = length-append told ((deed, answer) ∷ []) in omega (arith, one, other, turn.many);
+              so_far = λ n within. by_place turn n within (ltb (length told) n) refl (record { at = new.world; sessions = sessions; happens = until; are = all });
+              happens = whole;
+              are = still ∙ all ∙ sym (append-nil (all_events each));
+            },
+            still_view ∙ same_view ∙ shown,
+          )
+        where
+          by_place : (turn : HappenInTurn about keeps may_leave_now told no_one old.world mid.world v) (n : ℕ) → n ≤ length More → (is_all : Bool) → ltb (length told) n ≡ is_all
+              → HappenedUntil about keeps may_leave_now old.world v More (all_events (turn.each ++ (turn.last ++ now.events) ∷ []))
+              → HappenedUntil about keeps may_leave_now old.world v (take n More) (all_events (take n (turn.each ++ (turn.last ++ now.events) ∷ [])))
+          by_place turn n within true above all =
+              let beyond = ltb-true (length told) n above in
+              let one = length-append turn.each ((turn.last ++ now.events) ∷ []) in
+              subst (λ l. HappenedUntil about keeps may_leave_now old.world v l (all_events (take n (turn.each ++ (turn.last ++ now.events) ∷ [])))) (sym (take_all n More (let other = length-append told ((deed, answer) ∷ []) in omega (arith, other, beyond))))
+              (subst (λ l. HappenedUntil about keeps may_leave_now old.world v More (all_events l)) (sym (take_all n (turn.each ++ (turn.last ++ now.events) ∷ []) (omega (arith, one, turn.many, beyond)))) all)
+          by_place turn n within false above all =
+              let below = ltb-false (length told) n above in
+              subst (λ l. HappenedUntil about keeps may_leave_now old.world v l (all_events (take n (turn.each ++ (turn.last ++ now.events) ∷ [])))) (sym (take-append-le n told ((deed, answer) ∷ []) below))
+              (subst (λ l. HappenedUntil about keeps may_leave_now old.world v (take n told) (all_events l)) (sym (take-append-le n turn.each ((turn.last ++ now.events) ∷ []) (omega (arith, turn.many, below)))) (turn.so_far n below))
+
+      -- and the state that it comes to
+      copied_more : AreSessions new.world.sessions → KeepsCopyIn about keeps may_leave_now mid new → GoesOnCopied More old new v
+      copied_more sessions keep =
+          let (turn, view) = turn_with sessions in
+          let (moves, t, runs, shown, stands) = goes_plays law (bytes_of mid.world.chain) was.turn.happens.w now.w now.events now.goes was.state stands_mid in
+          let copy = keep was.turn.happens.w now.w was.state t moves was.turn.happens.shows stands_mid runs now.shows stands copy_mid in
+          record {
+            turn = turn;
+            state = t;
+            stands = subst (λ x. StandsFor (bytes_of old.world.chain) x t) (sym view) (subst (λ n. StandsFor n now.w t) same_size stands);
+            copy = subst (λ n. HasCopyIn about keeps n t new) same_size copy;
+          }
+
+      -- one in which a stop was met: what it told is dropped
+      to_stop : ((id : SessionId) → fed_by deed answer id ≡ []) → HappenInTurn about keeps may_leave_now told (handed_by deed answer) old.world new.world v
+      to_stop unfed =
+          let (together, shown, are) = both in
+          let turn = was.turn in
+          let (whole, view, same) = happens_as about keeps may_leave_now old.world new.world (λ id. fed_in told id ++ fed_by deed answer id) (fed_in told) (λ id. (handed_in told id ++ no_one id) ++ handed_by deed answer id) (λ id. handed_in told id ++ handed_by deed answer id)
+          (λ id. ap (λ l. fed_in told id ++ l) (unfed id) ∙ append-nil (fed_in told id)) (λ id. ap (λ l. l ++ handed_by deed answer id) (append-nil (handed_in told id))) v together in
+          record {
+            each = turn.each;
+            last = turn.last ++ now.events;
+            many = turn.many;
+            so_far = turn.so_far;
+            happens = whole;
+            are = same ∙ are ∙ ap (λ l. l ++ now.events) turn.are ∙ append_assoc (all_events turn.each) turn.last now.events;
+          }
+
+    pub turn_more : AreSessions new.world.sessions → GoOnCopied told old mid → IsOfOneVolumeIn about keeps may_leave_now (fed_by deed answer) (handed_by deed answer) mid new → KeepsCopyIn about keeps may_leave_now mid new
+        → GoOnCopied More old new
+    turn_more sessions before one keep v s shows stands = copied_more v (before v s shows stands) one sessions keep
+
+    pub turn_to_stop : ((id : SessionId) → fed_by deed answer id ≡ []) → GoOnCopied told old mid → IsOfOneVolumeIn about keeps may_leave_now (fed_by deed answer) (handed_by deed answer) mid new
+        → AreOfOneVolume about keeps may_leave_now told (handed_by deed answer) old.world new.world
+    turn_to_stop unfed before one v s shows stands = to_stop v (before v s shows stands) one unfed
 
   -- ---- a cut
 
@@ -283,6 +345,32 @@ module _ {S : Type 0} (about : S → About) (keeps : S → List ℕ → Type 0) 
       same_members : (v : View) (size : ℕ) (s : State) → StandsFor size v s → StandsFor size (with_members v v.members) s
       same_members v size s stands = stands
 
+  -- so it does where the disk is that of who joins
+  pub recovers_joiner : RestartsFromJoiner → ((store : S) (volume c : List ℕ) → keeps store volume → may_leave_now store c → Means (meaning_with (about store) volume) c)
+      → (old : Seen S) (v : View) (s : State) (store : S) (c : List ℕ) (meaning : Meaning) (new : Seen S)
+      → ((one other : Meaning) (bytes : List ℕ) → Means one bytes → Means other bytes → one ≡ other)
+      → Shows about keeps may_leave_now old v → StandsFor (bytes_of old.chain) v s → old.joiner ≡ Some store → may_leave_now store c → Means meaning c
+      → export_of meaning.geometry ≡ export_of old.chain.geometry
+      → BeginsWith about keeps may_leave_now meaning.geometry meaning.front meaning.volume new
+      → May s (Restart meaning.front) × IsFresh about keeps may_leave_now (bytes_of old.chain) (export_of old.chain.geometry) new (after s (Restart meaning.front))
+  recovers_joiner law means_now old v s store c meaning new one_meaning shows stands joined left means sizes begun =
+      let (j, joins, of) = joiner_shown about keeps may_leave_now old v store shows joined in
+      let same = one_meaning meaning (meaning_with (about store) j.volume) c means (means_now store j.volume c of.keeping left) in
+      let front : meaning.front ≡ j.front = ap (λ x. x.front) same ∙ sym of.front in
+      let begins : IsBeginning j.front j.volume begun.view = subst (λ f. IsBeginning f j.volume begun.view) front (subst (λ l. IsBeginning meaning.front l begun.view) (ap (λ x. x.volume) same) begun.begins) in
+      let did = law (bytes_of old.chain) v j s begun.view stands joins begins in
+      subst (λ f. May s (Restart f) × IsFresh about keeps may_leave_now (bytes_of old.chain) (export_of old.chain.geometry) new (after s (Restart f))) (sym front) (
+        did.0,
+        record {
+          view = begun.view;
+          shows = begun.shows;
+          stands = did.1;
+          no_clients = begun.no_clients;
+          has = begun.export ∙ sizes;
+          runs = begun.runs;
+        },
+      )
+
   -- the export is that of the chain's sizes
   pub exported_as : (w : Seen S) → IsJoined w → export_of w.chain.geometry ≡ w.sessions.export
   exported_as w joined = rw (joined.size, joined.payload, joined.area) refl
@@ -312,3 +400,18 @@ module _ {S : Type 0} (about : S → About) (keeps : S → List ℕ → Type 0) 
     where
       same_members : (v : View) (size : ℕ) (s : State) → StandsFor size v s → StandsFor size (with_members v v.members) s
       same_members v size s stands = stands
+
+  -- so has that of who joins
+  pub joiner_disk : ((store : S) (volume c : List ℕ) → keeps store volume → may_leave_now store c → Means (meaning_with (about store) volume) c) → (w : Seen S) (v : View) (s : State) → Shows about keeps may_leave_now w v
+      → StandsFor (bytes_of w.chain) v s → (store : S) → w.joiner ≡ Some store → (bytes : List ℕ) → may_leave_now store bytes → HasWhatIsOwed (bytes_of w.chain) s (about store) bytes
+  joiner_disk means_now w v s shows stands store joined bytes left =
+      let (j, joins, of) = joiner_shown about keeps may_leave_now w v store shows joined in
+      let joining = stands.1 j joins in
+      let clients = stands.0.2.clients.1 in
+      let front : (about store).front ≡ length s.taken = sym of.front ∙ joining.held ∙ clients.committed in
+      record {
+        front = (about store).front;
+        owed = omega (arith, front, clients.sound.owed_taken);
+        taken = omega (arith, front);
+        means = subst (λ volume. Means (meaning_with (about store) volume) bytes) (joining.volume ∙ ap (machine_volume (bytes_of w.chain) s) of.front) (means_now store j.volume bytes of.keeping left);
+      }

@@ -1,4 +1,4 @@
--- Calls of a world, one after another, come to what one call is: lemmas for the crate above.
+-- Calls of a world, one after another, come to what one call is: lemmas.
 use Rattle.std.proofs.Common.{◌≡◌, ℕ, List, [], ◌∷◌, ◌++◌, refl, ap, sym, subst, ◌∙◌, inl, inr, arith}
 use Rattle.std.specs.Prelude.{None, Option, Some, map}
 use Rattle.std.proofs.lemmas.Grind.{flat_map-append}
@@ -10,12 +10,12 @@ use Rattle.chain_model.specs.View.{View}
 use Rattle.world_model.specs.Event.{ClientEvent}
 use Rattle.world_model.specs.Life.{all_events}
 use Rattle.chain_model.specs.Life.{Era, Happening, HappeningsAreOfOneVolume}
-use Rattle.world_model.specs.Machine.{Plays, State}
+use Rattle.world_model.specs.Machine.{Plays}
 use Rattle.nbd_session.specs.Demand.{Asked}
 use Rattle.world_model.proofs.Runs.{plays_nothing, plays_then}
 use Rattle.chain.specs.Chain.{bytes_of}
 use Rattle.clients.specs.Clients.{Sessions, held_under, no_one, place_of}
-use Rattle.world.specs.World.{AskWhatWasSent, Goes, HappensSo, IsJoined, IsOfOneVolume, Remain, Seen, Shows, sent_by, sent_in}
+use Rattle.world.specs.World.{AskWhatWasSent, Goes, HappensSo, IsJoined, Remain, Seen, Shows, sent_by, sent_in}
 use Rattle.world.proofs.Sending.{none_asked}
 use Rattle.world.proofs.Going.{goes_nowhere, goes_on}
 use Rattle.world.proofs.GoingOn.{go_on_as, go_on_still, go_on_then}
@@ -35,7 +35,7 @@ goes_plays law size v w events goes = subst (Plays size (StandsFor size v) (Stan
 
 module _ {S : Type 0} (about : S → About) (keeps : S → List ℕ → Type 0) (may_leave_now : S → List ℕ → Type 0) where
   -- nothing happened
-  pub none_happens : (w : Seen S) (v : View) → Shows about keeps may_leave_now w v → (one : HappensSo about keeps may_leave_now w w no_one no_one v) × (one.events ≡ [])
+  pub none_happens : (w : Seen S) (v : View) → Shows about keeps may_leave_now w v → (one : HappensSo about keeps may_leave_now w w no_one no_one v) × (one.w ≡ v) × (one.events ≡ [])
   none_happens w v shows = (
     record {
       w = v;
@@ -47,6 +47,7 @@ module _ {S : Type 0} (about : S → About) (keeps : S → List ℕ → Type 0) 
       sent = none_asked;
       remain = record { places = λ id place there. there; came = λ id place there. inl there; many = omega arith; export = refl };
     },
+    refl,
     refl,
   )
 
@@ -70,7 +71,7 @@ module _ {S : Type 0} (about : S → About) (keeps : S → List ℕ → Type 0) 
       before_none id was is none = not_before a b one id was is none
 
   module _ (law : HappeningsAreOfOneVolume) (old mid new : Seen S) (joined : IsJoined old) (joined_then : IsJoined mid) (fed fed2 handed handed2 : SessionId → List ℕ) where
-    size_stays : Remain old.sessions mid.sessions → bytes_of mid.chain ≡ bytes_of old.chain
+    pub size_stays : Remain old.sessions mid.sessions → bytes_of mid.chain ≡ bytes_of old.chain
     size_stays remain = sym joined_then.size ∙ ap (λ e. e.size) remain.export ∙ joined.size
 
     sent_then : (asked asked2 : SessionId → List Asked) (events events2 : List ClientEvent) → AskWhatWasSent asked events → AskWhatWasSent asked2 events2
@@ -82,13 +83,10 @@ module _ {S : Type 0} (about : S → About) (keeps : S → List ℕ → Type 0) 
         ∙ sym (map-append (held_under id) (asked id) (asked2 id))
 
     -- what happened in a world, and then in the one that it led to, happens in it
-    pub happens_then : (v : View) (s : State) → StandsFor (bytes_of old.chain) v s → (one : HappensSo about keeps may_leave_now old mid fed handed v) → IsOfOneVolume about keeps may_leave_now fed2 handed2 mid new
-        → (more : List ClientEvent) × (both : HappensSo about keeps may_leave_now old new (λ id. fed id ++ fed2 id) (λ id. handed id ++ handed2 id) v) × (both.events ≡ one.events ++ more)
-    happens_then v s stands one second =
-        let size = size_stays one.remain in
-        let plays = goes_plays law (bytes_of old.chain) v one.w one.events one.goes s stands in
-        let two = second one.w plays.1 one.shows (subst (λ n. StandsFor n one.w plays.1) (sym size) plays.4) in (
-          two.events,
+    pub happens_then : (v : View) (one : HappensSo about keeps may_leave_now old mid fed handed v) (two : HappensSo about keeps may_leave_now mid new fed2 handed2 one.w)
+        → (both : HappensSo about keeps may_leave_now old new (λ id. fed id ++ fed2 id) (λ id. handed id ++ handed2 id) v) × (both.w ≡ two.w) × (both.events ≡ one.events ++ two.events)
+    happens_then v one two =
+        let size = size_stays one.remain in (
           record {
             w = two.w;
             events = one.events ++ two.events;
@@ -100,11 +98,12 @@ module _ {S : Type 0} (about : S → About) (keeps : S → List ℕ → Type 0) 
             remain = remain_then old.sessions mid.sessions new.sessions one.remain two.remain;
           },
           refl,
+          refl,
         )
 
   -- the same, told otherwise
   pub happens_as : (old new : Seen S) (fed fed2 handed handed2 : SessionId → List ℕ) → ((id : SessionId) → fed id ≡ fed2 id) → ((id : SessionId) → handed id ≡ handed2 id)
-      → (v : View) (one : HappensSo about keeps may_leave_now old new fed handed v) → (other : HappensSo about keeps may_leave_now old new fed2 handed2 v) × (other.events ≡ one.events)
+      → (v : View) (one : HappensSo about keeps may_leave_now old new fed handed v) → (other : HappensSo about keeps may_leave_now old new fed2 handed2 v) × (other.w ≡ one.w) × (other.events ≡ one.events)
   happens_as old new fed fed2 handed handed2 feds handeds v one = (
     record {
       w = one.w;
@@ -116,5 +115,6 @@ module _ {S : Type 0} (about : S → About) (keeps : S → List ℕ → Type 0) 
       sent = one.sent;
       remain = one.remain;
     },
+    refl,
     refl,
   )

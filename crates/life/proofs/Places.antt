@@ -1,6 +1,6 @@
 -- What is so of all is so of one. Lemmas.
-use Rattle.std.proofs.Common.{◌≡◌, ℕ, zero, suc, List, [], ◌∷◌, map, subst}
-use Rattle.std.specs.Prelude.{All, IfSome, None, Option, Some, get_or, slice_get}
+use Rattle.std.proofs.Common.{◌≡◌, ℕ, zero, suc, ◌+◌, List, [], ◌∷◌, ◌++◌, length, map, subst, inl, inr, arith}
+use Rattle.std.specs.Prelude.{◌⊎◌, All, IfSome, None, Option, Some, get_or, slice_get}
 use Rattle.std.proofs.lemmas.List.{get_or-map, length-map}
 use Rattle.std.proofs.lemmas.Option.{slice_get-get_or}
 use Rattle.std.proofs.lemmas.List.Elements.{All-head, All-tail}
@@ -21,3 +21,9 @@ found_so {A = A} P given x is so = subst (λ (o : Option A). IfSome o P) is so
 
 pub of_mapped : {A B : Type 0} (Q : B → Type 0) (f : A → B) (xs : List A) → All Q (map f xs) → All (λ x. Q (f x)) xs
 of_mapped Q f xs all = λ k d within. subst Q (get_or-map f xs k d (f d) within) (all k (f d) (rw (length-map xs f) within))
+
+-- what stands in two lists, one behind the other, stands in one of them
+pub get_either : {A : Type 0} (xs ys : List A) (k : ℕ) (x : A) → slice_get (xs ++ ys) k ≡ Some x → (slice_get xs k ≡ Some x) ⊎ ((j : ℕ) × (k ≡ length xs + j) × (slice_get ys j ≡ Some x))
+get_either [] ys k x here = inr (k, omega arith, here)
+get_either (y ∷ xs) ys zero x here = inl here
+get_either (y ∷ xs) ys (suc k) x here = elim (get_either xs ys k x here) [ inl there ↦ inl there | inr (j, at, there) ↦ inr (j, omega (arith, at), there) ]

@@ -10,6 +10,7 @@ use Rattle.disk_model.specs.declared.content.Cut.{Cut}
 use Rattle.disk_model.specs.declared.memory.MemDisk.{MemDisk}
 use Rattle.home_blocks.specs.Home.{IsNoVolume, IsOtherVersion}
 use Rattle.local_store.specs.About.{About, migrated}
+use Rattle.local_store.specs.Kept.{stored_means}
 use Rattle.local_store.specs.Meaning.{HasDamagedArea, IsOpenable, IsUnfinished}
 use Rattle.local_store.specs.Refusal.{IsNotOfDevice, IsOfOpening}
 use Rattle.local_store.specs.declared.refusal.Refusal as store
@@ -71,6 +72,12 @@ cut_of_member old v at m disk shows here kind cut on =
     let (front, durable, known, is) = so.left (given_of disk) cut.left in
     let own = all_at (λ n. (0 < (about_of_store n.node.store).incarnation) × ((about_of_store n.node.store).geometry ≡ old.chain.geometry)) old.chain.members at m on here in
     (record { meaning = _; means = is; given = own.0; long = omega (arith, m.node.store.room, cut.left.size) }, own.1, refl, refl)
+
+-- so is that of who joins, whose store keeps a volume
+pub cut_of_joiner : (store : IsStore) (volume : List ℕ) (disk : MemDisk) → keeps_volume store volume → (kind : Cut) → IsCutFrom leaves_now disk_in kind store disk → 0 < (about_of_store store).incarnation
+    → (is : IsOfMember disk) × (is.meaning.geometry ≡ (about_of_store store).geometry) × (is.meaning.slot ≡ (about_of_store store).slot) × (is.meaning.incarnation ≡ (about_of_store store).incarnation)
+cut_of_joiner store volume disk kept kind cut given =
+    (record { meaning = _; means = stored_means kept.stands kept (given_of disk) cut.left; given = given; long = omega (arith, store.room, cut.left.size) }, refl, refl, refl)
 
 -- ---- why it may be refused
 

@@ -79,8 +79,10 @@ module _ {S : Type 0} (premise : Type 0) (about : S → About) (keeps : S → Li
   pub unfed : (deed : Deed) (answer : Answer) (old new : Managed S) → DoesDeed premise about keeps is_pending may_leave_now moment left_since failures disk deed answer old new → (HasMetStop disk old → ⊥) → HasMetStop disk new
       → (id : SessionId) → fed_by deed answer id ≡ []
   unfed (deeds.Step (Connect session at)) answer old new does runs met id = refl
-  unfed (deeds.Step (Bytes session piece)) answer old new ((given, tells, did), same) runs met id =
-      absurd (runs (met_before disk old new (takes_in about premise keeps is_pending may_leave_now moment left_since failures session piece.items given old.world new.world did) same met))
+  unfed (deeds.Step (Bytes session piece)) answer old new is runs met id =
+      let ((given, tells, did), same, still) = is.did in
+      let chain = takes_in about premise keeps is_pending may_leave_now moment left_since failures session piece.items given old.world is.unnoted.world did in
+      absurd (runs (met_before disk old new (ap (λ w. w.world.chain) is.same ∙ chain) (ap (λ w. w.management) is.same ∙ same) met))
   unfed (deeds.Step (End session)) answer old new does runs met id = refl
   unfed (deeds.Step (HandOut session)) answer old new does runs met id = refl
   unfed (deeds.Step (Member at act)) answer old new does runs met id = refl

@@ -1,18 +1,24 @@
 -- The calls of a world: what each does, with what it gives.
-use Rattle.std.specs.Prelude.{◌≡◌, ◌≢◌, ◌⊎◌, ◌↔◌, ℕ, Bool, true, false, Option, None, Some, Result, IfErr, IfNone, IfOk, IfSome, IsErrOf, IsOk, IsSome, OnErr, OnOk, List, [], ◌∷◌, ◌++◌, slice_get}
+use Rattle.std.specs.Prelude.{◌≡◌, ◌≢◌, ◌⊎◌, ◌↔◌, ℕ, Bool, true, false, Option, None, Some, Result, Err, IfErr, IfNone, IfOk, IfSome, IsErrOf, IsOk, IsSome, OnErr, OnOk, List, [], ◌∷◌, ◌++◌, length, slice_get}
 use Rattle.chain.specs.Arming.{HasArmed, HasNewScript, HasOldScript}
-use Rattle.chain.specs.Chain.{Chained, Changes, RestsAt}
+use Rattle.chain.specs.Chain.{Chained, Changes, RestsAt, bytes_of}
 use Rattle.chain.specs.Commits.{EndsAt, HasBegunCommits, HasCheckpointed, HasEndedCommit, HasNoCommit, HasNoGroup, HasNoNumber, HasStoppedTold, HasTicked, IsOutOfTurn, IsUsedUpAt, LeavesAt, PostsAt, PostsNone}
 use Rattle.chain.specs.Fronts.{HasAnswered, HasKnown, HasLooked, HasNoLooked, HasNoRaised, MayNotRaise, RaisesAt}
 use Rattle.chain.specs.Member.{HasCalled}
 use Rattle.chain.specs.Musters.{HasFound, HasGauged, HasMustered, HasNoFront, HasNoSlotLeft, HasNoWhole, HasSettled, LacksAt}
 use Rattle.chain.specs.Passing.{HasNone, IsItself, MessageComes, Refuses, SubmitComes}
+use Rattle.candidate.specs.Copies.{BeginsAt}
+use Rattle.candidate.specs.Orders.{Attaches, Copies, LedOn, Rests}
+use Rattle.candidate.specs.declared.candidate.Candidate.{Candidate}
+use Rattle.candidate.specs.declared.candidate.Candidate.TheVariants.{Copying, Counted, Nobody, Refused, Whole}
+use Rattle.candidate.specs.declared.giving.Gave.{Gave}
 use Rattle.chain_core.specs.declared.refusal.Refusal.{Refusal}
 use Rattle.chain_core.specs.declared.refusal.Refusal.TheVariants as refusals
 use Rattle.chain_steps.specs.declared.message.Envelope.{Envelope}
 use Rattle.clients.specs.Calls.{Begins, Ends, PutsOut}
 use Rattle.clients.specs.Clients.{HasClient, place_of}
 use Rattle.clients.specs.declared.output.Output.{Output}
+use Rattle.configurations.specs.Record.{Record}
 use Rattle.configurations.specs.Refusal.{HasCause, IsOfDevice, IsOfRecording}
 use Rattle.configurations.specs.Store.{HoldsRecord, IsSettledConfig}
 use Rattle.configurations.specs.declared.refusal.Refusal as config
@@ -26,13 +32,18 @@ use Rattle.flush_barrier.specs.Reply.{GivenReply}
 use Rattle.flush_barrier.specs.declared.session_id.SessionId.{SessionId}
 use Rattle.local_store.specs.About.{About}
 use Rattle.local_store.specs.Arming.{IsAsItWas}
-use Rattle.manager.specs.Manager.{removal_of, why_no_removal}
+use Rattle.local_store.specs.Refusal.{IsCaused}
+use Rattle.local_store.specs.declared.refusal.Refusal as stores
+use Rattle.local_store.specs.declared.refusal.Refusal.TheVariants as store_refusals
+use Rattle.manager.specs.Manager.{abandoned, joining_of, next_of, removal_of, why_no_abandoning, why_no_joining, why_no_removal}
+use Rattle.manager.specs.declared.order.Order.TheVariants as orders
 use Rattle.manager.specs.declared.refusal.Refusal as manager
 use Rattle.manager.specs.declared.refusal.Refusal.TheVariants as managers
 use Rattle.nbd_session.specs.Progress.{is_over}
 use Rattle.nbd_session.specs.declared.refusal.Refusal as session
 use Rattle.nbd_session.specs.declared.refusal.Refusal.TheVariants.{SessionOver}
 use Rattle.std.specs.declared.alloc.AllocError.{AllocError}
+use Rattle.world.specs.Joining.{BeginsJoin, BeginsNoJoin, EndsJoin, EndsNoJoin, GivesUp, HasOnlyRecorded}
 use Rattle.world.specs.Management.{BeginsNone, CountsNone, CountsOut, EndsNone, HasBegun, HasEnded, HoldsWritten, TellsNext, TellsNobody, noted}
 use Rattle.world.specs.Reception.{Feeds, Receives}
 use Rattle.world.specs.Taking.{Takes}
@@ -135,12 +146,17 @@ Stops at given old new = AnswersOr given old new (λ replies old new. Changes at
 
 -- ---- of the manager
 
--- nothing changed
+-- nothing changed of the world and its manager
 abbrev pub IsSame : {S : Type 0} → Managed S → Managed S → Type 0
 IsSame old new = (new.world ≡ old.world) × (new.management ≡ old.management)
 
+-- nor of the disk on its way
+abbrev pub AllSame : {S : Type 0} → Managed S → Managed S → Type 0
+AllSame old new = IsSame old new × (new.candidate ≡ old.candidate)
+
 -- The manager noted who has stopped, and began the removal of the member at the slot; or it refuses it, by the first test that fails.
 pub record Removes {S : Type 0} (slot : ℕ) (given : Result (Unit {0}) manager.Refusal) (old new : Managed S) : Type 0 where
+  pub candidate : new.candidate ≡ old.candidate
   pub world : new.world ≡ old.world
   pub done : OnOk given (new.management ≡ record old.management { manager = removal_of slot (noted old.world.chain old.management.manager) })
   pub ok : IsOk given → why_no_removal slot (noted old.world.chain old.management.manager) ≡ None
@@ -150,6 +166,7 @@ pub record Removes {S : Type 0} (slot : ℕ) (given : Result (Unit {0}) manager.
 
 -- The next record is being written; or no record is the next order, or it may not come next; or memory ran out.
 pub record BeginsRecord {S : Type 0} (given : Result Bool AllocError) (old new : Managed S) : Type 0 where
+  pub candidate : new.candidate ≡ old.candidate
   pub begun : IfOk given (λ done. done ≡ true → HasBegun old.management new.management old.world new.world)
   pub idle : IfOk given (λ done. done ≡ false → BeginsNone old.management old.world × IsSame old new)
   pub err : OnErr given (IsSame old new)
@@ -157,6 +174,7 @@ pub record BeginsRecord {S : Type 0} (given : Result Bool AllocError) (old new :
 -- The record that was being written stands on the configuration's disk, and is the recorded one; or none may be recorded; or it is refused,
 -- and then it is being written still. A stop at any moment leaves the one before it, or this one.
 pub record EndsRecord {S : Type 0} (given : Result Bool config.Refusal) (old new : Managed S) : Type 0 where
+  pub candidate : new.candidate ≡ old.candidate
   pub ended : IfOk given (λ done. done ≡ true → HasEnded old.management new.management old.world new.world)
   pub idle : IfOk given (λ done. done ≡ false → EndsNone old.management old.world × IsSame old new)
   pub world : OnErr given (new.world ≡ old.world)
@@ -167,24 +185,105 @@ pub record EndsRecord {S : Type 0} (given : Result Bool config.Refusal) (old new
   pub told : IfErr given IsOfRecording
   pub cause : HasCause (failures_of old.management.disk) (failures_of new.management.disk) given
   pub broken : old.management.config.pair.broken ≡ true → IfErr given (λ r. IsOfDevice r → ⊥) × IfOk given (λ done. done ≡ false)
+  pub attempted : IfErr given (λ r. IsOfDevice r → (next : Record) → old.world.chain.writing ≡ Some next → old.management.config.current.epoch ≢ next.epoch)
   pub settled : IsSettledConfig old.management.config (given_of old.management.disk) (may_be_left old.management.disk)
       → OnOk given (IsSettledConfig new.management.config (given_of new.management.disk) (may_be_left new.management.disk))
   pub any_moment : IsSettledConfig old.management.config (given_of old.management.disk) (may_be_left old.management.disk)
       → LeavesOnly moment_of left_since old.management.disk new.management.disk (λ c. HoldsRecord old.management.config.current (inside old.management.config.pair.part c)
       ⊎ HoldsWritten old.world.chain.writing (inside old.management.config.pair.part c))
 
+-- whether the disk on its way was counted
+abbrev pub is_counted : {S D : Type 0} → Candidate S D → Bool
+is_counted Counted = true
+is_counted Nobody = false
+is_counted (Copying c) = false
+is_counted (Whole w) = false
+is_counted (Refused disk) = false
+
+-- The next record is being written, with who joins; or no record is the next order, or it may not come next; or memory ran out.
+pub record BeginsWithJoiner {S : Type 0} (about : S → About) (given : Result Bool AllocError) (old new : Managed S) : Type 0 where
+  pub candidate : new.candidate ≡ old.candidate
+  pub begun : IfOk given (λ done. done ≡ true → BeginsJoin about old.management new.management old.world new.world)
+  pub idle : IfOk given (λ done. done ≡ false → BeginsNoJoin about old.management old.world × IsSame old new)
+  pub err : OnErr given (IsSame old new)
+
+-- with the disk that was counted, if one was
+abbrev pub BeginsNext : {S : Type 0} → (S → About) → Result Bool AllocError → Managed S → Managed S → Type 0
+BeginsNext about given old new = ((is_counted old.candidate ≡ true) × BeginsWithJoiner about given old new) ⊎ ((is_counted old.candidate ≡ false) × BeginsRecord given old new)
+
+-- The record with who joins stands on the configuration's disk, and is the recorded one; or none may be recorded; or it is refused, and then
+-- it is being written still. A stop at any moment leaves the one before it, or this one.
+pub record EndsWithJoiner {S : Type 0} (about : S → About) (given : Result Bool config.Refusal) (old new : Managed S) : Type 0 where
+  pub ended : IfOk given (λ done. done ≡ true → EndsJoin about old.management new.management old.world new.world × (new.candidate ≡ Nobody))
+  pub idle : IfOk given (λ done. done ≡ false → EndsNoJoin about old.management old.world × AllSame old new)
+  pub candidate : OnErr given (new.candidate ≡ old.candidate)
+  pub world : OnErr given (new.world ≡ old.world)
+  pub manager : OnErr given (new.management.manager ≡ old.management.manager)
+  pub unchanged : IfErr given (λ r. (IsOfDevice r → ⊥) → (new.management ≡ old.management) ⊎ HasOnlyRecorded old.management new.management old.world)
+  pub device : IfErr given (λ r. IsOfDevice r → new.management.config
+      ≡ record old.management.config { pair = record old.management.config.pair { is_closed = new.management.config.pair.is_closed; broken = true } })
+  pub told : IfErr given IsOfRecording
+  pub cause : HasCause (failures_of old.management.disk) (failures_of new.management.disk) given
+  pub untouched : old.management.config.pair.broken ≡ true → (new.management.config ≡ old.management.config) × (new.management.disk ≡ old.management.disk)
+  pub attempted : IfErr given (λ r. IsOfDevice r → (next : Record) → old.world.chain.writing ≡ Some next → old.management.config.current.epoch ≢ next.epoch)
+  pub settled : IsSettledConfig old.management.config (given_of old.management.disk) (may_be_left old.management.disk)
+      → OnOk given (IsSettledConfig new.management.config (given_of new.management.disk) (may_be_left new.management.disk))
+  pub settled_still : IsSettledConfig old.management.config (given_of old.management.disk) (may_be_left old.management.disk)
+      → IfErr given (λ r. (IsOfDevice r → ⊥) → IsSettledConfig new.management.config (given_of new.management.disk) (may_be_left new.management.disk))
+  pub any_moment : IsSettledConfig old.management.config (given_of old.management.disk) (may_be_left old.management.disk)
+      → LeavesOnly moment_of left_since old.management.disk new.management.disk (λ c. HoldsRecord old.management.config.current (inside old.management.config.pair.part c)
+      ⊎ HoldsWritten old.world.chain.writing (inside old.management.config.pair.part c))
+
+-- with the disk that was counted, if one was
+abbrev pub EndsNext : {S : Type 0} → (S → About) → Result Bool config.Refusal → Managed S → Managed S → Type 0
+EndsNext about given old new = ((is_counted old.candidate ≡ true) × EndsWithJoiner about given old new) ⊎ ((is_counted old.candidate ≡ false) × EndsRecord given old new)
+
 -- A slot is counted no longer; or that isn't the next order, or somebody is recorded there.
 pub record CountsSlotOut {S : Type 0} (done : Bool) (old new : Managed S) : Type 0 where
+  pub candidate : new.candidate ≡ old.candidate
   pub out : done ≡ true → CountsOut old.management new.management old.world new.world
   pub idle : done ≡ false → CountsNone old.management old.world × IsSame old new
 
 -- A member was told the record, if it could be; or nobody is to be told.
 pub record TellsRecord {S : Type 0} (given : Option Told) (old new : Managed S) : Type 0 where
+  pub candidate : new.candidate ≡ old.candidate
   pub told : IfSome given (λ told. TellsNext told old.management new.management old.world new.world)
   pub idle : IfNone given (TellsNobody old.management × IsSame old new)
 
+-- The manager noted who has stopped, and began the joining of a disk at the slot; or it refuses it, by the first test that fails.
+pub record Joins {S : Type 0} (slot : ℕ) (given : Result (Unit {0}) manager.Refusal) (old new : Managed S) : Type 0 where
+  pub candidate : new.candidate ≡ old.candidate
+  pub world : new.world ≡ old.world
+  pub done : OnOk given (new.management ≡ record old.management { manager = joining_of slot (noted old.world.chain old.management.manager) })
+  pub ok : IsOk given → why_no_joining slot (noted old.world.chain old.management.manager) ≡ None
+  pub refused : IfErr given (λ e. e ≢ managers.Memory → why_no_joining slot (noted old.world.chain old.management.manager) ≡ Some e)
+  pub memory : IsErrOf given managers.Memory → why_no_joining slot (noted old.world.chain old.management.manager) ≡ None
+  pub only_noted : OnErr given (new.management ≡ record old.management { manager = noted old.world.chain old.management.manager })
+
+-- A new disk is attached, if that is the next order, and its copy begins; or memory ran out, and nothing changed; or it refuses.
+pub record AttachesNew {S : Type 0} (given : Result Bool stores.Refusal) (old new : Managed S) : Type 0 where
+  pub world : new.world ≡ old.world
+  pub attaches : ((given ≡ Err store_refusals.Memory) × AllSame old new) ⊎ Attaches given old.candidate new.candidate old.management new.management old.world
+  pub begins : (slot : ℕ) → next_of old.management.manager ≡ orders.Attach slot → (volume : List ℕ) → length volume ≡ bytes_of old.world.chain
+      → IfOk given (λ done. done ≡ true → BeginsAt given_of may_be_left slot old.world.chain volume new.candidate)
+
+-- where it refused, it has failed since, unless it had no memory
+abbrev pub HasCausedIt : {S : Type 0} → Result Gave stores.Refusal → Managed S → Managed S → Type 0
+HasCausedIt given old new = IfErr given (λ e. LedOn (λ was now. IsCaused (failures_of was) (failures_of now) e) old.candidate new.candidate)
+
+-- The joining under way was abandoned: its disk is gone, and who joins was given up; or it is refused, and nothing changed.
+pub record Abandons {S : Type 0} (given : Result (Unit {0}) manager.Refusal) (old new : Managed S) : Type 0 where
+  pub done : OnOk given (new.management ≡ record old.management { manager = abandoned old.management.manager })
+  pub nobody : OnOk given (new.candidate ≡ Nobody)
+  pub given_up : OnOk given ((store : Option S) × GivesUp store old.world new.world)
+  pub ok : IsOk given → why_no_abandoning old.management.manager ≡ None
+  pub refused : IfErr given (λ e. e ≢ managers.Memory → why_no_abandoning old.management.manager ≡ Some e)
+  pub memory : IsErrOf given managers.Memory → why_no_abandoning old.management.manager ≡ None
+  pub unchanged : OnErr given (AllSame old new)
+
 -- The script of the configuration's disk has one more event, unless memory ran out.
 pub record ArmsConfig {S : Type 0} (event : Event) (given : Result (Unit {0}) AllocError) (old new : Managed S) : Type 0 where
+  pub candidate : new.candidate ≡ old.candidate
   pub ok : OnOk given (script_of new.management.disk ≡ script_of old.management.disk ++ counted_from (calls_of old.management.disk) event ∷ [])
   pub err : OnErr given (script_of new.management.disk ≡ script_of old.management.disk)
   pub stays : IsAsBefore old.management.disk new.management.disk
@@ -233,6 +332,18 @@ module _ {S : Type 0} (premise : Type 0) (about : S → About) (keeps : S → Li
     pub refused : IfErr given (λ r. ((r ≡ refusals.Full) × Moves old new (λ old new. Changes at old new (HasNoGroup premise about failures keeps moment left_since most)))
         ⊎ ((r ≡ refusals.Stopped) × Moves old new (RestsAt at)))
     pub any_moment : premise → LeavesAt about keeps may_leave_now moment left_since at old.chain new.chain
+
+  -- ---- of a disk on its way
+
+  -- The disk was given the next block, or not.
+  pub record CopiesNext (given : Result Gave stores.Refusal) (old new : Managed S) : Type 0 where
+    pub copies : Copies premise about failures keeps moment left_since given old.candidate new.candidate old.management new.management old.world new.world
+    pub cause : HasCausedIt given old new
+
+  -- It was given the next block of the rest, or the end, or not.
+  pub record GivesRest (given : Result Gave stores.Refusal) (old new : Managed S) : Type 0 where
+    pub rests : Rests premise about failures keeps moment left_since given old.candidate new.candidate old.management new.management old.world new.world
+    pub cause : HasCausedIt given old new
 
 -- ---- of scripts
 

@@ -1,6 +1,9 @@
 -- What a step does: exactly the call of the world that it names, whose result its answer tells. Where there is no member at its place,
 -- it is skipped, and nothing changed.
 use Rattle.std.specs.Prelude.{◌≡◌, ℕ, ◌<◌, ◌≤◌, Bool, true, false, Option, None, Some, IfSome, Result, Ok, Err, List, [], length}
+use Rattle.candidate.specs.Orders.{Counts, Holds, Notes}
+use Rattle.candidate.specs.declared.giving.Gave.{Gave}
+use Rattle.candidate.specs.declared.giving.Gave.TheVariants.{Nothing, Piece, Stopped}
 use Rattle.chain_core.specs.Refusal.{number_of}
 use Rattle.chain_core.specs.declared.refusal.Refusal.{Refusal}
 use Rattle.clients.specs.declared.output.Output.{Output}
@@ -10,6 +13,8 @@ use Rattle.disk_model.specs.declared.memory.MemDisk.{MemDisk}
 use Rattle.disk_model.specs.declared.script.Event.{Event}
 use Rattle.flush_barrier.specs.declared.session_id.SessionId.{SessionId}
 use Rattle.local_store.specs.About.{About}
+use Rattle.local_store.specs.Refusal as store
+use Rattle.local_store.specs.declared.refusal.Refusal as stores
 use Rattle.manager.specs.Refusal as manager
 use Rattle.manager.specs.declared.refusal.Refusal as managers
 use Rattle.nbd_session.specs.Refusal as session
@@ -18,7 +23,7 @@ use Rattle.std.specs.declared.alloc.AllocError.{AllocError}
 use Rattle.world.specs.Telling.{is_whole, outputs_of}
 use Rattle.world.specs.World.{Seen}
 use Rattle.world.specs.declared.told.Told.{Told}
-use Rattle.life.specs.Calls.{AnswersFront, Arms, ArmsConfig, BeginsCommits, BeginsRecord, Checkpoints, Connects, CountsSlotOut, EndsCommit, EndsInput, EndsRecord, FindsFront, Gauges, HandsOut, LooksUp, MustersCrew, Numbers, Passes, Posts, Raises, Removes, Settles, Stops, TakesFirst, TakesIn, TakesRaised, TellsRecord, Ticks}
+use Rattle.life.specs.Calls.{Abandons, AnswersFront, Arms, ArmsConfig, AttachesNew, BeginsCommits, BeginsNext, Checkpoints, Connects, CopiesNext, CountsSlotOut, EndsCommit, EndsInput, EndsNext, FindsFront, Gauges, GivesRest, HandsOut, Joins, LooksUp, MustersCrew, Numbers, Passes, Posts, Raises, Removes, Settles, Stops, TakesFirst, TakesIn, TakesRaised, TellsRecord, Ticks}
 use Rattle.life.specs.Managed.{Managed}
 use Rattle.life.specs.Played.{told_in, tried_in, went_in}
 use Rattle.life.specs.declared.answer.Answer.{Answer}
@@ -62,7 +67,7 @@ abbrev pub TellsArmed : Result (Unit {0}) AllocError → Answer → Type 0
 TellsArmed (Ok armed) answer = IsSilent answer
 TellsArmed (Err error) answer = answer ≡ Refused 100
 
--- a removal was begun, or refused
+-- a change was begun, or refused
 abbrev pub TellsRemoved : Result (Unit {0}) managers.Refusal → Answer → Type 0
 TellsRemoved (Ok begun) answer = IsSilent answer
 TellsRemoved (Err refusal) answer = answer ≡ Refused (manager.number_of refusal)
@@ -71,6 +76,22 @@ TellsRemoved (Err refusal) answer = answer ≡ Refused (manager.number_of refusa
 abbrev pub TellsRecorded : Result Bool configs.Refusal → Answer → Type 0
 TellsRecorded (Ok done) answer = TellsDone done answer
 TellsRecorded (Err refusal) answer = IfSome (config.number_of refusal) (λ number. answer ≡ Refused number)
+
+-- a disk was refused with this; where it has stopped, there is no answer
+abbrev pub TellsRefused : stores.Refusal → Answer → Type 0
+TellsRefused refusal answer = IfSome (store.number_of refusal) (λ number. answer ≡ Refused number)
+
+-- a disk was attached, or none was to be, or it refused
+abbrev pub TellsAttached : Result Bool stores.Refusal → Answer → Type 0
+TellsAttached (Ok done) answer = TellsDone done answer
+TellsAttached (Err refusal) answer = TellsRefused refusal answer
+
+-- a disk was given a block, or the end; or nothing; or the member stopped, and told clients so; or the disk refused
+abbrev pub TellsGave : Result Gave stores.Refusal → Answer → Type 0
+TellsGave (Ok Nothing) answer = answer ≡ Skipped
+TellsGave (Ok Piece) answer = IsSilent answer
+TellsGave (Ok (Stopped told)) answer = answer ≡ Taken told
+TellsGave (Err refusal) answer = TellsRefused refusal answer
 
 -- what waited for a client went out, and else there was no such step
 abbrev pub handed_out_in : Option Output → Answer
@@ -135,16 +156,6 @@ IsArmed about keeps is_pending may_leave_now failures disk at event answer old n
 abbrev pub IsConfigArmed : {S : Type 0} → Event → Answer → Managed S → Managed S → Type 0
 IsConfigArmed event answer old new = (given : Result (Unit {0}) AllocError) × TellsArmed given answer × ArmsConfig event given old new
 
--- ---- the manager
-
--- what the manager did
-abbrev pub Manages : {S : Type 0} → ManagerAct → Answer → Managed S → Managed S → Type 0
-Manages (manages.Remove slot) answer old new = (given : Result (Unit {0}) managers.Refusal) × TellsRemoved given answer × Removes slot given old new
-Manages manages.BeginRecord answer old new = (given : Result Bool AllocError) × TellsBegun given answer × BeginsRecord given old new
-Manages manages.EndRecord answer old new = (given : Result Bool configs.Refusal) × TellsRecorded given answer × EndsRecord given old new
-Manages manages.CountOut answer old new = IsDone answer (λ done. CountsSlotOut done old new)
-Manages manages.Tell answer old new = IsTold answer (λ given. TellsRecord given old new)
-
 -- ---- any step
 
 module _ {S : Type 0} (premise : Type 0) (about : S → About) (keeps : S → List ℕ → Type 0) (is_pending : S → ℕ → Type 0) (may_leave_now : S → List ℕ → Type 0) (moment : S → ℕ)
@@ -186,11 +197,37 @@ module _ {S : Type 0} (premise : Type 0) (about : S → About) (keeps : S → Li
   Does (HandOut id) answer old new = IsHandedOut id answer old new
   Does (Member at act) answer old new = IsAtMember at answer old new (Acts act at answer old new)
 
+  -- ---- the manager
+
+  -- what the manager did
+  abbrev pub Manages : ManagerAct → Answer → Managed S → Managed S → Type 0
+  Manages (manages.Remove slot) answer old new = (given : Result (Unit {0}) managers.Refusal) × TellsRemoved given answer × Removes slot given old new
+  Manages (manages.Join slot) answer old new = (given : Result (Unit {0}) managers.Refusal) × TellsRemoved given answer × Joins slot given old new
+  Manages manages.Attach answer old new = (given : Result Bool stores.Refusal) × TellsAttached given answer × AttachesNew given old new
+  Manages manages.Copy answer old new = (given : Result Gave stores.Refusal) × TellsGave given answer × CopiesNext premise about keeps is_pending may_leave_now moment left_since failures given old new
+  Manages manages.Hold answer old new = IsTold answer (λ given. Holds given old.candidate new.candidate old.management new.management old.world new.world)
+  Manages manages.Rest answer old new = (given : Result Gave stores.Refusal) × TellsGave given answer × GivesRest premise about keeps is_pending may_leave_now moment left_since failures given old new
+  Manages manages.CountIn answer old new = IsDone answer (λ done. Counts about done old.candidate new.candidate old.management new.management old.world new.world)
+  Manages manages.Abandon answer old new = (given : Result (Unit {0}) managers.Refusal) × TellsRemoved given answer × Abandons given old new
+  Manages manages.BeginRecord answer old new = (given : Result Bool AllocError) × TellsBegun given answer × BeginsNext about given old new
+  Manages manages.EndRecord answer old new = (given : Result Bool configs.Refusal) × TellsRecorded given answer × EndsNext about given old new
+  Manages manages.CountOut answer old new = IsDone answer (λ done. CountsSlotOut done old new)
+  Manages manages.Tell answer old new = IsTold answer (λ given. TellsRecord given old new)
+
   -- ---- a deed
 
   -- what the deed did, where this is the disk of a store
-  abbrev pub DoesDeed : (S → MemDisk) → Deed → Answer → Managed S → Managed S → Type 0
-  DoesDeed disk (deeds.Step step) answer old new = Does step answer old.world new.world × (new.management ≡ old.management)
-  DoesDeed disk (deeds.Manage act) answer old new = Manages act answer old new
-  DoesDeed disk (deeds.Arm at event) answer old new = IsArmed about keeps is_pending may_leave_now failures disk at event answer old.world new.world × (new.management ≡ old.management)
-  DoesDeed disk (deeds.ArmConfig event) answer old new = IsConfigArmed event answer old new
+  abbrev pub DoesIt : (S → MemDisk) → Deed → Answer → Managed S → Managed S → Type 0
+  DoesIt disk (deeds.Step step) answer old new = Does step answer old.world new.world × (new.management ≡ old.management) × (new.candidate ≡ old.candidate)
+  DoesIt disk (deeds.Manage act) answer old new = Manages act answer old new
+  DoesIt disk (deeds.Arm at event) answer old new =
+      IsArmed about keeps is_pending may_leave_now failures disk at event answer old.world new.world × (new.management ≡ old.management) × (new.candidate ≡ old.candidate)
+  DoesIt disk (deeds.ArmConfig event) answer old new = IsConfigArmed event answer old new
+
+  -- It did so; and then what the member came to know, whose volume the disk on its way is given, was noted. The disks outside stay.
+  pub record DoesDeed (disk : S → MemDisk) (deed : Deed) (answer : Answer) (old new : Managed S) : Type 0 where
+    pub unnoted : Managed S
+    pub did : DoesIt disk deed answer old unnoted
+    pub noted : Notes new.world.chain unnoted.candidate new.candidate
+    pub same : new ≡ record unnoted { candidate = new.candidate }
+    pub outside : new.outside ≡ old.outside

@@ -1,5 +1,5 @@
--- THE HEADLINE. Whatever clients, members, the board and the manager do, which members are removed, and wherever disks fail or stop, with
--- everything stopped again and again and each time one member's disk returned: clients see one volume, and what was answered with FUA, or
+-- THE HEADLINE. Whatever clients, members, the board and the manager do, which members are removed, which disks join, and wherever disks fail
+-- or stop, with everything stopped again and again and each time one member's disk returned: clients see one volume, and what was answered with FUA, or
 -- before a FLUSH was sent that was answered, is on each recorded member's disk at each stop.
 --
 -- A life (IsOneLife) is a list of eras (EraLeads). In an era deeds are played from world to world (DeedsLead); clients see events
@@ -9,6 +9,7 @@
 -- front (GoesOnFrom).
 use Rattle.std.specs.Prelude.{◌≡◌, ◌≢◌, ◌⊎◌, ℕ, ◌*◌, ◌≤◌, false, true, Some, All, List, [], ◌∷◌, ◌++◌, length, map, slice_get, take, zip}
 use Rattle.std.specs.List.{flat_map, range_with_len}
+use Rattle.std.specs.Option.{ForSome}
 use Rattle.configurations.specs.Record.{Record}
 use Rattle.configurations.specs.declared.refusal.Refusal.TheVariants.{NotNext}
 use Rattle.disk_model.specs.Memory.{may_be_left}
@@ -151,6 +152,9 @@ module _ {S : Type 0} (premise : Type 0) (about : S → About) (keeps : S → Li
     -- and of the disk of a member of either what is owed
     pub disks : All (λ m. (r : Record) → MayStand end.world.chain r → HasDisk r (about m.node.store) → (bytes : List ℕ) → may_leave_now m.node.store bytes
         → HasWhatIsOwed export.size state (about m.node.store) bytes) end.world.chain.members
+    -- and so has that of who joins, if it is a member of the one that is being written
+    pub joiner : ForSome end.world.joiner (λ store. (r : Record) → MayStand end.world.chain r → HasDisk r (about store) → (bytes : List ℕ) → may_leave_now store bytes
+        → HasWhatIsOwed export.size state (about store) bytes)
     -- and no disk outside is that of a member of either
     pub outside : end.outside ≡ old.outside
     pub no_impostor : NoImpostor end
@@ -200,11 +204,12 @@ module _ {S : Type 0} (premise : Type 0) (about : S → About) (keeps : S → Li
     pub ends : EndsWith era old recorded
     pub nothing : NoneReturns era.returned.items (length ends.disks)
 
-  -- Of the members whose disks were to return none is of the chain that was left recorded.
+  -- Of the members whose disks were to return none is of the chain that was left recorded, nor is who joins, whose disk stands behind theirs.
   pub record ReturnsNobody (era : Era) (old : Managed S) : Type 0 where
     pub recorded : Record
     pub ends : EndsWith era old recorded
     pub nobody : (at : ℕ) (m : Linked S) → slice_get ends.end.world.chain.members at ≡ Some m → comes_back era.returned.items at ≡ true → is_in recorded (about m.node.store).slot (about m.node.store).incarnation ≡ false
+    pub nor_joiner : ForSome ends.end.world.joiner (λ store. comes_back era.returned.items (length ends.end.world.chain.members) ≡ true → is_in recorded (about store).slot (about store).incarnation ≡ false)
 
   -- No two records can follow the one that was left: a recovery that was broken off may have written one.
   pub record HasNoNext (era : Era) (old : Managed S) : Type 0 where

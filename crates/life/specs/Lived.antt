@@ -3,16 +3,19 @@ use Rattle.std.specs.Prelude.{◌≡◌, ℕ, ◌≤◌, List, [], ◌++◌, len
 use Rattle.flush_barrier.specs.declared.session_id.SessionId.{SessionId}
 use Rattle.local_store.specs.About.{About}
 use Rattle.nbd_session.specs.declared.answer.Export.{Export}
+use Rattle.candidate.specs.Copies.{HasCopy}
 use Rattle.clients.specs.Clients.{AreSessions}
+use Rattle.disk_model.specs.Memory.{given_of, may_be_left}
 use Rattle.chain.specs.Chain.{bytes_of}
 use Rattle.chain_model.specs.Chain.{StandsFor}
 use Rattle.chain_model.specs.View.{View}
 use Rattle.world_model.specs.Event.{ClientEvent}
 use Rattle.world_model.specs.Life.{all_events}
-use Rattle.world_model.specs.Machine.{State}
+use Rattle.world_model.specs.Machine.{Move, RunsOn, State}
 use Rattle.world.specs.World.{HappensSo, Seen, Shows}
 use Rattle.life.specs.Begun.{AllRun}
 use Rattle.life.specs.Headline.{Trace, fed_in, handed_in}
+use Rattle.life.specs.Managed.{Managed}
 
 -- The world stands for this state of the machine, has no clients, and all its members run.
 pub record IsFresh {S : Type 0} (about : S → About) (keeps : S → List ℕ → Type 0) (may_leave_now : S → List ℕ → Type 0) (size : ℕ) (export : Export) (w : Seen S) (s : State) : Type 0 where
@@ -43,3 +46,21 @@ pub record HappenInTurn {S : Type 0} (about : S → About) (keeps : S → List �
 abbrev pub AreOfOneVolume : {S : Type 0} → (S → About) → (S → List ℕ → Type 0) → (S → List ℕ → Type 0) → Trace → (dropped : SessionId → List ℕ) → Seen S → Seen S → Type 0
 AreOfOneVolume about keeps may_leave_now told dropped old new =
     (v : View) (s : State) → Shows about keeps may_leave_now old v → StandsFor (bytes_of old.chain) v s → HappenInTurn about keeps may_leave_now told dropped old new v
+
+-- ---- a disk on its way
+
+-- the disk on its way has a copy of the volume of this state of the machine, but for the blocks that are due
+abbrev pub HasCopyIn : {S : Type 0} → (S → About) → (S → List ℕ → Type 0) → ℕ → State → Managed S → Type 0
+HasCopyIn about keeps size s w = (incarnation : ℕ) × HasCopy given_of may_be_left about keeps size s incarnation w.candidate
+
+-- Whatever state of the one volume the world stood for, of which the disk had a copy: what the call did can happen in such a world.
+abbrev pub IsOfOneVolumeIn : {S : Type 0} → (S → About) → (S → List ℕ → Type 0) → (S → List ℕ → Type 0) → (fed handed : SessionId → List ℕ) → Managed S → Managed S → Type 0
+IsOfOneVolumeIn about keeps may_leave_now fed handed old new =
+    (v : View) (s : State) → Shows about keeps may_leave_now old.world v → StandsFor (bytes_of old.world.chain) v s → HasCopyIn about keeps (bytes_of old.world.chain) s old
+    → HappensSo about keeps may_leave_now old.world new.world fed handed v
+
+-- And it has one still, whichever it stands for then.
+abbrev pub KeepsCopyIn : {S : Type 0} → (S → About) → (S → List ℕ → Type 0) → (S → List ℕ → Type 0) → Managed S → Managed S → Type 0
+KeepsCopyIn about keeps may_leave_now old new =
+    (v w : View) (s t : State) (moves : List Move) → Shows about keeps may_leave_now old.world v → StandsFor (bytes_of old.world.chain) v s → RunsOn s moves t
+    → Shows about keeps may_leave_now new.world w → StandsFor (bytes_of old.world.chain) w t → HasCopyIn about keeps (bytes_of old.world.chain) s old → HasCopyIn about keeps (bytes_of old.world.chain) t new

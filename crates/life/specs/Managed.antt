@@ -1,5 +1,5 @@
--- A world with its manager, and the disk on which the chain's record stands.
-use Rattle.std.specs.Prelude.{◌≡◌, ◌⊎◌, ℕ, ◌≤◌, true, false, None, Some, All, List, [], replicate, slice_get}
+-- A world with its manager, the disk on which the chain's record stands, and the one on its way into the chain.
+use Rattle.std.specs.Prelude.{◌≡◌, ◌⊎◌, ℕ, suc, ◌≤◌, true, false, None, Some, All, List, [], replicate, slice_get}
 use Rattle.configurations.specs.Record.{Record}
 use Rattle.configurations.specs.Store.{HoldsNumbered, HoldsRecord, IsSettledConfig}
 use Rattle.disk_model.specs.Memory.{given_of, may_be_left}
@@ -9,6 +9,11 @@ use Rattle.disk_model.specs.declared.part.Part.{Part}
 use Rattle.gate_journal.specs.declared.batch.TheConstants.{MAX_NUMBER}
 use Rattle.home_blocks.specs.Places.{superblock_fits}
 use Rattle.local_store.specs.Meaning.{Meaning, Means}
+use Rattle.candidate.specs.declared.candidate.Candidate.{Candidate}
+use Rattle.candidate.specs.declared.candidate.Candidate.TheVariants.{Counted, Nobody}
+use Rattle.chain.specs.Joining.{IsWithOne}
+use Rattle.local_store.specs.About.{About}
+use Rattle.std.specs.Option.{ForSome}
 use Rattle.manager.specs.Manager as managers
 use Rattle.manager.specs.Orders.{is_record}
 use Rattle.chain.specs.Chain.{Chained}
@@ -16,10 +21,11 @@ use Rattle.world.specs.Management.{HoldsOne, Managing}
 use Rattle.world.specs.World.{Seen}
 use Rattle.life.specs.declared.managed.SlotDisk.{SlotDisk}
 
--- a world, its manager with the configuration's disk, and the disks outside the chain
+-- a world, its manager with the configuration's disk, the disk on its way into the chain, and the disks outside of it
 pub record ManagedOver (S D : Type 0) : Type 0 where
   pub world : Seen S
   pub management : Managing D
+  pub candidate : Candidate S D
   pub outside : List (SlotDisk D)
 
 -- where this is in memory
@@ -52,6 +58,11 @@ IsAmong r slot incarnation = (seat : ℕ) × (slice_get r.members seat ≡ Some 
 abbrev pub NoImpostor : {S : Type 0} → Managed S → Type 0
 NoImpostor w = All (λ d. (bytes : List ℕ) → may_be_left d.disk bytes → (meaning : Meaning) → Means meaning bytes → (r : Record) → MayStand w.world.chain r → IsAmong r meaning.slot meaning.incarnation → ⊥) w.outside
 
+-- Each disk is of an incarnation that was recorded: a member's, and, whatever a stop may leave of it, one outside.
+pub record AreDated {S : Type 0} (about : S → About) (w : Managed S) : Type 0 where
+  pub members : All (λ m. (about m.node.store).incarnation ≤ w.world.chain.recorded.epoch) w.world.chain.members
+  pub outside : All (λ d. (bytes : List ℕ) → may_be_left d.disk bytes → (meaning : Meaning) → Means meaning bytes → meaning.incarnation ≤ w.world.chain.recorded.epoch) w.outside
+
 -- no record can follow the one on the disk of these bytes: its epoch is the greatest, or the number of its store is
 pub record IsLast (bytes : List ℕ) : Type 0 where
   pub found : Record
@@ -65,25 +76,42 @@ pub record IsLast (bytes : List ℕ) : Type 0 where
 abbrev pub at_rest : Record → managers.State
 at_rest r = record { chain = r; stopped = replicate 8 false; joining = None; coming = r.members; begun = false; left = [] }
 
--- No change is under way, and whatever a stop leaves of the configuration's disk has the recorded chain's record.
+-- No change is under way, no disk is on its way into the chain, and whatever a stop leaves of the configuration's disk has the recorded
+-- chain's record.
 pub record IsAtRest {S : Type 0} (w : Managed S) : Type 0 where
   pub manager : w.management.manager ≡ at_rest w.world.chain.recorded
   pub idle : w.world.chain.writing ≡ None
+  pub nobody : w.candidate ≡ Nobody
+  pub alone : w.world.joiner ≡ None
   pub part : w.management.config.pair.part ≡ config_part
   pub current : w.management.config.current ≡ w.world.chain.recorded
   pub settled : IsSettledConfig w.management.config (given_of w.management.disk) (may_be_left w.management.disk)
 
+-- A record is being written: it is the one that the manager's next order means, and the manager knows that its writing has begun.
+abbrev pub IsBeingWritten : {S : Type 0} → Managed S → Type 0
+IsBeingWritten w =
+    (w.world.chain.writing ≡ Some (managers.coming_record w.management.manager)) × (w.management.manager.begun ≡ true) × (is_record (managers.next_of w.management.manager) ≡ true)
+
 -- The manager's record is the recorded chain's; and where a record is being written, it is the one that the manager's next order means.
 pub record AreInStep {S : Type 0} (w : Managed S) : Type 0 where
   pub chain : w.management.manager.chain ≡ w.world.chain.recorded
-  pub nobody_joins : w.management.manager.joining ≡ None
-  pub writing : (w.world.chain.writing ≡ None)
-      ⊎ ((w.world.chain.writing ≡ Some (managers.coming_record w.management.manager)) × (is_record (managers.next_of w.management.manager) ≡ true))
+  pub writing : (w.world.chain.writing ≡ None) ⊎ IsBeingWritten w
+
+-- This store joins: it is that of the disk on its way, which was counted; its incarnation is the next epoch; and the record that is being
+-- written, if one is, has it behind the recorded members.
+pub record IsNewcomer {S : Type 0} (about : S → About) (w : Managed S) (store : S) : Type 0 where
+  pub counted : w.candidate ≡ Counted
+  pub incarnation : (about store).incarnation ≡ suc w.world.chain.recorded.epoch
+  pub writing : (next : Record) → w.world.chain.writing ≡ Some next → IsWithOne about store w.world.chain next
+
+-- whoever joins is a newcomer
+abbrev pub JoinsAsNew : {S : Type 0} → (S → About) → Managed S → Type 0
+JoinsAsNew about w = ForSome w.world.joiner (IsNewcomer about w)
 
 -- Whatever changes, and wherever the device fails meanwhile: a stop leaves the recorded chain's record, or the one that is being written.
 -- Once a device call failed nothing more is written.
 pub record IsConfigured {S : Type 0} (w : Managed S) : Type 0 where
   pub part : w.management.config.pair.part ≡ config_part
   pub left : (bytes : List ℕ) → may_be_left w.management.disk bytes → HoldsOne w.world.chain (inside config_part bytes)
-  pub goes_on : (w.management.config.pair.broken ≡ true)
-      ⊎ ((w.management.config.current ≡ w.world.chain.recorded) × IsSettledConfig w.management.config (given_of w.management.disk) (may_be_left w.management.disk))
+  pub goes_on : ((w.management.config.pair.broken ≡ true) × (w.management.config.current ≡ w.world.chain.recorded))
+      ⊎ (MayStand w.world.chain w.management.config.current × IsSettledConfig w.management.config (given_of w.management.disk) (may_be_left w.management.disk))

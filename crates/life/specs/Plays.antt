@@ -1,6 +1,7 @@
 -- How an era is played: each deed does what it names, one after another, and then the chain goes on from one disk.
 use Rattle.std.specs.Prelude.{◌≡◌, ◌⊎◌, ℕ, true, Some, List, [], ◌∷◌, ◌++◌, length, slice_get}
 use Rattle.std.specs.List.{AllZip}
+use Rattle.std.specs.Option.{option_to_list}
 use Rattle.chain.specs.Chain.{Chained}
 use Rattle.configurations.specs.Record.{Record}
 use Rattle.disk_model.specs.Memory.{given_of, has_stopped}
@@ -47,12 +48,15 @@ IsCutAt about may_leave_now disk cut store left = IsCutFrom may_leave_now disk c
 abbrev pub IsCutOutside : Cut → SlotDisk MemDisk → SlotDisk MemDisk → Type 0
 IsCutOutside cut was left = IsCut cut was.disk left.disk × (left.slot ≡ was.slot)
 
--- Everything stopped, and each disk was cut so: these are the members', and behind them those outside.
+-- Everything stopped, and each disk was cut so: these are the members', behind them that of who joins, if somebody does, and then those
+-- outside.
 pub record AreCut {S : Type 0} (about : S → About) (may_leave_now : S → List ℕ → Type 0) (disk : S → MemDisk) (cut : Cut) (old : Managed S) (disks : List (SlotDisk MemDisk)) (config : MemDisk) : Type 0 where
   pub of_members : List (SlotDisk MemDisk)
+  pub of_joiner : List (SlotDisk MemDisk)
   pub outside : List (SlotDisk MemDisk)
-  pub are : disks ≡ of_members ++ outside
+  pub are : disks ≡ of_members ++ (of_joiner ++ outside)
   pub members_cut : AllZip (λ m left. IsCutAt about may_leave_now disk cut m.node.store left) old.world.chain.members of_members
+  pub joiner_cut : AllZip (IsCutAt about may_leave_now disk cut) (option_to_list old.world.joiner) of_joiner
   pub outside_cut : AllZip (IsCutOutside cut) old.outside outside
   pub config_is : IsCut cut old.management.disk config
 

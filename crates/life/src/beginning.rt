@@ -14,6 +14,7 @@ ghost use Rattle.volume.specs.Writes.{volume_of};
 
 use crate::managed::ManagedWorld;
 use crate::refusal::Refusal;
+use candidate::Candidate;
 use chain::Chain;
 use configurations::{ConfigStore, Epoch, Incarnation, Member, Record};
 use disk_model::{MemDisk, Part, Script};
@@ -70,6 +71,7 @@ pub fn begin(
     Ok(ManagedWorld {
         world,
         management: Management::new(alloc, chain, config, disk),
+        candidate: Candidate::Nobody,
         outside: Vec::new(alloc),
     })
 }
@@ -143,6 +145,7 @@ pub(crate) fn world_of<S: StoreLike + Drop>(
     ensures many { IfOk result (λ world. length world.chain.members ≡ length stores.items) }
     ensures recorded { IfOk result (λ world. world.chain.recorded ≡ record { epoch = epoch; members = map (recorded_in S.about) stores.items }) }
     ensures idle { IfOk result (λ world. world.chain.writing ≡ None) }
+    ensures nobody { IfOk result (λ world. world.joiner ≡ None) }
     ensures stores { IfOk result (λ world. stores_of world ≡ stores.items) }
     ensures disks { IfOk result (AreOnDisks S.about) }
     ensures begins { S.keeps_model → IfOk result (λ world. IfSome (slice_get stores.items 0) (λ first. (volume : List ℕ) → All (λ s. S.keeps s volume) stores.items

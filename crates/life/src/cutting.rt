@@ -1,6 +1,7 @@
 //! Everything stops.
-ghost use Rattle.std.specs.Prelude.{IfOk};
+ghost use Rattle.std.specs.Prelude.{◌≡◌, ◌++◌, IfOk, List, OnOk};
 ghost use Rattle.std.specs.List.{AllZip};
+ghost use Rattle.std.specs.Option.{option_to_list};
 ghost use Rattle.life.specs.Begun.{IsCut};
 ghost use Rattle.life.specs.Plays.{AreCut, IsCutAt, IsCutOutside};
 ghost use Rattle.life.specs.Recovered.{IsCutAnew};
@@ -13,14 +14,15 @@ use std::alloc::{AllocError, Global};
 /// The disks that a cut left.
 #[derive(Drop)]
 pub struct Disks {
-    /// Those of the slots: the members', in the order of their places, and then those outside.
+    /// Those of the slots: the members', in the order of their places, then that of who joins, if somebody does, and then those outside.
     pub slots: Vec<SlotDisk<MemDisk>>,
     /// The configuration's.
     pub config: MemDisk,
 }
 
-/// Everything stops: the members' disks, in the order of their places, those outside behind them, and the configuration's, each with the content
-/// that the cut leaves, which is one that a stop now may leave.
+/// Everything stops: the members' disks, in the order of their places, behind them that of who joins, if somebody does, those outside, and the
+/// configuration's, each with the content that the cut leaves, which is one that a stop now may leave. A disk on its way that isn't counted
+/// is dropped.
 ///
 /// Where memory runs out, the disks are dropped.
 pub fn cut(
@@ -33,10 +35,13 @@ pub fn cut(
     let ManagedWorld {
         world,
         management,
+        candidate,
         outside,
     } = managed;
-    let (stores, _joiner) = world.abandon()?;
+    drop(candidate);
+    let (stores, joiner) = world.abandon()?;
     let mut slots = cut_all(alloc, stores, cut)?;
+    cut_joiner(&mut slots, joiner, cut)?;
     let mut outside = cut_outside(outside, cut);
     slots.append(&mut outside)?;
     Ok(Disks {
@@ -58,6 +63,21 @@ fn cut_all(
         disks.push_reserved(cut_store(store, cut));
     }
     Ok(disks)
+}
+
+/// That of who joins, behind these.
+fn cut_joiner(
+    disks: &mut Vec<SlotDisk<MemDisk>>,
+    joiner: Option<Store<MemDisk>>,
+    cut: Cut,
+) -> Result<(), AllocError>
+    ensures { OnOk result ((left : List (SlotDisk MemDisk)) × (disks.new.items ≡ disks.old.items ++ left)
+        × AllZip (IsCutAt ⟦<Store<MemDisk> as StoreLike>⟧.about ⟦<Store<MemDisk> as StoreLike>⟧.may_leave_now (λ s. s.disk) cut) (option_to_list joiner) left) }
+{
+    if let Some(store) = joiner {
+        disks.push(cut_store(store, cut))?;
+    }
+    Ok(())
 }
 
 /// The disk of a store, cut.

@@ -7,6 +7,7 @@
 //! there after each cut.
 #![tactic(auto)]
 
+mod admitting;
 mod answer;
 mod beginning;
 mod choosing;

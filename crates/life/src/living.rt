@@ -9,10 +9,10 @@ ghost use Rattle.flush_barrier.specs.declared.session_id.SessionId.{SessionId};
 ghost use Rattle.disk_model.specs.declared.memory.MemDisk.{MemDisk};
 ghost use Rattle.std.specs.List.{AllZip};
 ghost use Rattle.life.specs.Begun.{AllGo, AreOnDisks};
-ghost use Rattle.life.specs.Does.{Does, DoesDeed, IsArmed, IsConfigArmed};
+ghost use Rattle.life.specs.Does.{Does, DoesDeed, DoesIt, IsArmed, IsConfigArmed};
 ghost use Rattle.life.specs.Headline.{BreaksOff, EndsAtReturn, EraLeads, IsOneLife};
-ghost use Rattle.life.specs.Lived.{AreOfOneVolume, IsFresh};
-ghost use Rattle.life.specs.Managed.{IsAtRest, NoImpostor};
+ghost use Rattle.life.specs.Lived.{AreOfOneVolume, IsFresh, IsOfOneVolumeIn, KeepsCopyIn};
+ghost use Rattle.life.specs.Managed.{AreDated, IsAtRest, NoImpostor};
 ghost use Rattle.life.specs.Played.{fed_by, fed_by_step, handed_by, handed_by_step};
 ghost use Rattle.life.specs.Plays.{DeedsLead, HasMetStop, MemberMetStop};
 ghost use Rattle.life.specs.Recovered.{GivesOnly, HasChain, IsAtItsEnd, IsChosen, IsNoChoice, IsNoReturn, IsStill, IsStranger, MayReturn, Recovers, RecoversFrom, StandsThere};
@@ -32,6 +32,7 @@ use crate::playing::play;
 use crate::recovering::{NotAlone, go_on_alone, with_outside};
 use crate::refusal::Refusal;
 use crate::step::Step;
+use candidate::Candidate;
 use chain_model::{
     chains_begin_again, each_disk_has_what_is_owed, lives_are_of_one_volume, refusals_have_pleas,
 };
@@ -92,10 +93,12 @@ fn live_era(
     requires go { AllGo (λ s. s.disk) managed }
     requires rests { IsAtRest managed }
     requires impostors { NoImpostor managed }
+    requires dated { AreDated ⟦<Store<MemDisk> as StoreLike>⟧.about managed }
     ensures disks { IfOk result (λ lived. AreOnDisks ⟦<Store<MemDisk> as StoreLike>⟧.about lived.1.world) }
     ensures go { IfOk result (λ lived. AllGo (λ s. s.disk) lived.1) }
     ensures rests { IfOk result (λ lived. IsAtRest lived.1) }
     ensures impostors { IfOk result (λ lived. NoImpostor lived.1) }
+    ensures dated { IfOk result (λ lived. AreDated ⟦<Store<MemDisk> as StoreLike>⟧.about lived.1) }
     ensures all { IfOk result (λ lived. length lived.0.items ≤ length era.now.deeds.items) }
     ensures lived { IfOk result (λ lived. (export : Export) (s : State) → IsFresh ⟦<Store<MemDisk> as StoreLike>⟧.about ⟦<Store<MemDisk> as StoreLike>⟧.keeps ⟦<Store<MemDisk> as StoreLike>⟧.may_leave_now export.size export managed.world s
         → (t : State) × EraLeads ⟦<Store<MemDisk> as StoreLike>⟧.keeps_model ⟦<Store<MemDisk> as StoreLike>⟧.about ⟦<Store<MemDisk> as StoreLike>⟧.keeps ⟦<Store<MemDisk> as StoreLike>⟧.is_pending ⟦<Store<MemDisk> as StoreLike>⟧.may_leave_now ⟦<Store<MemDisk> as StoreLike>⟧.moment ⟦<Store<MemDisk> as StoreLike>⟧.may_have_left_since ⟦<Store<MemDisk> as StoreLike>⟧.failures (λ s. s.disk)
@@ -132,7 +135,8 @@ fn play_all(
     managed: &mut ManagedWorld<Store<MemDisk>, MemDisk>,
     deeds: &[Deed],
 ) -> Result<Vec<Answer>, AllocError>
-    requires { HasMetStop (λ s. s.disk) managed.old → ⊥ }
+    requires go { HasMetStop (λ s. s.disk) managed.old → ⊥ }
+    requires nobody { managed.old.candidate ≡ Candidate.Nobody }
     ensures all { IfOk result (λ answers. length answers.items ≤ length deeds.now) }
     ensures plays { IfOk result (λ answers. DeedsLead ⟦<Store<MemDisk> as StoreLike>⟧.keeps_model ⟦<Store<MemDisk> as StoreLike>⟧.about ⟦<Store<MemDisk> as StoreLike>⟧.keeps ⟦<Store<MemDisk> as StoreLike>⟧.is_pending ⟦<Store<MemDisk> as StoreLike>⟧.may_leave_now ⟦<Store<MemDisk> as StoreLike>⟧.moment ⟦<Store<MemDisk> as StoreLike>⟧.may_have_left_since ⟦<Store<MemDisk> as StoreLike>⟧.failures (λ s. s.disk)
         deeds.now answers.items managed.old managed.new) }
@@ -174,7 +178,7 @@ fn member_met_stop(world: &World<Store<MemDisk>>) -> bool
     false
 }
 
-/// Does one deed.
+/// Does one deed; then what the member came to know, whose volume the disk on its way is given, is noted.
 fn play_deed(
     alloc: Global,
     managed: &mut ManagedWorld<Store<MemDisk>, MemDisk>,
@@ -183,8 +187,27 @@ fn play_deed(
     ensures does { DoesDeed ⟦<Store<MemDisk> as StoreLike>⟧.keeps_model ⟦<Store<MemDisk> as StoreLike>⟧.about ⟦<Store<MemDisk> as StoreLike>⟧.keeps ⟦<Store<MemDisk> as StoreLike>⟧.is_pending ⟦<Store<MemDisk> as StoreLike>⟧.may_leave_now ⟦<Store<MemDisk> as StoreLike>⟧.moment ⟦<Store<MemDisk> as StoreLike>⟧.may_have_left_since ⟦<Store<MemDisk> as StoreLike>⟧.failures (λ s. s.disk)
         deed.now result managed.old managed.new }
     ensures outside { managed.new.outside ≡ managed.old.outside }
-    ensures one_volume { IsOfOneVolume ⟦<Store<MemDisk> as StoreLike>⟧.about ⟦<Store<MemDisk> as StoreLike>⟧.keeps ⟦<Store<MemDisk> as StoreLike>⟧.may_leave_now
-        (fed_by deed.now result) (handed_by deed.now result) managed.old.world managed.new.world }
+    ensures one_volume { IsOfOneVolumeIn ⟦<Store<MemDisk> as StoreLike>⟧.about ⟦<Store<MemDisk> as StoreLike>⟧.keeps ⟦<Store<MemDisk> as StoreLike>⟧.may_leave_now
+        (fed_by deed.now result) (handed_by deed.now result) managed.old managed.new }
+    ensures copy { KeepsCopyIn ⟦<Store<MemDisk> as StoreLike>⟧.about ⟦<Store<MemDisk> as StoreLike>⟧.keeps ⟦<Store<MemDisk> as StoreLike>⟧.may_leave_now managed.old managed.new }
+{
+    let answer = do_deed(alloc, managed, deed);
+    managed.note();
+    answer
+}
+
+/// Does it.
+fn do_deed(
+    alloc: Global,
+    managed: &mut ManagedWorld<Store<MemDisk>, MemDisk>,
+    deed: &Deed,
+) -> Answer
+    ensures does { DoesIt ⟦<Store<MemDisk> as StoreLike>⟧.keeps_model ⟦<Store<MemDisk> as StoreLike>⟧.about ⟦<Store<MemDisk> as StoreLike>⟧.keeps ⟦<Store<MemDisk> as StoreLike>⟧.is_pending ⟦<Store<MemDisk> as StoreLike>⟧.may_leave_now ⟦<Store<MemDisk> as StoreLike>⟧.moment ⟦<Store<MemDisk> as StoreLike>⟧.may_have_left_since ⟦<Store<MemDisk> as StoreLike>⟧.failures (λ s. s.disk)
+        deed.now result managed.old managed.new }
+    ensures outside { managed.new.outside ≡ managed.old.outside }
+    ensures one_volume { IsOfOneVolumeIn ⟦<Store<MemDisk> as StoreLike>⟧.about ⟦<Store<MemDisk> as StoreLike>⟧.keeps ⟦<Store<MemDisk> as StoreLike>⟧.may_leave_now
+        (fed_by deed.now result) (handed_by deed.now result) managed.old managed.new }
+    ensures copy { KeepsCopyIn ⟦<Store<MemDisk> as StoreLike>⟧.about ⟦<Store<MemDisk> as StoreLike>⟧.keeps ⟦<Store<MemDisk> as StoreLike>⟧.may_leave_now managed.old managed.new }
 {
     match deed {
         Deed::Step(step) => take_step(alloc, managed, step),
@@ -202,6 +225,7 @@ fn take_step(
 ) -> Answer
     ensures does { Does ⟦<Store<MemDisk> as StoreLike>⟧.keeps_model ⟦<Store<MemDisk> as StoreLike>⟧.about ⟦<Store<MemDisk> as StoreLike>⟧.keeps ⟦<Store<MemDisk> as StoreLike>⟧.is_pending ⟦<Store<MemDisk> as StoreLike>⟧.may_leave_now ⟦<Store<MemDisk> as StoreLike>⟧.moment ⟦<Store<MemDisk> as StoreLike>⟧.may_have_left_since ⟦<Store<MemDisk> as StoreLike>⟧.failures step.now result managed.old.world managed.new.world }
     ensures management { managed.new.management ≡ managed.old.management }
+    ensures candidate { managed.new.candidate ≡ managed.old.candidate }
     ensures outside { managed.new.outside ≡ managed.old.outside }
     ensures one_volume { IsOfOneVolume ⟦<Store<MemDisk> as StoreLike>⟧.about ⟦<Store<MemDisk> as StoreLike>⟧.keeps ⟦<Store<MemDisk> as StoreLike>⟧.may_leave_now
         (fed_by_step step.now result) (handed_by_step step.now result) managed.old.world managed.new.world }
@@ -219,6 +243,7 @@ fn arm_member(
     ensures does { IsArmed ⟦<Store<MemDisk> as StoreLike>⟧.about ⟦<Store<MemDisk> as StoreLike>⟧.keeps ⟦<Store<MemDisk> as StoreLike>⟧.is_pending ⟦<Store<MemDisk> as StoreLike>⟧.may_leave_now ⟦<Store<MemDisk> as StoreLike>⟧.failures (λ s. s.disk)
         at event result managed.old.world managed.new.world }
     ensures management { managed.new.management ≡ managed.old.management }
+    ensures candidate { managed.new.candidate ≡ managed.old.candidate }
     ensures outside { managed.new.outside ≡ managed.old.outside }
     ensures one_volume { IsOfOneVolume ⟦<Store<MemDisk> as StoreLike>⟧.about ⟦<Store<MemDisk> as StoreLike>⟧.keeps ⟦<Store<MemDisk> as StoreLike>⟧.may_leave_now
         no_one no_one managed.old.world managed.new.world }

@@ -1,11 +1,19 @@
-ghost use Rattle.std.specs.Prelude.{◌+◌, ◌≤◌, All};
+ghost use Rattle.std.specs.Prelude.{◌≡◌, ◌+◌, ◌≤◌, All};
+ghost use Rattle.candidate.specs.Orders.{Notes};
+ghost use Rattle.chain.specs.Chain.{bytes_of};
 ghost use Rattle.chain.specs.Member.{HasOwnDisk};
+ghost use Rattle.chain_model.specs.Chain.{StandsFor};
+ghost use Rattle.chain_model.specs.View.{View};
 ghost use Rattle.clients.specs.Clients.{AreSessions};
-ghost use Rattle.world.specs.World.{IsJoined};
+ghost use Rattle.life.specs.Calls.{is_counted};
+ghost use Rattle.life.specs.Lived.{HasCopyIn};
+ghost use Rattle.world.specs.World.{IsJoined, Shows};
+ghost use Rattle.world_model.specs.Machine.{State};
 
-use disk_model::Disk;
+use candidate::Candidate;
+use disk_model::{Disk, MemDisk};
 use gate_journal::Slot;
-use local_store::StoreLike;
+use local_store::{Store, StoreLike};
 use std::marker::Model;
 use world::{Management, World};
 
@@ -24,6 +32,8 @@ pub struct ManagedWorld<S: StoreLike, D: Disk> {
     pub world: World<S>,
     /// Its manager, with the configuration's disk.
     pub management: Management<D>,
+    /// The disk on its way into the chain, if one is.
+    pub candidate: Candidate<S, D>,
     /// The disks outside the chain: of members that a recovery left out. Nothing is written to them.
     pub outside: Vec<SlotDisk<D>>,
 }
@@ -33,10 +43,17 @@ impl<S: StoreLike, D: Disk> Model for ManagedWorld<S, D> {
 
     ghost Value = { ManagedOver S D };
 
-    ghost view = { λ m. record { world = m.world; management = m.management; outside = m.outside.items } };
+    ghost view = { λ m. record { world = m.world; management = m.management; candidate = m.candidate; outside = m.outside.items } };
 }
 
 impl<S: StoreLike + Drop, D: Disk + Drop> ManagedWorld<S, D> {
+    /// Whether the disk on its way was counted.
+    pub(crate) fn is_counted(&self) -> bool
+        ensures { result ≡ is_counted self.now.candidate }
+    {
+        matches!(self.candidate, Candidate::Counted)
+    }
+
     /// Does nothing: its clauses are what holds of every world and its manager.
     pub(crate) fn sound(&self)
         ensures joined { IsJoined self.now.world }
@@ -46,5 +63,17 @@ impl<S: StoreLike + Drop, D: Disk + Drop> ManagedWorld<S, D> {
     {
         self.world.sound();
         self.management.sound();
+    }
+}
+
+impl ManagedWorld<Store<MemDisk>, MemDisk> {
+    /// What the member came to know, whose volume the disk on its way is given, is noted. It is to be noted behind each step of the world.
+    pub fn note(&mut self)
+        ensures noted { Notes self.old.world.chain self.old.candidate self.new.candidate }
+        ensures same { self.new ≡ record self.old { candidate = self.new.candidate } }
+        ensures copy { (v : View) (s : State) → Shows ⟦<Store<MemDisk> as StoreLike>⟧.about ⟦<Store<MemDisk> as StoreLike>⟧.keeps ⟦<Store<MemDisk> as StoreLike>⟧.may_leave_now self.old.world v → StandsFor (bytes_of self.old.world.chain) v s
+            → HasCopyIn ⟦<Store<MemDisk> as StoreLike>⟧.about ⟦<Store<MemDisk> as StoreLike>⟧.keeps (bytes_of self.old.world.chain) s self.old → HasCopyIn ⟦<Store<MemDisk> as StoreLike>⟧.about ⟦<Store<MemDisk> as StoreLike>⟧.keeps (bytes_of self.old.world.chain) s self.new }
+    {
+        self.candidate.note(&self.world);
     }
 }

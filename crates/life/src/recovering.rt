@@ -22,6 +22,7 @@ use crate::beginning::{config_part, member_of, world_of};
 use crate::choosing::choose_among;
 use crate::managed::{ManagedWorld, SlotDisk};
 use crate::refusal::Refusal;
+use candidate::Candidate;
 use chain_steps::incarnation_in;
 use configurations::{ConfigStore, Epoch, Record, numbers_are_one, records_are_one};
 use disk_model::{Disk, DiskError, MemDisk};
@@ -278,6 +279,7 @@ pub(crate) fn go_on_alone(
         Ok((world, chain)) => Ok(ManagedWorld {
             world,
             management: Management::new(alloc, chain, found, config),
+            candidate: Candidate::Nobody,
             outside: Vec::new(alloc),
         }),
         Err(_) => Err(NotAlone {
@@ -418,6 +420,7 @@ fn alone<S: StoreLike + Drop>(
     ensures recorded { IfOk result (λ r. r.0.chain.recorded ≡ record { epoch = epoch; members = recorded_in S.about store ∷ [] }) }
     ensures chain { IfOk result (λ r. r.1 ≡ r.0.chain.recorded) }
     ensures idle { IfOk result (λ r. r.0.chain.writing ≡ None) }
+    ensures nobody { IfOk result (λ r. r.0.joiner ≡ None) }
     ensures store { IfOk result (λ r. stores_of r.0 ≡ store ∷ []) }
     ensures disks { IfOk result (λ r. AreOnDisks S.about r.0) }
     ensures begins { S.keeps_model → IfOk result (λ r. (volume : List ℕ) → S.keeps store volume

@@ -60,7 +60,21 @@ pub enum Act {
 pub enum ManagerAct {
     /// It notes who has stopped, and begins the removal of the stopped member at a slot.
     Remove { slot: u64 },
-    /// The next record is being written, if that is the next order.
+    /// It notes who has stopped, and begins the joining of a disk at a slot.
+    Join { slot: u64 },
+    /// A new disk is attached, if that is the next order: it will be given the volume of the chain's tail.
+    Attach,
+    /// The disk is given the next block, if that is the next order; the order is carried out once each block was given.
+    Copy,
+    /// The tail holds the front, if that is the next order.
+    Hold,
+    /// The disk is given a block that was written since, if that is the next order; or, where none is due, the end.
+    Rest,
+    /// The disk is counted, if that is the next order, and it has the volume at the front that the tail holds.
+    CountIn,
+    /// The joining under way is abandoned: its disk is dropped.
+    Abandon,
+    /// The next record is being written, if that is the next order: with the disk that was counted, if one was.
     BeginRecord,
     /// What is being written goes to the configuration's disk, by six device calls, and is the recorded chain.
     EndRecord,

@@ -58,6 +58,7 @@ fn cut_requests(rt: HostRuntime) {
         let ManagedWorld {
             mut world,
             management: _,
+            candidate: _,
             outside: _,
         } = life::begin(alloc, geometry, 1).expect(&rt, "memory");
         let (before, last) = last_two(alloc, &mut world, &steps);

@@ -137,6 +137,7 @@ fn answers_of(
     let ManagedWorld {
         world,
         management: _,
+        candidate: _,
         outside: _,
     } = managed;
     let _stores = world.abandon();

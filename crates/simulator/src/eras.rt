@@ -61,6 +61,7 @@ impl Sim {
             let ManagedWorld {
                 world,
                 management: _,
+                candidate: _,
                 outside: _,
             } = old;
             let _stores = world.abandon();

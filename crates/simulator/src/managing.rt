@@ -32,6 +32,7 @@ impl Sim {
             return Ok(Outcome::Skipped);
         }
         let answer = life::manage(self.alloc, managed, act);
+        managed.note();
         let is_stopped = managed.management.disk().is_stopped();
         self.stopped = is_stopped;
         if let Some(kept) = &mut self.kept {
@@ -48,6 +49,17 @@ impl Sim {
     pub(crate) fn remove(&mut self, member: u64, printed: &mut Printed) -> Result<(), Refusal> {
         self.manage(ManagerAct::Remove { slot: member }, printed)?
             .show(printed)
+    }
+
+    /// It begins the joining of a new disk at a slot, or refuses it.
+    pub(crate) fn join(&mut self, slot: u64, printed: &mut Printed) -> Result<(), Refusal> {
+        self.manage(ManagerAct::Join { slot }, printed)?
+            .show(printed)
+    }
+
+    /// It abandons the joining under way, or refuses that.
+    pub(crate) fn abandon(&mut self, printed: &mut Printed) -> Result<(), Refusal> {
+        self.manage(ManagerAct::Abandon, printed)?.show(printed)
     }
 
     /// Carries out the manager's next order, or all of them, until one isn't done.
@@ -72,17 +84,52 @@ impl Sim {
         printed.add_order(order)?;
         match order {
             Order::Record => self.record(printed),
-            Order::CountOut(_) => Ok(self.manage(ManagerAct::CountOut, printed)?.is_taken()),
-            Order::Tell(_) => Ok(self.manage(ManagerAct::Tell, printed)?.is_taken()),
-            _ => Ok(false),
+            Order::CountOut(_) => self.carry(ManagerAct::CountOut, printed),
+            Order::Tell(_) => self.carry(ManagerAct::Tell, printed),
+            Order::Attach(_) => self.carry(ManagerAct::Attach, printed),
+            Order::Copy(_) => self.give_all(ManagerAct::Copy, order, printed),
+            Order::Hold(_) => self.carry(ManagerAct::Hold, printed),
+            Order::Rest(_) => self.give_all(ManagerAct::Rest, order, printed),
+            Order::CountIn(_) => self.carry(ManagerAct::CountIn, printed),
+            Order::Idle => Ok(false),
         }
+    }
+
+    /// An order is carried out by one act: whether that was done. A refusal is added.
+    fn carry(&mut self, act: ManagerAct, printed: &mut Printed) -> Result<bool, Refusal> {
+        let outcome = self.manage(act, printed)?;
+        outcome.show(printed)?;
+        Ok(outcome.is_taken())
+    }
+
+    /// One by which a disk is given something is carried out by as many as it takes.
+    fn give_all(
+        &mut self,
+        act: ManagerAct,
+        order: Order,
+        printed: &mut Printed,
+    ) -> Result<bool, Refusal> {
+        for _ in 0..u64::MAX {
+            if !self.carry(act, printed)? {
+                return Ok(false);
+            }
+            if !self.is_next(order) {
+                return Ok(true);
+            }
+        }
+        Ok(false)
+    }
+
+    /// Whether this is the manager's next order.
+    fn is_next(&self, order: Order) -> bool {
+        self.managed
+            .as_ref()
+            .is_some_and(|managed| managed.management.next() == order)
     }
 
     /// The next record is written, and is the recorded one: whether that was done. A refusal is added.
     fn record(&mut self, printed: &mut Printed) -> Result<bool, Refusal> {
         self.manage(ManagerAct::BeginRecord, printed)?;
-        let outcome = self.manage(ManagerAct::EndRecord, printed)?;
-        outcome.show(printed)?;
-        Ok(outcome.is_taken())
+        self.carry(ManagerAct::EndRecord, printed)
     }
 }

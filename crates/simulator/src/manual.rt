@@ -11,7 +11,7 @@ pub struct Usage {
 }
 
 /// All commands, a line for each form.
-pub const COMMANDS: [Usage; 39] = [
+pub const COMMANDS: [Usage; 41] = [
     Usage {
         words: "new M N P",
         does: "a chain of M members (1 to 8), N blocks (1 to 65,536), payloads of up to P bytes: the first command",
@@ -127,6 +127,14 @@ pub const COMMANDS: [Usage; 39] = [
     Usage {
         words: "remove M",
         does: "the manager begins the removal of stopped member M",
+    },
+    Usage {
+        words: "join M",
+        does: "the manager begins the joining of a new disk at slot M",
+    },
+    Usage {
+        words: "abandon",
+        does: "it abandons the joining under way",
     },
     Usage {
         words: "order",

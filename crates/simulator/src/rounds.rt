@@ -143,16 +143,18 @@ impl Sim {
         Ok(slots)
     }
 
-    /// The tail raises the front to its last applied write and takes it, unless it has done that in this epoch: whether it did.
+    /// The tail raises the front to its last applied write and takes it, unless it has done that in this epoch, or holds the front: whether it
+    /// did.
     fn raise_all(&mut self, at: usize, printed: &mut Printed) -> Result<bool, Refusal> {
         let is_behind = self
             .progress(at)
             .is_some_and(|member| member.is_tail && member.applied > 0)
             && self.last_raise(at) != self.next_raise(at);
-        if is_behind {
-            self.raise(at, printed)?;
+        if !is_behind {
+            return Ok(false);
         }
-        Ok(is_behind)
+        self.raise(at, printed)?;
+        Ok(self.last_raise(at) == self.next_raise(at))
     }
 
     /// Up to which write the tail at a place would raise the front.

@@ -52,6 +52,12 @@ pub enum ScriptCommand {
     Remove {
         member: u64,
     },
+    /// `join S`: it begins the joining of a new disk at a slot.
+    Join {
+        slot: u64,
+    },
+    /// `abandon`: it abandons the joining under way.
+    Abandon,
     /// `order`, `orders`: the manager's next order is carried out; or all of them.
     Order {
         all: bool,
@@ -174,6 +180,10 @@ fn command_of(alloc: Global, words: &[&str]) -> Result<ScriptCommand, LineError>
         ["remove", member] => Ok(ScriptCommand::Remove {
             member: number(member)?,
         }),
+        ["join", slot] => Ok(ScriptCommand::Join {
+            slot: number(slot)?,
+        }),
+        ["abandon"] => Ok(ScriptCommand::Abandon),
         ["order"] => Ok(ScriptCommand::Order { all: false }),
         ["orders"] => Ok(ScriptCommand::Order { all: true }),
         ["fail" | "stopat" | "cut" | "return", ..] => crash_command(alloc, words),

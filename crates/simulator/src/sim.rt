@@ -140,6 +140,7 @@ impl Sim {
             ManagedWorld {
                 world,
                 management: _,
+                candidate: _,
                 outside: _,
             },
         ) = managed
@@ -236,6 +237,8 @@ impl Sim {
             ScriptCommand::Pass { from, to } => self.pass(from, to, shown)?,
             ScriptCommand::Run => self.run(shown)?,
             ScriptCommand::Remove { member } => self.remove(member, shown)?,
+            ScriptCommand::Join { slot } => self.join(slot, shown)?,
+            ScriptCommand::Abandon => self.abandon(shown)?,
             ScriptCommand::Order { all } => self.carry_out(all, shown)?,
             ScriptCommand::Return { slots } => drop(slots),
             ScriptCommand::New { .. }

@@ -47,6 +47,7 @@ impl Sim {
             return Ok(Outcome::Skipped);
         }
         let answer = life::play(self.alloc, &mut managed.world, &step);
+        managed.note();
         self.note_step(&step, &answer)?;
         self.look_at_devices(printed)?;
         let is_stopped = self.stopped;

@@ -2,6 +2,7 @@
 use crate::playing::{Chain, Newcomer, connect, reply, run, same_at, send, slot};
 use candidate::{Candidate, Gave};
 use disk_model::{Cut, MemDisk, Script};
+use gate_journal::Slot;
 use home_blocks::disk_size;
 use life::{Disks, ManagedWorld};
 use local_store::StoreLike;
@@ -17,6 +18,7 @@ fn chain_of_two(rt: &impl Abort, alloc: Global) -> (Chain, Management<MemDisk>) 
     let ManagedWorld {
         mut world,
         management,
+        candidate: _,
         outside: _,
     } = life::begin(alloc, geometry, 2).expect(rt, "a chain");
     connect(rt, alloc, &mut world, 0);
@@ -96,6 +98,7 @@ fn cut_to_slot_two(
     let managed = ManagedWorld {
         world,
         management,
+        candidate: Candidate::Nobody,
         outside: Vec::new(alloc),
     };
     let Disks { slots, config } = life::cut(alloc, managed, Cut::None).expect(rt, "memory");
@@ -105,11 +108,66 @@ fn cut_to_slot_two(
     let ManagedWorld {
         world,
         management,
+        candidate: _,
         outside,
     } = managed;
     drop(management);
     drop(outside);
     world
+}
+
+/// So it does at this front, and the client reads the first byte of the volume.
+fn slot_two_reads(
+    rt: &impl Abort,
+    alloc: Global,
+    world: Chain,
+    management: Management<MemDisk>,
+    front: u64,
+    cookie: u8,
+    byte: u8,
+) {
+    let mut world = cut_to_slot_two(rt, alloc, world, management);
+    let mut nobody = Candidate::Nobody;
+    same_at(rt, world.front(), front, "front");
+    connect(rt, alloc, &mut world, 0);
+    send(rt, alloc, &mut world, cookie, 0, None);
+    same_at(
+        rt,
+        run(rt, alloc, &mut world, &mut nobody),
+        reply(rt, alloc, cookie, &[byte]),
+        "read",
+    );
+    let _ = world.abandon();
+}
+
+/// Behind an abandoned joining the same members are recorded, the slot is counted out, and both are told.
+fn record_without(rt: &impl Abort, world: &mut Chain, management: &mut Management<MemDisk>) {
+    same_at(rt, management.next(), Order::Record, "record");
+    same_at(rt, management.begin_record(world), Ok(true), "begin");
+    assert!(rt; matches!(management.end_record(world), Ok(true)));
+    same_at(
+        rt,
+        management.next(),
+        Order::CountOut(slot(rt, 2)),
+        "count out",
+    );
+    assert!(rt; management.count_out(world));
+    for number in 0..2 {
+        same_at(rt, management.next(), Order::Tell(slot(rt, number)), number);
+        assert!(rt; management.tell(world).is_some());
+    }
+}
+
+/// The slot and the incarnation of the recorded chain's last member.
+fn last_member(rt: &impl Abort, world: &Chain) -> (Slot, u64) {
+    let mut last = None;
+    for member in world.recorded().members() {
+        last = Some(*member);
+    }
+    let Some(last) = last else {
+        panic!(rt; "no member")
+    };
+    (last.slot, last.incarnation.number())
 }
 
 #[test]
@@ -143,17 +201,7 @@ fn a_disk_joins_while_writes_go_on(rt: HostRuntime) {
         reply(&rt, alloc, 2, &[]),
         "write 2",
     );
-    let mut world = cut_to_slot_two(&rt, alloc, world, management);
-    same_at(&rt, world.front(), 2, "front");
-    connect(&rt, alloc, &mut world, 0);
-    send(&rt, alloc, &mut world, 3, 0, None);
-    same_at(
-        &rt,
-        run(&rt, alloc, &mut world, &mut candidate),
-        reply(&rt, alloc, 3, &[0xaa]),
-        "read 3",
-    );
-    let _ = world.abandon();
+    slot_two_reads(&rt, alloc, world, management, 2, 3, 0xaa);
 }
 
 #[test]
@@ -172,18 +220,7 @@ fn blocks_that_are_due_are_given_as_they_were_written(rt: HostRuntime) {
     copy(&rt, &mut world, &mut management, &mut candidate);
     enter(&rt, alloc, &mut world, &mut management, &mut candidate, 1);
     record(&rt, &mut world, &mut management);
-    let mut world = cut_to_slot_two(&rt, alloc, world, management);
-    candidate = Candidate::Nobody;
-    same_at(&rt, world.front(), 1, "front");
-    connect(&rt, alloc, &mut world, 0);
-    send(&rt, alloc, &mut world, 2, 0, None);
-    same_at(
-        &rt,
-        run(&rt, alloc, &mut world, &mut candidate),
-        reply(&rt, alloc, 2, &[0xaa]),
-        "read 2",
-    );
-    let _ = world.abandon();
+    slot_two_reads(&rt, alloc, world, management, 1, 2, 0xaa);
 }
 
 #[test]
@@ -205,40 +242,15 @@ fn an_abandoned_joining_uses_its_incarnation_up(rt: HostRuntime) {
     );
     drop(store);
     candidate = Candidate::Nobody;
-    same_at(&rt, management.next(), Order::Record, "record");
-    same_at(&rt, management.begin_record(&mut world), Ok(true), "begin");
-    assert!(rt; matches!(management.end_record(&mut world), Ok(true)));
-    same_at(
-        &rt,
-        management.next(),
-        Order::CountOut(slot(&rt, 2)),
-        "count out",
-    );
-    assert!(rt; management.count_out(&mut world));
-    for number in 0..2 {
-        same_at(
-            &rt,
-            management.next(),
-            Order::Tell(slot(&rt, number)),
-            number,
-        );
-        assert!(rt; management.tell(&mut world).is_some());
-    }
+    record_without(&rt, &mut world, &mut management);
     let _ = run(&rt, alloc, &mut world, &mut candidate);
     attach(&rt, alloc, &world, &mut management, &mut candidate);
     copy(&rt, &mut world, &mut management, &mut candidate);
     enter(&rt, alloc, &mut world, &mut management, &mut candidate, 1);
     record(&rt, &mut world, &mut management);
-    let mut last = None;
-    for member in world.recorded().members() {
-        last = Some(*member);
-    }
-    let Some(last) = last else {
-        panic!(rt; "no member")
-    };
     same_at(
         &rt,
-        (last.slot, last.incarnation.number()),
+        last_member(&rt, &world),
         (slot(&rt, 2), 3),
         "the second disk",
     );

@@ -1,4 +1,6 @@
-use Rattle.std.proofs.Common.{subst}
+use Rattle.std.proofs.Common.{◌++◌, ap, subst, ◌∙◌}
+use Rattle.std.specs.Option.{option_to_list}
+use Rattle.std.proofs.lemmas.List.{append_assoc}
 use Rattle.std.specs.List.{AllZip}
 use Rattle.disk_model.specs.declared.memory.MemDisk.{MemDisk}
 use Rattle.life.specs.Begun.{IsCut}
@@ -11,8 +13,10 @@ use Rattle.life.proofs.cutting.cut.Goals as goal
 pub returns : goal.returns
 returns c = subst (λ (w : Managed IsStore). AreCut about_of_store leaves_now disk_in c.args.cut w c.append.new.self.items c.cut_one.result) c.managed.view_is (record {
   of_members = c.in_ok-slots.slots.items;
+  of_joiner = c.in_ok-cut_joiner.ensures.0;
   outside = c.cut_outside-outside.result.items;
-  are = c.in_ok-append.ensures.items;
+  are = c.in_ok-append.ensures.items ∙ ap (λ l. l ++ c.cut_outside-outside.result.items) c.in_ok-cut_joiner.ensures.1 ∙ append_assoc c.in_ok-slots.slots.items c.in_ok-cut_joiner.ensures.0 c.cut_outside-outside.result.items;
+  joiner_cut = subst (λ o. AllZip (IsCutAt about_of_store leaves_now disk_in c.args.cut) (option_to_list o) c.in_ok-cut_joiner.ensures.0) c.in_ok-stores.ensures.joiner c.in_ok-cut_joiner.ensures.2;
   members_cut = zip_mapped (IsCutAt about_of_store leaves_now disk_in c.args.cut) (λ m. m.node.store) c.managed.inside.world.chain.members c.in_ok-slots.slots.items
       (subst (λ l. AllZip (IsCutAt about_of_store leaves_now disk_in c.args.cut) l c.in_ok-slots.slots.items) c.in_ok-stores.ensures.members c.in_ok-slots.ensures);
   outside_cut = c.cut_outside-outside.ensures;

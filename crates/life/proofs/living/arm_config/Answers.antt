@@ -15,8 +15,8 @@ returns-clause-does c =
     let did = c.arm.ensures in (
       c.arm.result,
       told,
-      subst (λ (m : Managed IsStore). ArmsConfig c.args.event c.arm.result m (record { world = c.managed.inside.world; management = c.arm.new.self; outside = c.managed.inside.outside.items })) c.managed.view_is
-          (record { ok = did.ok; err = did.err; stays = did.stays; leaves = did.leaves; manager = did.manager; config = did.config; world = refl }),
+      subst (λ (m : Managed IsStore). ArmsConfig c.args.event c.arm.result m (record { world = c.managed.inside.world; management = c.arm.new.self; candidate = c.managed.inside.candidate; outside = c.managed.inside.outside.items })) c.managed.view_is
+          (record { candidate = refl; ok = did.ok; err = did.err; stays = did.stays; leaves = did.leaves; manager = did.manager; config = did.config; world = refl }),
     )
 
 pub returns-clause-one_volume : goal.returns-clause-one_volume

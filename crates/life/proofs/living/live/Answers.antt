@@ -10,7 +10,7 @@ use Rattle.life.specs.declared.era.Answers.{Answers}
 use Rattle.life.specs.declared.era.Era.{Era}
 use Rattle.life.proofs.Beside.{all_more}
 use Rattle.life.proofs.Eras.{eras_more, first_fresh, one_life}
-use Rattle.life.proofs.Impostors.{none_outside}
+use Rattle.life.proofs.Impostors.{first_dated, none_outside}
 use Rattle.life.proofs.Returning.{breaks_off, passed_on}
 use Rattle.life.proofs.Starting.{ErasOnDisks, about_of_store, disk_in, failures_in, keeps_volume, leaves_now, left_in, moment_in, pends_in}
 use Rattle.life.proofs.living.live.Goals as goal
@@ -25,6 +25,7 @@ loop-era-init c = record {
   go = c.in_ok-managed.ensures.go;
   rests = c.in_ok-managed.ensures.rests;
   impostors = none_outside c.in_ok-managed.managed c.in_ok-managed.ensures.outside;
+  dated = first_dated c.in_ok-managed.managed c.args.geometry c.args.members c.in_ok-managed.ensures.slots c.in_ok-managed.ensures.recorded c.in_ok-managed.ensures.outside;
   recorded = c.in_ok-managed.ensures.recorded;
   rested = c.in_ok-managed.ensures.rests;
   nobody = c.in_ok-managed.ensures.outside;
@@ -60,6 +61,7 @@ loop-era-preserved c =
       go = c.in_ok-told.ensures.go;
       rests = c.in_ok-told.ensures.rests;
       impostors = c.in_ok-told.ensures.impostors;
+      dated = c.in_ok-told.ensures.dated;
       recorded = inv.recorded;
       rested = inv.rested;
       nobody = inv.nobody;

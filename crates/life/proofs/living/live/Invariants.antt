@@ -5,7 +5,7 @@ use Rattle.world_model.specs.Machine.{State, start}
 use Rattle.life.specs.Begun.{AllGo, AreOnDisks, BeginsWith, export_of, first_about, stores_of}
 use Rattle.life.specs.Headline.{first_record}
 use Rattle.life.specs.Lived.{IsFresh}
-use Rattle.life.specs.Managed.{IsAtRest, Managed, NoImpostor}
+use Rattle.life.specs.Managed.{AreDated, IsAtRest, Managed, NoImpostor}
 use Rattle.life.specs.declared.era.Answers.{Answers}
 use Rattle.life.specs.declared.era.Era.{Era}
 use Rattle.life.proofs.Starting.{ErasOnDisks, IsStore, about_of_store, disk_in, keeps_volume, leaves_now}
@@ -17,6 +17,7 @@ invariant-loop-era l = record {
   go : AllGo disk_in l.managed;
   rests : IsAtRest l.managed;
   impostors : NoImpostor l.managed;
+  dated : AreDated about_of_store l.managed;
   first : Managed IsStore;
   slots : map about_of_store (stores_of first.world) ≡ map (first_about l.fn.geometry) (range_with_len 0 l.fn.members);
   begins : BeginsWith about_of_store keeps_volume leaves_now l.fn.geometry 0 (volume_of (4096 * l.fn.geometry.blocks) []) first.world;

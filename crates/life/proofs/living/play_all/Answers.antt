@@ -6,7 +6,7 @@ use Rattle.life.specs.Lived.{AreOfOneVolume}
 use Rattle.life.specs.Played.{handed_by}
 use Rattle.life.specs.declared.answer.Answer.{Answer}
 use Rattle.life.specs.declared.era.Deed.{Deed}
-use Rattle.life.proofs.Lives.{none_turn, turn_more, turn_to_stop, zip_less, zip_more}
+use Rattle.life.proofs.Lives.{GoOnCopied, are_of_one_volume, none_turn, turn_more, turn_to_stop, zip_less, zip_more}
 use Rattle.life.proofs.Leading.{leads_more, leads_to_stop}
 use Rattle.life.proofs.Stops.{unfed}
 use Rattle.life.specs.Plays.{HasMetStop}
@@ -17,9 +17,9 @@ use Rattle.life.proofs.living.play_all.Goals as goal
 pub loop-deed-init : goal.loop-deed-init
 loop-deed-init c = record {
   plays = subst (λ (l : List Answer). LeadOnDisks [] l c.args.managed.now c.args.managed.now) (sym c.in_ok-answers.ensures.items) refl;
-  pass = subst (λ (l : List Answer). AreOfOneVolume about_of_store keeps_volume leaves_now (zip [] l) no_one c.args.managed.now.world c.args.managed.now.world) (sym c.in_ok-answers.ensures.items)
-      (none_turn about_of_store keeps_volume leaves_now c.args.managed.now.world c.sound.ensures.sessions);
-  runs = c.requires;
+  pass = subst (λ (l : List Answer). GoOnCopied about_of_store keeps_volume leaves_now (zip [] l) c.args.managed.now c.args.managed.now) (sym c.in_ok-answers.ensures.items)
+      (none_turn about_of_store keeps_volume leaves_now c.args.managed.now c.sound.ensures.sessions c.requires.nobody);
+  runs = c.requires.go;
   outside = refl;
   many = ap length c.in_ok-answers.ensures.items;
   count = c.in_ok-answers.ensures.len;
@@ -47,9 +47,9 @@ loop-deed-preserved c =
       plays = subst (λ (l : List Deed). LeadOnDisks l c.push_reserved.new.self.items c.args.managed.now c.play_deed-answer.new.managed) (sym here)
           (subst (λ (l : List Answer). LeadOnDisks (take i deeds ++ deed ∷ []) l c.args.managed.now c.play_deed-answer.new.managed) (sym items)
           (leads_more (Unit {0}) about_of_store keeps_volume pends_in leaves_now moment_in left_in failures_in disk_in (take i deeds) answers c.args.managed.now c.loop-deed.managed c.play_deed-answer.new.managed deed answer long inv.plays c.play_deed-answer.ensures.does runs));
-      pass = subst (λ (l : Trace). AreOfOneVolume about_of_store keeps_volume leaves_now l no_one c.args.managed.now.world c.play_deed-answer.new.managed.world) (sym told)
-          (turn_more about_of_store keeps_volume leaves_now c.lives_are_of_one_volume.ensures.happenings c.args.managed.now.world c.loop-deed.managed.world c.play_deed-answer.new.managed.world c.sound.ensures.joined c.sound-in-loop-deed.ensures.joined
-          (zip (take i deeds) answers) deed answer c.sound-in-loop-deed-2.ensures.sessions inv.pass c.play_deed-answer.ensures.one_volume);
+      pass = subst (λ (l : Trace). GoOnCopied about_of_store keeps_volume leaves_now l c.args.managed.now c.play_deed-answer.new.managed) (sym told)
+          (turn_more about_of_store keeps_volume leaves_now c.lives_are_of_one_volume.ensures.happenings c.args.managed.now c.loop-deed.managed c.play_deed-answer.new.managed c.sound.ensures.joined c.sound-in-loop-deed.ensures.joined
+          (zip (take i deeds) answers) deed answer c.sound-in-loop-deed-2.ensures.sessions inv.pass c.play_deed-answer.ensures.one_volume c.play_deed-answer.ensures.copy);
       runs = runs;
       outside = c.play_deed-answer.ensures.outside ∙ inv.outside;
       many = let sum = length-append answers (answer ∷ []) in omega (arith, inv.many, ap length items, sum);
@@ -93,7 +93,7 @@ returns-then-has_met_stop-clause-pass c =
     let met : HasMetStop disk_in c.play_deed-answer.new.managed = c.has_met_stop.ensures.0 c.if-has_met_stop.true in (
       handed_by deed answer,
       subst (λ (l : Trace). AreOfOneVolume about_of_store keeps_volume leaves_now l (handed_by deed answer) c.args.managed.now.world c.play_deed-answer.new.managed.world) (sym told)
-          (turn_to_stop about_of_store keeps_volume leaves_now c.lives_are_of_one_volume.ensures.happenings c.args.managed.now.world c.loop-deed.managed.world c.play_deed-answer.new.managed.world c.sound.ensures.joined c.sound-in-loop-deed.ensures.joined
+          (turn_to_stop about_of_store keeps_volume leaves_now c.lives_are_of_one_volume.ensures.happenings c.args.managed.now c.loop-deed.managed c.play_deed-answer.new.managed c.sound.ensures.joined c.sound-in-loop-deed.ensures.joined
           (zip (take i deeds) answers) deed answer
           (unfed (Unit {0}) about_of_store keeps_volume pends_in leaves_now moment_in left_in failures_in disk_in deed answer c.loop-deed.managed c.play_deed-answer.new.managed c.play_deed-answer.ensures.does inv.runs met)
           inv.pass c.play_deed-answer.ensures.one_volume),
@@ -109,6 +109,7 @@ returns-clause-plays c = subst (λ (l : List Deed). LeadOnDisks l c.loop-deed.an
 pub returns-clause-pass : goal.returns-clause-pass
 returns-clause-pass c = (
   no_one,
-  subst (λ (l : List Deed). AreOfOneVolume about_of_store keeps_volume leaves_now (zip l c.loop-deed.answers.items) no_one c.args.managed.now.world c.loop-deed.managed.world)
-      (take_all c.loop-deed.deed-index c.args.deeds.now c.loop-deed-test.false) c.loop-deed.invariant.pass,
+  are_of_one_volume about_of_store keeps_volume leaves_now (zip c.args.deeds.now c.loop-deed.answers.items) c.args.managed.now c.loop-deed.managed
+      (subst (λ (l : List Deed). GoOnCopied about_of_store keeps_volume leaves_now (zip l c.loop-deed.answers.items) c.args.managed.now c.loop-deed.managed)
+      (take_all c.loop-deed.deed-index c.args.deeds.now c.loop-deed-test.false) c.loop-deed.invariant.pass),
 )

@@ -1,15 +1,14 @@
 use Rattle.std.proofs.Common.{◌≡◌, ◌≤◌, length, take, vec_len, vec_capacity}
 use Rattle.std.specs.Prelude.{zip}
-use Rattle.clients.specs.Clients.{no_one}
-use Rattle.life.specs.Lived.{AreOfOneVolume}
 use Rattle.life.specs.Plays.{HasMetStop}
+use Rattle.life.proofs.Lives.{GoOnCopied}
 use Rattle.life.proofs.Starting.{LeadOnDisks, about_of_store, disk_in, keeps_volume, leaves_now}
 use Rattle.life.proofs.living.play_all.Given as goal
 
 abbrev pub invariant-loop-deed : goal.invariant-loop-deed
 invariant-loop-deed l = record {
   plays : LeadOnDisks (take l.deed-index l.fn.deeds) l.answers.items l.fn.managed l.managed;
-  pass : AreOfOneVolume about_of_store keeps_volume leaves_now (zip (take l.deed-index l.fn.deeds) l.answers.items) no_one l.fn.managed.world l.managed.world;
+  pass : GoOnCopied about_of_store keeps_volume leaves_now (zip (take l.deed-index l.fn.deeds) l.answers.items) l.fn.managed l.managed;
   runs : HasMetStop disk_in l.managed → ⊥;
   outside : l.managed.outside ≡ l.fn.managed.outside;
   many : length l.answers.items ≡ l.deed-index;

@@ -1,13 +1,32 @@
+use Rattle.std.proofs.Common.{◌*◌, ap, subst, sym, ◌∙◌}
+use Rattle.candidate.specs.Orders.{Notes}
+use Rattle.chain.specs.Chain.{Chained}
+use Rattle.life.specs.Played.{fed_by, handed_by}
+use Rattle.life.proofs.Copied.{noted_keeps, one_volume_noted}
+use Rattle.life.proofs.Deeds.{does_sizes}
+use Rattle.life.proofs.Starting.{IsStore, about_of_store, disk_in, failures_in, keeps_volume, leaves_now, left_in, moment_in, pends_in}
+use Rattle.volume.specs.declared.geometry.Geometry.{Geometry}
 use Rattle.life.proofs.living.play_deed.Goals as goal
 
-pub returns-in-Step : goal.returns-in-Step
-returns-in-Step c = record { does = rw c.in-Step.is (c.take_step.ensures.does, c.take_step.ensures.management); outside = c.take_step.ensures.outside; one_volume = rw c.in-Step.is c.take_step.ensures.one_volume }
+pub returns-clause-does : goal.returns-clause-does
+returns-clause-does c = record {
+  unnoted = c.do_deed-answer.new.managed;
+  did = c.do_deed-answer.ensures.does;
+  noted = subst (λ (chain : Chained IsStore). Notes chain c.do_deed-answer.new.managed.candidate c.note.new.self.candidate) (sym (ap (λ w. w.world.chain) c.note.ensures.same)) c.note.ensures.noted;
+  same = c.note.ensures.same;
+  outside = ap (λ w. w.outside) c.note.ensures.same ∙ c.do_deed-answer.ensures.outside;
+}
 
-pub returns-in-Manage : goal.returns-in-Manage
-returns-in-Manage c = record { does = rw c.in-Manage.is c.manage.ensures.does; outside = c.manage.ensures.outside; one_volume = rw c.in-Manage.is (c.manage.ensures.one_volume tt) }
+pub returns-clause-outside : goal.returns-clause-outside
+returns-clause-outside c = ap (λ w. w.outside) c.note.ensures.same ∙ c.do_deed-answer.ensures.outside
 
-pub returns-in-Arm : goal.returns-in-Arm
-returns-in-Arm c = record { does = rw c.in-Arm.is (c.arm_member.ensures.does, c.arm_member.ensures.management); outside = c.arm_member.ensures.outside; one_volume = rw c.in-Arm.is c.arm_member.ensures.one_volume }
+pub returns-clause-one_volume : goal.returns-clause-one_volume
+returns-clause-one_volume c =
+    one_volume_noted about_of_store keeps_volume leaves_now (fed_by c.args.deed.now c.do_deed-answer.result) (handed_by c.args.deed.now c.do_deed-answer.result) c.args.managed.now c.do_deed-answer.new.managed c.note.new.self
+    (ap (λ w. w.world) c.note.ensures.same) c.do_deed-answer.ensures.one_volume
 
-pub returns-in-ArmConfig : goal.returns-in-ArmConfig
-returns-in-ArmConfig c = record { does = rw c.in-ArmConfig.is c.arm_config.ensures.does; outside = c.arm_config.ensures.outside; one_volume = rw c.in-ArmConfig.is c.arm_config.ensures.one_volume }
+pub returns-clause-copy : goal.returns-clause-copy
+returns-clause-copy c =
+    noted_keeps about_of_store keeps_volume leaves_now c.args.managed.now c.do_deed-answer.new.managed c.note.new.self (ap (λ w. w.world) c.note.ensures.same)
+    (ap (λ (g : Geometry). 4096 * g.blocks) (does_sizes about_of_store (Unit {0}) keeps_volume pends_in leaves_now moment_in left_in failures_in disk_in c.args.deed.now c.do_deed-answer.result c.args.managed.now c.do_deed-answer.new.managed c.do_deed-answer.ensures.does))
+    c.do_deed-answer.ensures.copy c.note.ensures.copy

@@ -1,0 +1,61 @@
+use Rattle.std.proofs.Common.{◌≡◌, true, false, ap, refl, subst}
+use Rattle.std.specs.Prelude.{Err, Ok, Result}
+use Rattle.manager.specs.declared.refusal.Refusal as manager
+use Rattle.manager.specs.declared.refusal.Refusal.TheVariants as managers
+use Rattle.clients.specs.Clients.{no_one}
+use Rattle.life.specs.Calls.{Abandons}
+use Rattle.life.specs.Managed.{Managed}
+use Rattle.life.specs.Played.{handed_of}
+use Rattle.life.specs.declared.answer.Answer.TheVariants.{Refused}
+use Rattle.life.proofs.Answering.{done_so, silent_none}
+use Rattle.life.proofs.Copied.{apart_anyhow, apart_same, gone}
+use Rattle.life.proofs.Starting.{IsStore, about_of_store, keeps_volume, leaves_now}
+use Rattle.life.proofs.admitting.abandon.Goals as goal
+
+-- the same refusal, of another call
+err_as : {T U : Type 0} (e f : manager.Refusal) → ◌≡◌ {A = Result T manager.Refusal} (Err e) (Err f) → ◌≡◌ {A = Result U manager.Refusal} (Err e) (Err f)
+err_as e f is = let same : e ≡ f = cc is in ap Err same
+
+pub returns-in-Ok-clause-does : goal.returns-in-Ok-clause-does
+returns-in-Ok-clause-does c = (
+  Ok tt,
+  c.silent.ensures,
+  subst (λ (m : Managed IsStore). Abandons (Ok tt) m (record { world = c.abandon_join.new.world; management = c.abandon_join.new.self; candidate = c.replace.new.dest; outside = c.managed.inside.outside.items })) c.managed.view_is (record {
+    done = c.in-Ok.ensures.done;
+    nobody = c.replace.ensures.after;
+    given_up = (c.in-Ok.store, c.in-Ok.ensures.given_up);
+    ok = λ is. c.in-Ok.ensures.ok refl;
+    refused = tt;
+    memory = λ is. let clash : ◌≡◌ {A = Result (Unit {0}) manager.Refusal} (Ok tt) (Err managers.Memory) = is in absurd (cc);
+    unchanged = tt;
+  }),
+)
+
+pub returns-in-Ok-clause-one_volume : goal.returns-in-Ok-clause-one_volume
+returns-in-Ok-clause-one_volume c =
+    apart_anyhow about_of_store keeps_volume leaves_now no_one (handed_of c.silent.result) _ _ _ c.managed.view_is
+    (done_so about_of_store keeps_volume leaves_now c.managed.inside.world c.abandon_join.new.world no_one c.silent.result (silent_none _ c.silent.ensures) (c.abandon_join.ensures.one_volume tt))
+
+pub returns-in-Ok-clause-copy : goal.returns-in-Ok-clause-copy
+returns-in-Ok-clause-copy c = gone about_of_store keeps_volume leaves_now c.args.managed.now _ _ c.replace.ensures.after
+
+pub returns-in-Err-clause-does : goal.returns-in-Err-clause-does
+returns-in-Err-clause-does c = (
+  Err c.in-Err.refusal,
+  ap Refused c.number.ensures,
+  subst (λ (m : Managed IsStore). Abandons (Err c.in-Err.refusal) m (record { world = c.abandon_join.new.world; management = c.abandon_join.new.self; candidate = c.managed.inside.candidate; outside = c.managed.inside.outside.items })) c.managed.view_is (record {
+    done = tt;
+    nobody = tt;
+    given_up = tt;
+    ok = λ is. let clash : false ≡ true = is in absurd (cc);
+    refused = c.in-Err.ensures.refused;
+    memory = λ is. c.in-Err.ensures.memory (err_as c.in-Err.refusal managers.Memory is);
+    unchanged = ((c.in-Err.ensures.unchanged.1, c.in-Err.ensures.unchanged.0), refl);
+  }),
+)
+
+pub returns-in-Err-clause-one_volume : goal.returns-in-Err-clause-one_volume
+returns-in-Err-clause-one_volume c = apart_anyhow about_of_store keeps_volume leaves_now no_one no_one _ _ _ c.managed.view_is (c.abandon_join.ensures.one_volume tt)
+
+pub returns-in-Err-clause-copy : goal.returns-in-Err-clause-copy
+returns-in-Err-clause-copy c = apart_same about_of_store keeps_volume leaves_now _ _ _ c.managed.view_is
