@@ -18,9 +18,10 @@ fn chain_of_two(rt: &impl Abort, alloc: Global) -> (Chain, Management<MemDisk>) 
     let ManagedWorld {
         mut world,
         management,
-        candidate: _,
+        candidate,
         outside: _,
     } = life::begin(alloc, geometry, 2).expect(rt, "a chain");
+    drop(candidate);
     connect(rt, alloc, &mut world, 0);
     (world, management)
 }
@@ -108,10 +109,11 @@ fn cut_to_slot_two(
     let ManagedWorld {
         world,
         management,
-        candidate: _,
+        candidate,
         outside,
     } = managed;
     drop(management);
+    drop(candidate);
     drop(outside);
     world
 }
