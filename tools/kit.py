@@ -8,10 +8,12 @@ crate's `out/`, so that mutants and tests are checked over what this very run ha
 import contextlib
 import importlib.machinery
 import importlib.util
+import inspect
 import io
 import os
 import re
 import shutil
+import subprocess
 import sys
 import tempfile
 
@@ -42,8 +44,43 @@ rtlib = rt.rtlib
 rtlib.VERDICT = re.compile(rtlib.VERDICT.pattern.replace(r"\n\Z", r"( incremental=trusted)?\n\Z"), re.M)
 KEPT = rtlib.KEPT
 ONE_JOB = ["--jobs", "1"]
+# What a kit's `must_fail` answers where the edit is refused: rattle-kit-13b has True.
+REFUSED = getattr(rt, "REFUSED", True)
+# Whether the kit's own reading of the crates moves each out/ aside, as that of rattle-kit-13b does.
+MOVES_OUT = "aside" in inspect.signature(rt.crates_of).parameters
+# The words of the kit's own gate that takes over nothing.
+FROM_NOTHING = ["ci"] if MOVES_OUT else ["ci", "--anew"]
 # How often the kit may meet a file that isn't there any more.
 TRIES = 20
+# The stamps of the crates, by their folders. The kit goes down each path that leads to a crate, of which there are thousands.
+STAMPS = {}
+
+
+def once(stamp):
+    """A crate's stamp, which is made of its files' bytes and of the stamps below it, made once."""
+
+    def found(crate):
+        if crate.folder not in STAMPS:
+            STAMPS[crate.folder] = stamp(crate)
+        return STAMPS[crate.folder]
+
+    return found
+
+
+rtlib.Crate.stamp = once(rtlib.Crate.stamp)
+
+
+def crates_of(root):
+    """The kit's reading of the crates, which leaves each out/ where it is. What a kit that moves them refuses beside is in `stray_fault`."""
+    if not MOVES_OUT:
+        return rt.crates_of(root)
+    rtlib.Crate = rt.Crate
+    found = rtlib.crates_below(root)
+    names = [it.name for it in found]
+    for it in found:
+        if os.path.dirname(it.folder) != f"{root}/crates" or names.count(it.name) > 1 or it.name in rt.TAKEN:
+            rtlib.stop(f"{it.folder}: a crate is a folder crates/NAME, of a name of its own")
+    return sorted(found, key=lambda it: len(it.below()))
 
 
 def crates(root=ROOT):
@@ -55,12 +92,12 @@ def crates(root=ROOT):
     rt.Crate.cuts_libraries = False
     for _ in range(TRIES):
         found = []
-        why = refusal_of(lambda: found.extend(rt.crates_of(root)))
+        why = refusal_of(lambda: found.extend(crates_of(root)))
         if why is None:
             return found
         if not is_of_the_past(why, root):
             break
-    return rt.crates_of(root)
+    return crates_of(root)
 
 
 def is_of_the_past(why, root):
@@ -79,42 +116,78 @@ def named(name, root=ROOT):
 
 
 def prove(crate, jobs):
-    """Proves a library or a program over what stands in its out/, and builds it, a program by LLVM; 0 where all is well."""
+    """Proves a library or a program over what stands in its out/, and builds a library; 0 where all is well."""
     words = [*crate.words(["--jobs", str(jobs)], keeps=False), *KEPT]
     if crate.is_program:
-        return build(crate, words, "llvm", f"out/{crate.name}")
+        return crate.prove(["check", *words])
     # The stamp has other commands take the library as built.
     stamp, kept = crate.stamp(), f"{crate.folder}/out/rlib/stamp"
     shutil.rmtree(os.path.dirname(kept), ignore_errors=True)
     os.makedirs(os.path.dirname(kept))
     status = crate.prove(["build", *words, "-o", crate.rlib])
+    STAMPS.clear()
     if status == 0 and stamp == crate.stamp():
         with open(kept, "w", encoding="utf-8") as it:
             it.write(stamp)
     return status
 
 
+def link_or_copy(file, to):
+    """A second name of a file, or a copy where that lies on another file system."""
+    try:
+        os.link(file, to)
+    except OSError:
+        shutil.copy2(file, to)
+
+
 @contextlib.contextmanager
 def copy_of_kept(crate):
     """The folder of a copy of what the crate's own proof kept, which no other command changes."""
     with tempfile.TemporaryDirectory(prefix=f"rt-edit-{os.getpid()}-") as room:
-        rt.linked(f"{crate.folder}/{KEPT[1]}", f"{room}/kept")
+        # A link a file: rattle writes each under another name, and renames it then.
+        shutil.copytree(f"{crate.folder}/{KEPT[1]}", f"{room}/kept", copy_function=link_or_copy)
         yield f"{room}/kept"
 
 
-def build_again(crate):
-    """Builds a proved program by Rattle's own compiler, over what its proof kept. Its first build was judged; this one says more behind it."""
-    to = f"out/{crate.name}{rt.BACKENDS['rattle']}"
+def checked(crate, texts, kept):
+    """Checks a copy of the crate with these texts in place of its own, over what `kept` has. It is a build, since a check goes on to write
+    down how each proof that failed could begin."""
+    with tempfile.TemporaryDirectory(prefix="rt-edit-") as room:
+        for part in rtlib.PARTS:
+            if os.path.isdir(f"{crate.folder}/{part}"):
+                shutil.copytree(f"{crate.folder}/{part}", f"{room}/{part}")
+        for path, text in texts.items():
+            with open(f"{room}/{path}", "w", encoding="utf-8") as it:
+                it.write(text)
+        words = [rtlib.RATTLE, "build", *crate.words(ONE_JOB, keeps=False), KEPT[0], kept, "-o", f"{room}/built"]
+        if crate.is_program:
+            words += ["--toolchain", f"{rtlib.KIT}/toolchain", "--backend", "rattle"]
+        how = {"cwd": room, "stdin": subprocess.DEVNULL, "stdout": subprocess.PIPE, "stderr": subprocess.STDOUT, "errors": "replace"}
+        return subprocess.run([*rtlib.guarded(), *words], **how)
+
+
+def prove_and_build(crate, jobs):
+    """Proves a program over what stands in its out/, and builds it by LLVM."""
+    return build(crate, [*crate.words(["--jobs", str(jobs)], keeps=False), *KEPT], "llvm", f"out/{crate.name}")
+
+
+def build_by(crate, backend):
+    """Builds a proved program by a compiler, over what its proof kept."""
     with copy_of_kept(crate) as kept:
-        words = [*crate.words(ONE_JOB, keeps=False), KEPT[0], kept, "--toolchain", f"{rtlib.KIT}/toolchain", "--backend", "rattle"]
-        return crate.call(rtlib.RATTLE, "build", *words, "-o", f"{to}.o") or crate.link(f"{to}.o", to)
+        return compile_by(crate, [*crate.words(ONE_JOB, keeps=False), KEPT[0], kept], backend, f"out/{crate.name}{rt.BACKENDS[backend]}")
 
 
 def prove_tests(crate, jobs):
-    """Proves the crate's tests, over what its own proof kept, and builds them by LLVM."""
+    """Proves the crate's tests, over what its own proof kept, and builds them by Rattle's own compiler, which takes a fifth of LLVM's time."""
     with copy_of_kept(crate) as kept:
-        words = [*crate.words(["--jobs", str(jobs)], tests=True, keeps=False), KEPT[0], kept]
-        return build(crate, words, "llvm", f"out/{crate.name}_tests")
+        own = lambda flags: [*crate.words(flags, tests=True, keeps=False), KEPT[0], kept]
+        return crate.prove(["check", *own(["--jobs", str(jobs)])]) or compile_by(crate, own(ONE_JOB), "rattle", f"out/{crate.name}_tests")
+
+
+def compile_by(crate, words, backend, to):
+    """Compiles and links what was proved and judged. Its verdict is another's, and a compiler says more behind it."""
+    toolchain = ["--toolchain", f"{rtlib.KIT}/toolchain", "--backend", backend]
+    return crate.call(rtlib.RATTLE, "build", *words, *toolchain, "-o", f"{to}.o") or crate.link(f"{to}.o", to)
 
 
 def build(crate, words, backend, to):

@@ -14,6 +14,9 @@ import kit
 
 # The kinds of tasks that may use several processors.
 SHARED = ("proof", "tests")
+# Those whose minutes docs/GATE.md has, and what a build takes about.
+KINDS = ("proof", "tests", "edits")
+BUILD = 5
 MOST_JOBS = 4
 # How much commands lower their priority: a proof that isn't on the longest chain, and what isn't a proof.
 PATIENCE, MORE_PATIENCE = 5, 10
@@ -41,7 +44,7 @@ class Done:
 
 @dataclass
 class Task:
-    """A command of tools/, and the keys of those that it waits for. `kind` is `proof`, `tests`, `edits` or a run's."""
+    """A command of tools/, and the keys of those that it waits for. `kind` is `proof`, `tests`, a build's or a run's, or `edits I/N`."""
 
     crate: object
     kind: str
@@ -51,6 +54,16 @@ class Task:
     @property
     def key(self):
         return self.crate.name, self.kind
+
+    @property
+    def of(self):
+        """The kind, without the part."""
+        return self.kind.partition(" ")[0] if self.kind.startswith("edits") else self.kind
+
+    @property
+    def parts(self):
+        """In how many parts the crate's are done."""
+        return int(self.kind.partition("/")[2] or 1)
 
 
 def run(words, log, patience):
@@ -69,16 +82,18 @@ def command(name, *words):
     return [sys.executable, f"{kit.HERE}/{name}", *words]
 
 
-def proof(crate, waits):
+def proof(crate, waits, more=()):
     """The proof of a crate, once those below it that are still to be proved are."""
-    return Task(crate, "proof", command("prove", crate.name), waits)
+    return Task(crate, "proof", command("prove", crate.name, *more), waits)
 
 
-def minutes_of(crates):
-    """About how many minutes of the processor each crate's proof takes, by its name: as docs/GATE.md has them, else by its lines."""
+def minutes_of(crates, kind="proof"):
+    """About how many minutes of the processor each crate's tasks of a kind take, by its name: as docs/GATE.md has them, else by its lines."""
     page = kit.rtlib.text_of(f"{kit.ROOT}/docs/GATE.md") or ""
-    told = {name: float(it) for name, it in re.findall(r"(?m)^\| `(\w+)` \| ([\d.]+) \|", page)}
-    return {it.name: told.get(it.name, it.count(rb"\n") / 300) for it in crates}
+    rows = re.findall(r"(?m)^\| `(\w+)` \| ([\d.]+) \| ([\d.]*) \| \d* \| ([\d.]*) \|", page)
+    told = {name: dict(zip(("proof", "edits", "tests"), each)) for name, *each in rows}
+    guess = lambda it: it.count(rb"\n") / 300
+    return {it.name: float(told.get(it.name, {}).get(kind) or guess(it)) for it in crates}
 
 
 class Lanes:
@@ -93,10 +108,11 @@ class Lanes:
         self.lanes = int(fixed) if fixed.isdigit() and fixed != "0" else kit.rt.processors()
         self.memory = 0.85 * kit.rt.free()
         self.only_proofs = all(it.kind == "proof" for it in tasks)
-        minutes = minutes_of([it.crate for it in tasks])
+        minutes = {kind: minutes_of([it.crate for it in tasks], kind) for kind in KINDS}
         self.behind = {}
         for key in reversed(self.in_order()):
-            own = minutes[key[0]] if key[1] in SHARED else 0.1
+            task = self.tasks[key]
+            own = minutes[task.of][task.crate.name] / task.parts if task.of in KINDS else BUILD if "build" in key[1] else 0.1
             self.behind[key] = own + max([self.behind[other] for other, it in self.tasks.items() if key in it.waits], default=0)
 
     def in_order(self):
@@ -115,7 +131,7 @@ class Lanes:
         return order
 
     def call(self, task, jobs, patience):
-        log = f"{self.logs}/{task.crate.name}.{task.kind.replace(' ', '-')}.log"
+        log = f"{self.logs}/{task.crate.name}.{task.kind.replace(' ', '-').replace('/', '-of-')}.log"
         if all(it not in self.given or self.given[it].is_well for it in task.waits):
             done = run([*task.words, "--jobs", str(jobs)] if task.kind in SHARED else task.words, log, patience)
         else:
