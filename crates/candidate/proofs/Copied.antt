@@ -31,7 +31,7 @@ module _ {S D : Type 0} (gives : D → List ℕ) (leaves : D → List ℕ → Ty
   copy_stays (Copying c) has = λ runs. copying_stays c (has runs)
   copy_stays (Whole w) has = copied_stays w.store has
   copy_stays Counted has = tt
-  copy_stays (Refused disk) has = tt
+  copy_stays (Refused r) has = tt
 
   -- and of another candidate that is the same
   pub stays_as : (old new : Candidate S D) → new ≡ old → HasCopy gives leaves about keeps size s incarnation old → HasCopy gives leaves about keeps size t incarnation new

@@ -2,4 +2,5 @@ pub mod Copied
 mod Counted
 mod Given
 mod Noted
+mod Refusals
 mod Shown

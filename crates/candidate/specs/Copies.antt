@@ -36,7 +36,7 @@ module _ {S D : Type 0} (gives : D → List ℕ) (leaves : D → List ℕ → Ty
   HasCopy (Copying c) = c.broken ≡ false → IsCopying c
   HasCopy (Whole w) = IsCopied w.store
   HasCopy Counted = Unit {0}
-  HasCopy (Refused disk) = Unit {0}
+  HasCopy (Refused r) = Unit {0}
 
 module _ {S D : Type 0} (gives : D → List ℕ) (leaves : D → List ℕ → Type 0) (about : S → About) (keeps : S → List ℕ → Type 0) (may_leave_now : S → List ℕ → Type 0) where
   -- Where the disk had a copy, it has one still: whatever state of the one volume the world stood for, and whichever it stands for then.
@@ -58,4 +58,4 @@ BeginsAt gives leaves slot chain volume (Copying c) = (c.sender.given ≡ 0) × 
 BeginsAt gives leaves slot chain volume Nobody = ⊥
 BeginsAt gives leaves slot chain volume (Whole w) = ⊥
 BeginsAt gives leaves slot chain volume Counted = ⊥
-BeginsAt gives leaves slot chain volume (Refused disk) = ⊥
+BeginsAt gives leaves slot chain volume (Refused r) = ⊥

@@ -1,5 +1,5 @@
 -- What becomes of a disk on its way when an order of its joining is carried out.
-use Rattle.std.specs.Prelude.{◌≡◌, ◌≢◌, ◌⊎◌, ◌≤◌, ◌==◌, ℕ, suc, Bool, true, false, Option, None, Some, is_some, not, Result, Ok, Err, IfErr, IfOk, IfSome, OnErr, List, length, slice_get}
+use Rattle.std.specs.Prelude.{◌≡◌, ◌≢◌, ◌⊎◌, ◌≤◌, ◌==◌, ℕ, suc, Bool, true, false, Option, None, Some, is_some, not, Result, Ok, Err, IfErr, IfOk, IfSome, IsSome, OnErr, List, length, slice_get}
 use Rattle.flush_barrier.specs.declared.session_id.SessionId.{SessionId}
 use Rattle.local_store.specs.About.{About}
 use Rattle.local_store.specs.Refusal.{IsOfFormatting}
@@ -7,7 +7,7 @@ use Rattle.local_store.specs.declared.refusal.Refusal.{Refusal}
 use Rattle.gate_journal.specs.declared.batch.TheConstants.{MAX_NUMBER}
 use Rattle.chain.specs.Chain.{Chained, RestsAt}
 use Rattle.clients.specs.Clients.{no_one}
-use Rattle.joining.specs.Copying.{HasNoted, LeadsOn, Seen}
+use Rattle.joining.specs.Copying.{HasNoted, Seen}
 use Rattle.joining.specs.Giving.{GivesBlock, RefusesFinish, RefusesGiving}
 use Rattle.joining.specs.Standing.{IsNoted, IsOfRecorded}
 use Rattle.joining.specs.declared.refusal.NotGiven.{NotGiven}
@@ -71,30 +71,40 @@ module _ {S D : Type 0} (premise : Type 0) (about : S → About) (failures : S �
     pub due : due_of before.sender ≡ Some block
     pub given : GivesBlock premise about failures keeps moment left_since block before behind world after
 
-  -- none was, for this reason
-  pub record RefusesDue (why : NotGiven) (old new : Candidate S D) (world after : worlds.Seen S) : Type 0 where
+  -- the member has stopped in the call
+  pub record StopsDue (why : NotGiven) (old new : Candidate S D) (world after : worlds.Seen S) : Type 0 where
     pub before : Seen D
     pub behind : Seen D
     pub was : old ≡ Copying before
     pub is : new ≡ Copying behind
     pub refused : RefusesGiving premise about failures keeps moment left_since why before behind world after
 
+  -- the disk was refused, and gets no further
+  pub record RefusesDue (refusal : Refusal) (old new : Candidate S D) (world after : worlds.Seen S) : Type 0 where
+    pub before : Seen D
+    pub behind : Seen D
+    pub left : whole.Refused D
+    pub was : old ≡ Copying before
+    pub is : new ≡ Refused left
+    pub its : disk_of behind.receiver ≡ Some left.disk
+    pub known : IsSome left.member
+    pub refused : RefusesGiving premise about failures keeps moment left_since (not_given.Refused refusal) before behind world after
+
   -- what became of it when the next block was to be given
   abbrev pub Gives : Result Gave Refusal → Candidate S D → Candidate S D → worlds.Seen S → worlds.Seen S → Type 0
   Gives (Ok Nothing) old new world after = (new ≡ old) × (after ≡ world) × GivesNothing old world
   Gives (Ok Piece) old new world after = GivesDue old new world after
-  Gives (Ok (Stopped told)) old new world after = RefusesDue (not_given.Stopped (Some told)) old new world after
-  Gives (Err refusal) old new world after = RefusesDue (not_given.Refused refusal) old new world after
+  Gives (Ok (Stopped told)) old new world after = StopsDue (not_given.Stopped (Some told)) old new world after
+  Gives (Err refusal) old new world after = RefusesDue refusal old new world after
 
--- this holds of the disk before and of what it is behind a refusal: it is given the volume still, or is refused at the end
+-- this holds of the disk before and of what it is behind a refusal
 abbrev pub LedOn : {S D : Type 0} → (D → D → Type 0) → Candidate S D → Candidate S D → Type 0
-LedOn R (Copying c) (Copying d) = LeadsOn R c d
-LedOn R (Copying c) (Refused disk) = IfSome (disk_of c.receiver) (λ was. R was disk)
+LedOn R (Copying c) (Refused r) = IfSome (disk_of c.receiver) (λ was. R was r.disk)
 LedOn R _ _ = ⊥
 
 -- this holds of the disk that refused
 abbrev pub OfRefused : {S D : Type 0} → Candidate S D → (D → Type 0) → Type 0
-OfRefused (Refused disk) P = P disk
+OfRefused (Refused r) P = P r.disk
 OfRefused _ P = ⊥
 
 -- ---- orders
@@ -116,7 +126,7 @@ has_given_all (Copying c) = c.sender.given == length c.sender.marks
 has_given_all Nobody = false
 has_given_all (Whole w) = false
 has_given_all Counted = false
-has_given_all (Refused disk) = false
+has_given_all (Refused r) = false
 
 -- whether no block is due
 abbrev pub is_filled : {S D : Type 0} → Candidate S D → Bool
@@ -124,12 +134,21 @@ is_filled (Copying c) = not (is_some (due_of c.sender))
 is_filled Nobody = false
 is_filled (Whole w) = false
 is_filled Counted = false
-is_filled (Refused disk) = false
+is_filled (Refused r) = false
+
+-- the disk that was being given the volume gets no further
+pub record Spoils {S D : Type 0} (old new : Candidate S D) : Type 0 where
+  pub before : Seen D
+  pub left : whole.Refused D
+  pub was : old ≡ Copying before
+  pub is : new ≡ Refused left
+  pub its : disk_of before.receiver ≡ Some left.disk
+  pub known : IsSome left.member
 
 -- the disk's installation ended, and it may be counted; or it was refused
 abbrev pub Finishes : {S D V : Type 0} → Result V Refusal → Candidate S D → Candidate S D → Type 0
 Finishes {S = S} {D = D} (Ok v) old new = (c : Seen D) × (w : whole.Whole S) × (old ≡ Copying c) × (new ≡ Whole w)
-Finishes {D = D} (Err refusal) old new = (c : Seen D) × (disk : D) × (old ≡ Copying c) × (new ≡ Refused disk) × RefusesFinish c.broken refusal
+Finishes {D = D} (Err refusal) old new = (c : Seen D) × (r : whole.Refused D) × (old ≡ Copying c) × (new ≡ Refused r) × (RefusesFinish c.broken refusal × IsSome r.member)
 
 module _ {S D C : Type 0} (premise : Type 0) (about : S → About) (failures : S → ℕ) (keeps : S → List ℕ → Type 0) (moment : S → ℕ) (left_since : S → ℕ → List ℕ → Type 0) where
   -- Where the next order is to copy, the next block was given, or not; it is carried out once each block was given.
@@ -153,7 +172,7 @@ AttachesNone old m world = ((slot : ℕ) → next_of m.manager ≡ orders.Attach
 pub record Attaches {S D C : Type 0} (result : Result Bool Refusal) (old new : Candidate S D) (m n : Managing C) (world : worlds.Seen S) : Type 0 where
   pub attached : IfOk result (λ done. done ≡ true → (c : Seen D) × (slot : ℕ) × (old ≡ Nobody) × (new ≡ Copying c) × (next_of m.manager ≡ orders.Attach slot) × IsTailAt world.chain c.at × (n ≡ record m { manager = done_of m.manager }))
   pub idle : IfOk result (λ done. done ≡ false → AttachesNone old m world × (new ≡ old) × (n ≡ m))
-  pub refused : IfErr result (λ refusal. IsOfFormatting refusal × (disk : D) × (old ≡ Nobody) × (new ≡ Refused disk) × (n ≡ m))
+  pub refused : IfErr result (λ refusal. IsOfFormatting refusal × (r : whole.Refused D) × (slot : ℕ) × (old ≡ Nobody) × (new ≡ Refused r) × (next_of m.manager ≡ orders.Attach slot) × (n ≡ m))
 
 -- Where the next order is to hold, the tail holds the front, and what it knows was noted.
 pub record Holds {S D C : Type 0} (given : Option Told) (old new : Candidate S D) (m n : Managing C) (world after : worlds.Seen S) : Type 0 where

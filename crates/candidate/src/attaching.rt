@@ -13,6 +13,7 @@ ghost use Rattle.world.specs.World.{Shows};
 ghost use Rattle.world_model.specs.Machine.{State};
 
 use crate::candidate::Candidate;
+use crate::refused::Refused;
 use chain_model::each_disk_has_what_is_owed;
 use configurations::Epoch;
 use disk_model::Disk;
@@ -70,7 +71,7 @@ impl<D: Disk + Drop> Candidate<Store<D>, D> {
                 Ok(true)
             }
             Err((refusal, disk)) => {
-                *self = Candidate::Refused(disk);
+                *self = Candidate::Refused(Refused::at_once(disk));
                 Err(refusal)
             }
         }

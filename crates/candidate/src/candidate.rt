@@ -8,6 +8,7 @@ ghost use Rattle.chain_model.specs.View.{View};
 ghost use Rattle.world.specs.World.{Shows};
 ghost use Rattle.world_model.specs.Machine.{State};
 
+use crate::refused::Refused;
 use crate::whole::Whole;
 use chain_model::each_disk_has_what_is_owed;
 use disk_model::Disk;
@@ -26,8 +27,8 @@ pub enum Candidate<S: StoreLike, D: Disk> {
     Whole(Whole<S>),
     /// It is counted: the world has its store.
     Counted,
-    /// It refused to be installed: it gets no further.
-    Refused(D),
+    /// It refused to be installed, or something that it was given: it gets no further.
+    Refused(Refused<D>),
 }
 
 impl<D: Disk + Drop> Candidate<Store<D>, D> {

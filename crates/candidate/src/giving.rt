@@ -1,13 +1,15 @@
 //! The disk is given the volume, a block at a time, and at last the end.
-ghost use Rattle.std.specs.Prelude.{◌≡◌, ℕ, true, IfErr};
+ghost use Rattle.std.specs.Prelude.{◌≡◌, ◌*◌, ℕ, true, IfErr};
 ghost use Rattle.candidate.specs.Copies.{HasCopy, KeepsCopy};
-ghost use Rattle.candidate.specs.Orders.{Copies, Finishes, Gives, LedOn, Rests, handed_gave, is_filled};
+ghost use Rattle.candidate.specs.Orders.{Copies, Finishes, Gives, LedOn, Rests, Spoils, handed_gave, is_filled};
 ghost use Rattle.clients.specs.Clients.{no_one};
+ghost use Rattle.joining.specs.Copying.{Seen};
 ghost use Rattle.local_store.specs.Refusal.{IsCaused};
 ghost use Rattle.world.specs.World.{IsOfOneVolume};
 ghost use Rattle.world_model.specs.Machine.{State};
 
 use crate::candidate::Candidate;
+use crate::refused::Refused;
 use crate::whole::Whole;
 use chain_model::each_disk_has_what_is_owed;
 use disk_model::Disk;
@@ -34,7 +36,7 @@ impl<D: Disk + Drop> Candidate<Store<D>, D> {
     /// Where the next order is to copy: the disk is given the next block, as it is at what the tail knows. Once each block was given, the order
     /// is carried out.
     ///
-    /// What the disk refuses, behind which its copying is broken, and 122 `Broken` then.
+    /// What the disk refuses, and 122 `Broken` where the member went on unnoted: then it gets no further.
     pub fn copy<C: Disk + Drop>(
         &mut self,
         world: &mut World<Store<D>>,
@@ -59,7 +61,7 @@ impl<D: Disk + Drop> Candidate<Store<D>, D> {
     /// Where the next order is to give the rest: the disk is given the next block that is due again; once none is, its installation ends, and
     /// the order is carried out.
     ///
-    /// What the disk refuses: at the end it gets no further.
+    /// What the disk refuses, and 122 `Broken` where the member went on unnoted: then it gets no further.
     pub fn rest<C: Disk + Drop>(
         &mut self,
         alloc: Global,
@@ -104,8 +106,22 @@ impl<D: Disk + Drop> Candidate<Store<D>, D> {
             Ok(false) => Ok(Gave::Nothing),
             Err(NotGiven::Stopped(None)) => Ok(Gave::Nothing),
             Err(NotGiven::Stopped(Some(told))) => Ok(Gave::Stopped(told)),
-            Err(NotGiven::Refused(refusal)) => Err(refusal),
+            Err(NotGiven::Refused(refusal)) => {
+                self.refuse();
+                Err(refusal)
+            }
         }
+    }
+
+    /// The disk that was being given the volume gets no further.
+    fn refuse(&mut self)
+        requires { (c : Seen D) × (self.old ≡ Candidate.Copying c) }
+        ensures { Spoils self.old self.new }
+    {
+        let Candidate::Copying(copying) = mem::replace(self, Candidate::Nobody) else {
+            unreachable!();
+        };
+        *self = Candidate::Refused(Refused::of(copying.member(), copying.into_disk()));
     }
 
     /// Its installation ends, where no block is due.
@@ -119,13 +135,14 @@ impl<D: Disk + Drop> Candidate<Store<D>, D> {
         let Candidate::Copying(copying) = mem::replace(self, Candidate::Nobody) else {
             unreachable!();
         };
+        let member = copying.member();
         match copying.finish(alloc) {
             Ok((store, receipt)) => {
                 *self = Candidate::Whole(Whole::new(store, receipt));
                 Ok(())
             }
             Err((refusal, disk)) => {
-                *self = Candidate::Refused(disk);
+                *self = Candidate::Refused(Refused::of(member, disk));
                 Err(refusal)
             }
         }

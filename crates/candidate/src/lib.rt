@@ -9,8 +9,10 @@ mod attaching;
 mod candidate;
 mod counting;
 mod giving;
+mod refused;
 mod whole;
 
 pub use candidate::Candidate;
 pub use giving::Gave;
+pub use refused::Refused;
 pub use whole::Whole;

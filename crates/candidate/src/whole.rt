@@ -34,7 +34,7 @@ impl<S: StoreLike + Drop> Whole<S> {
     }
 
     /// Its store, and the receipt.
-    pub(crate) fn into_parts(self) -> (S, Synced)
+    pub fn into_parts(self) -> (S, Synced)
         ensures parts { (result.0 ≡ self.store) × (result.1 ≡ self.receipt) }
         ensures runs { IsRunning (S.about result.0) (record { premise = S.keeps_model; keeps = S.keeps result.0 }) }
     {

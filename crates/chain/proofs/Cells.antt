@@ -1,7 +1,8 @@
 -- A place of a list, and what stands at it in another list that goes with it.
-use Rattle.std.proofs.Common.{◌≡◌, ℕ, zero, suc, List, [], ◌∷◌, ◌++◌, refl, ap}
-use Rattle.std.specs.Prelude.{Some, None, slice_get, slice_set}
-use Rattle.std.specs.List.{AllZip}
+use Rattle.std.proofs.Common.{◌≡◌, ℕ, zero, suc, List, [], ◌∷◌, ◌++◌, map, refl, ap}
+use Rattle.std.specs.Prelude.{All, Some, None, slice_get, slice_set}
+use Rattle.std.specs.List.{AllZip, remove}
+use Rattle.std.proofs.lemmas.List.Elements.{All-cons, All-head, All-tail}
 
 pub record Place {A : Type 0} (xs : List A) (at : ℕ) (x : A) : Type 0 where
   pub above : List A
@@ -56,3 +57,41 @@ zip_set R [] (m ∷ ms) at y n are fits = absurd are
 zip_set R (x ∷ xs) [] at y n are fits = absurd are
 zip_set R (x ∷ xs) (m ∷ ms) zero y n are fits = (fits, are.1)
 zip_set R (x ∷ xs) (m ∷ ms) (suc at) y n are fits = (are.0, zip_set R xs ms at y n are.1 fits)
+
+-- ---- one is taken out
+
+-- what stood before it and behind it is left
+pub record Gap {A : Type 0} (xs : List A) (at : ℕ) (x : A) : Type 0 where
+  pub above : List A
+  pub below : List A
+  pub were : xs ≡ above ++ x ∷ below
+  pub left : remove xs at ≡ above ++ below
+
+pub gap_of : {A : Type 0} (xs : List A) (at : ℕ) (x : A) → slice_get xs at ≡ Some x → Gap xs at x
+gap_of [] at x here = let none : None ≡ Some x = here in absurd (cc)
+gap_of (y ∷ ys) zero x here = let same : Some y ≡ Some x = here in let is : y ≡ x = cc same in record { above = []; below = ys; were = ap (λ z. z ∷ ys) is; left = refl }
+gap_of (y ∷ ys) (suc n) x here =
+    let rest = gap_of ys n x here in
+    record { above = y ∷ rest.above; below = rest.below; were = ap (λ l. y ∷ l) rest.were; left = ap (λ l. y ∷ l) rest.left }
+
+pub map_left : {A B : Type 0} (f : A → B) (xs : List A) (at : ℕ) → map f (remove xs at) ≡ remove (map f xs) at
+map_left f [] zero = refl
+map_left f [] (suc n) = refl
+map_left f (x ∷ xs) zero = refl
+map_left f (x ∷ xs) (suc n) = ap (λ l. f x ∷ l) (map_left f xs n)
+
+-- what all have, the others have
+pub all_left : {A : Type 0} (P : A → Type 0) (xs : List A) (at : ℕ) → All P xs → All P (remove xs at)
+all_left P [] zero all = all
+all_left P [] (suc n) all = all
+all_left P (x ∷ xs) zero all = All-tail P x xs all
+all_left P (x ∷ xs) (suc n) all = All-cons P x (remove xs n) (All-head P x xs all) (all_left P xs n (All-tail P x xs all))
+
+-- and the others go with those of another list from which it is taken too
+pub zip_left : {A B : Type 0} (R : A → B → Type 0) (xs : List A) (ms : List B) (at : ℕ) → AllZip R xs ms → AllZip R (remove xs at) (remove ms at)
+zip_left R [] [] zero are = are
+zip_left R [] [] (suc n) are = are
+zip_left R [] (m ∷ ms) at are = absurd are
+zip_left R (x ∷ xs) [] at are = absurd are
+zip_left R (x ∷ xs) (m ∷ ms) zero are = are.1
+zip_left R (x ∷ xs) (m ∷ ms) (suc n) are = (are.0, zip_left R xs ms n are.1)

@@ -8,6 +8,7 @@ mod CommitSteps
 mod EndSteps
 mod FloorSteps
 mod Following
+mod ForgettingSteps
 mod FrontSteps
 mod HoldingSteps
 mod JoiningSteps

@@ -2,6 +2,7 @@ pub mod Arming
 pub mod Asking
 pub mod Chain
 pub mod Commits
+pub mod Forgetting
 pub mod Fronts
 pub mod Holding
 pub mod Joining

@@ -1,5 +1,5 @@
 -- How a chain begins.
-use Rattle.std.specs.Prelude.{◌≡◌, ℕ, max, IfSome, None, Bool, true, List, [], All, fold, replicate, slice_get, slice_set}
+use Rattle.std.specs.Prelude.{◌≡◌, ℕ, max, IfSome, None, Bool, true, List, All, fold, replicate, slice_get, slice_set}
 use Rattle.board.specs.Mask.{with_slot}
 use Rattle.board.specs.Seats.{BoardId}
 use Rattle.configurations.specs.Record.{Record}

@@ -9,6 +9,7 @@
 mod arming;
 mod chain;
 mod commits;
+mod forgetting;
 mod fronts;
 mod holding;
 mod joining;

@@ -46,6 +46,10 @@ first_state board chain turned about = record {
   commit = None;
 }
 
+-- no token waits at it, and it found no front that it hasn't gone on with
+abbrev pub IsIdle : NodeState → Type 0
+IsIdle node = (node.waiting ≡ []) × (node.found ≡ None)
+
 -- the bytes of the volume
 abbrev pub size_of : About → ℕ
 size_of about = 4096 * about.geometry.blocks

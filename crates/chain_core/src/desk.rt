@@ -1,4 +1,4 @@
-ghost use Rattle.std.specs.Prelude.{◌≡◌, ◌<◌, ◌≤◌, ◌+◌, ◌^◌, ◌++◌, [], ◌∷◌, List, All, Some, None, filter, length, map, not, vec_len, vec_capacity, IfErr, IfOk, OnErr, OnOk};
+ghost use Rattle.std.specs.Prelude.{◌≡◌, ◌↔◌, ◌<◌, ◌≤◌, ◌+◌, ◌^◌, ◌++◌, [], ◌∷◌, List, All, Some, None, filter, length, map, not, vec_len, vec_capacity, IfErr, IfOk, IsTrue, OnErr, OnOk};
 ghost use Rattle.chain_core.specs.Reads.{answered};
 ghost use Rattle.chain_steps.specs.Waiting.{IsOf, IsOfDue, asked_range, bound, is_due, is_outdated, is_read, learned, reply_to, waits_for};
 ghost use Rattle.chain_steps.specs.declared.waiting.Waiting.{Waiting as Token};
@@ -38,6 +38,13 @@ impl Desk {
             tokens: Tokens::new(alloc),
             room: Vec::new(alloc),
         }
+    }
+
+    /// Whether no token waits.
+    pub(crate) fn is_empty(&self) -> bool
+        ensures { IsTrue result ↔ (self.now ≡ []) }
+    {
+        self.tokens.len() == 0
     }
 
     /// Takes the token of a write, under the ticket and in the epoch of its Submit. Where memory runs out, it comes back.

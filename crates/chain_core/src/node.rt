@@ -1,8 +1,8 @@
-ghost use Rattle.std.specs.Prelude.{◌≡◌, ◌≤◌, ◌+◌, [], List, ℕ, length, true, false, None, IfSome};
+ghost use Rattle.std.specs.Prelude.{◌≡◌, ◌↔◌, ◌≤◌, ◌+◌, [], List, ℕ, length, true, false, None, IfSome, IsTrue};
 ghost use Rattle.chain_steps.specs.Node.{NodeState, durable_of, last_of};
 ghost use Rattle.chain_steps.specs.Steps.{stop};
 ghost use Rattle.local_store.specs.About.{IsOfVersionTwo};
-ghost use Rattle.chain_core.specs.Node.{IsSound, IsStep, Seen, first_state, may_raise, size_of};
+ghost use Rattle.chain_core.specs.Node.{IsIdle, IsSound, IsStep, Seen, first_state, may_raise, size_of};
 
 use crate::commit::Commit;
 use crate::desk::Desk;
@@ -174,6 +174,13 @@ impl<S: StoreLike + Drop> Node<S> {
         ensures { result ≡ self.now.state.stopped }
     {
         self.stopped
+    }
+
+    /// Whether nothing waits at it: no token, and no front that it found.
+    pub fn is_idle(&self) -> bool
+        ensures { IsTrue result ↔ IsIdle self.now.state }
+    {
+        self.desk.is_empty() && self.found.is_none()
     }
 
     /// The number of its durable front's last write.

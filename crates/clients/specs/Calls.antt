@@ -1,5 +1,5 @@
 -- What each call does to the sessions, and what that is in the model of the one volume.
-use Rattle.std.specs.Prelude.{◌≡◌, ◌⊎◌, ◌≤◌, ◌+◌, ◌-◌, ℕ, Bool, true, false, not, ◌&&◌, ◌||◌, nat_lt, None, Option, Some, List, [], ◌∷◌, ◌++◌, if◌then◌else◌, length, map, slice_get, slice_set}
+use Rattle.std.specs.Prelude.{◌≡◌, ◌⊎◌, ◌≤◌, ◌==◌, ◌+◌, ◌-◌, ℕ, Bool, true, false, not, ◌&&◌, ◌||◌, nat_lt, None, Option, Some, List, [], ◌∷◌, ◌++◌, if◌then◌else◌, length, map, slice_get, slice_set}
 use Rattle.board.specs.Seats.{BoardId}
 use Rattle.flush_barrier.specs.Reply.{GivenReply}
 use Rattle.flush_barrier.specs.declared.session_id.SessionId.{SessionId}
@@ -85,6 +85,15 @@ pub record EndsInput (before after : Client) : Type 0 where
 
 abbrev pub Ends : SessionId → Sessions → Sessions → Type 0
 Ends id old new = Changes id old new EndsInput
+
+-- ---- a member is gone
+
+-- the client without the member at the place: one that was at it takes no more input, and those at later places move up
+abbrev pub without : ℕ → Client → Client
+without place client =
+    if client.at == place
+    then record (if is_over client.session.phase then client else ended client) { at = 0 }
+    else (if nat_lt place client.at then record client { at = client.at - 1 } else client)
 
 -- ---- replies come
 

@@ -36,7 +36,7 @@ impl Model for Client {
 }
 
 impl Client {
-    ghost use Rattle.clients.specs.Calls.{EndsInput, HasNothing, IsDemandOf, IsHanded, IsSameClient, TakesPiece, TakesReply, closes};
+    ghost use Rattle.clients.specs.Calls.{EndsInput, HasNothing, IsDemandOf, IsHanded, IsSameClient, TakesPiece, TakesReply, closes, without};
     ghost use Rattle.clients.specs.Clients.{Goes};
 
     /// A client whose session's greeting waits to go out.
@@ -110,6 +110,18 @@ impl Client {
         }
         self.session.end_of_input();
         true
+    }
+
+    /// The member at a place is gone: its session ends, if it is at that, and it is at place 0 then; one at a place behind it moves up.
+    pub(crate) fn leave(&mut self, place: usize)
+        ensures { self.new ≡ without place self.old }
+    {
+        if self.at == place {
+            self.end();
+            self.at = 0;
+        } else if self.at > place {
+            self.at -= 1;
+        }
     }
 
     /// Takes the reply to one of its demands. A session without memory for it ends.

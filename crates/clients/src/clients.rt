@@ -43,7 +43,7 @@ impl Model for Clients {
 }
 
 impl Clients {
-    ghost use Rattle.clients.specs.Calls.{AreAtPlaces, Begins, Changes, Delivers, Ends, IsDemandOf, PutsOut, StayOver, TakesPiece, bytes_out};
+    ghost use Rattle.clients.specs.Calls.{AreAtPlaces, Begins, Changes, Delivers, Ends, IsDemandOf, PutsOut, StayOver, TakesPiece, bytes_out, without};
     ghost use Rattle.clients.specs.Clients.{AreSessions, GoOn, HasClient, no_one, of_session, place_of};
 
     /// No sessions of a board's chain. They will be at an export of `size` bytes that takes payloads of up to `max_payload` bytes, and
@@ -129,6 +129,19 @@ impl Clients {
         match self.position(id) {
             Some(place) => self.clients[place].end(),
             None => false,
+        }
+    }
+
+    /// The member at a place is gone, whatever its clients asked was answered, and those behind it move up. The sessions of its clients end as
+    /// with their input, and are at place 0 then.
+    pub fn leave(&mut self, place: usize)
+        ensures left { self.new ≡ record self.old { clients = map (without place) self.old.clients } }
+        ensures stay_over { StayOver self.old.clients self.new.clients }
+        ensures lawful { GoOn self.old.clients self.new.clients no_one no_one no_one [] }
+    {
+        feeds_are_lawful();
+        for client in self.clients.iter_mut() {
+            client.leave(place);
         }
     }
 

@@ -1,5 +1,5 @@
 -- What comes of the end that a copying gives, and of the store that is opened then.
-use Rattle.std.proofs.Common.{◌≡◌, ◌∙◌, inr, ℕ, List, refl, sym, subst}
+use Rattle.std.proofs.Common.{◌≡◌, ◌∙◌, ap, inr, ℕ, List, refl, sym, subst}
 use Rattle.std.specs.Prelude.{Err, IfSome, IsSomeAnd, None, Ok, Option, Result, Some}
 use Rattle.std.specs.Option.{ForSome}
 use Rattle.std.proofs.lemmas.Option.{same_Some}
@@ -8,11 +8,11 @@ use Rattle.disk_model.specs.Moments.{started, then_run, weaker}
 use Rattle.gate_journal.specs.Runs.{OnlyReads}
 use Rattle.home_blocks.specs.Superblock.{Superblock}
 use Rattle.local_store.specs.Installer.{MeansNothing, finished_meaning}
-use Rattle.local_store.specs.Meaning.{Means}
+use Rattle.local_store.specs.Meaning.{Meaning, Means}
 use Rattle.rejoin_catchup.specs.Receiving.{HasTaken, Installation, IsTaking, Leads, Receiving, disk_in, disk_of}
 use Rattle.rejoin_catchup.specs.Sending.{IsCopy}
 use Rattle.rejoin_catchup.specs.declared.ready.Ready.{Ready}
-use Rattle.joining.specs.Copying.{IsCopyOf, Seen}
+use Rattle.joining.specs.Copying.{IsCopyOf, IsInstalled, Seen}
 use Rattle.joining.specs.Giving.{IsMeantBy}
 
 -- what holds of each that is there holds if one is
@@ -64,3 +64,16 @@ module _ {D : Type 0} (gives : D → List ℕ) (may_leave : D → List ℕ → T
   read_leaves sb front volume was mid new first means only reads =
       then_run moment left_since was mid new (IsMeantBy sb front volume) first
       (weaker moment left_since mid new (may_leave mid) (IsMeantBy sb front volume) (λ c may. inr (subst (Means (finished_meaning sb front volume)) (sym (only c may)) means)) reads.moments)
+
+-- ---- whose disk it is
+
+-- what means the copy is the member's that is being installed
+pub installed_means : {D : Type 0} (gives : D → List ℕ) (may_leave : D → List ℕ → Type 0) (sb : Superblock) (copy : List ℕ) (r : Receiving D) → HasTaken gives may_leave sb copy r → (front : ℕ) (meaning : Meaning) → finished_meaning sb front copy ≡ meaning → IsInstalled r meaning
+installed_means {D} gives may_leave sb copy r taken front meaning same = by r.installation taken
+  where
+    by : (o : Option (Installation D)) → IsSomeAnd o (IsTaking gives may_leave sb copy) → IsSomeAnd o (λ i. (meaning.slot ≡ i.home.superblock.slot) × (meaning.incarnation ≡ i.home.superblock.incarnation))
+    by None is = absurd is
+    by (Some i) is = (
+      ap (λ (m : Meaning). m.slot) (sym same) ∙ ap (λ (s : Superblock). s.slot) (sym is.superblock),
+      ap (λ (m : Meaning). m.incarnation) (sym same) ∙ ap (λ (s : Superblock). s.incarnation) (sym is.superblock),
+    )

@@ -3,6 +3,7 @@ mod Ending
 mod Entering
 mod Leading
 mod Marking
+mod OnItsWay
 mod Opening
 mod Orders
 mod Pieces

@@ -3,6 +3,9 @@ use Rattle.std.specs.Option.{ForSome}
 use Rattle.std.specs.Prelude.{◌≡◌, ◌≢◌, ◌⊎◌, ◌↔◌, ℕ, ◌-◌, ◌<◌, ◌≤◌, Bool, true, false, List, IsSome, IsSomeAnd, length}
 use Rattle.gate_journal.specs.declared.batch.TheConstants.{MAX_NUMBER}
 use Rattle.home_blocks.specs.Superblock.{Superblock}
+use Rattle.local_store.specs.Installer.{MeansNothing}
+use Rattle.local_store.specs.Meaning.{Meaning, Means}
+use Rattle.configurations.specs.declared.member.Member.{Member}
 use Rattle.volume.specs.Writes.{IsTouched, Placed, patched}
 use Rattle.rejoin_catchup.specs.InStep.{IsInStep}
 use Rattle.rejoin_catchup.specs.Receiving.{HasTaken, Receiving, disk_of}
@@ -28,6 +31,32 @@ pub record IsInCourse {D : Type 0} (c : Seen D) : Type 0 where
   pub goes_on : c.broken ≡ false → ForSome c.receiver.installation (λ i. i.broken ≡ false)
   pub first : c.rests ≡ false → c.receiver.course.again ≡ 0
   pub limit : c.front ≤ MAX_NUMBER
+
+-- the disk is this member's, as long as it is being installed
+abbrev pub IsForMember : {D : Type 0} → Member → Receiving D → Type 0
+IsForMember member r = ForSome r.installation (λ i. (i.home.superblock.slot ≡ member.slot) × (i.home.superblock.incarnation ≡ member.incarnation))
+
+-- what is meant is this member's
+abbrev pub IsOf : Member → Meaning → Type 0
+IsOf member meaning = (meaning.slot ≡ member.slot) × (meaning.incarnation ≡ member.incarnation)
+
+-- it is that of the member that is being installed
+abbrev pub IsInstalled : {D : Type 0} → Receiving D → Meaning → Type 0
+IsInstalled r meaning = IsSomeAnd r.installation (λ i. (meaning.slot ≡ i.home.superblock.slot) × (meaning.incarnation ≡ i.home.superblock.incarnation))
+
+-- whatever a stop may leave of the disk means nothing
+abbrev pub MeansNone : {D : Type 0} → (D → List ℕ → Type 0) → D → Type 0
+MeansNone may_leave disk = (bytes : List ℕ) → may_leave disk bytes → MeansNothing bytes
+
+-- whatever a stop may leave of the disk means nothing, or something of which this holds
+abbrev pub MeansOnly : {D : Type 0} → (D → List ℕ → Type 0) → (Meaning → Type 0) → D → Type 0
+MeansOnly may_leave P disk = (bytes : List ℕ) → may_leave disk bytes → (meaning : Meaning) → Means meaning bytes → P meaning
+
+-- The disk is this member's, and whatever a stop may leave of it means nothing; and while the copying isn't broken, it takes some copy.
+pub record IsOnItsWay {D : Type 0} (gives : D → List ℕ) (may_leave : D → List ℕ → Type 0) (member : Member) (c : Seen D) : Type 0 where
+  pub its : IsForMember member c.receiver
+  pub unmeant : ForSome (disk_of c.receiver) (MeansNone may_leave)
+  pub taking : c.broken ≡ false → (sb : Superblock) × (copy : List ℕ) × HasTaken gives may_leave sb copy c.receiver
 
 -- this holds of the disk before and of what it is then
 abbrev pub LeadsOn : {D : Type 0} → (D → D → Type 0) → Seen D → Seen D → Type 0

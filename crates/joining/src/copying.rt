@@ -7,8 +7,9 @@ ghost use Rattle.local_store.specs.Refusal.{IsCaused, IsNotOfDevice, IsOfFormatt
 ghost use Rattle.local_store.specs.declared.refusal.Refusal.TheVariants as faults;
 ghost use Rattle.rejoin_catchup.specs.Receiving.{disk_of};
 ghost use Rattle.rejoin_catchup.specs.Sending.{due_of};
-ghost use Rattle.joining.specs.Copying.{IsCopyOf, IsFor};
+ghost use Rattle.joining.specs.Copying.{IsCopyOf, IsFor, IsForMember, MeansNone};
 
+use configurations::{Incarnation, Member};
 use disk_model::Disk;
 use gate_journal::{MAX_NUMBER, Slot};
 use local_store::{Refusal, StoreLike};
@@ -21,6 +22,8 @@ use world::World;
 /// was given, those again that were written since. It is broken once the disk refuses a block, or the member goes on unnoted.
 #[derive(Drop)]
 pub struct Copying<D: Disk> {
+    /// The member whose disk it will be.
+    member: Member,
     /// The member's place.
     pub(crate) at: usize,
     /// The member's known commit, when it was noted last.
@@ -33,13 +36,14 @@ pub struct Copying<D: Disk> {
 }
 
 impl<D: Disk> Model for Copying<D> {
-    ghost use Rattle.joining.specs.Copying.{IsInCourse, Seen};
+    ghost use Rattle.joining.specs.Copying.{IsInCourse, IsOnItsWay, Seen};
 
     ghost Value = { Seen D };
 
     ghost view = { λ c. record { at = c.at; front = c.front; sender = c.sender; receiver = c.receiver; rests = c.rests; broken = c.broken } };
 
-    ghost invariant = { λ c. IsInCourse (record { at = c.at; front = c.front; sender = c.sender; receiver = c.receiver; rests = c.rests; broken = c.broken }) };
+    ghost invariant = { λ c. IsInCourse (record { at = c.at; front = c.front; sender = c.sender; receiver = c.receiver; rests = c.rests; broken = c.broken })
+        × (D.keeps_model → IsOnItsWay D.gives D.may_leave_now c.member (record { at = c.at; front = c.front; sender = c.sender; receiver = c.receiver; rests = c.rests; broken = c.broken })) };
 }
 
 impl<D: Disk + Drop> Copying<D> {
@@ -88,8 +92,15 @@ impl<D: Disk + Drop> Copying<D> {
         let Ok(sender) = Sender::new(alloc, geometry.blocks) else {
             return Err((Refusal::Memory, disk));
         };
+        let Some(counted) = Incarnation::new(incarnation) else {
+            unreachable!();
+        };
         let receiver = Receiver::start(alloc, disk, slot, incarnation, geometry)?;
         Ok(Copying {
+            member: Member {
+                slot,
+                incarnation: counted,
+            },
             at,
             front: world.known(at),
             sender,
@@ -120,11 +131,20 @@ impl<D: Disk + Drop> Copying<D> {
         self.front
     }
 
-    /// Gives up, and the disk back.
+    /// The member whose disk it will be.
+    pub fn member(&self) -> Member
+        ensures { D.keeps_model → IsForMember result self.now.receiver }
+    {
+        self.member
+    }
+
+    /// Gives up, and the disk back. Whatever a stop may leave of it means nothing.
     pub fn into_disk(self) -> D
-        ensures { disk_of self.receiver ≡ Some result }
+        ensures its { disk_of self.receiver ≡ Some result }
+        ensures unmeant { D.keeps_model → MeansNone D.may_leave_now result }
     {
         let Copying {
+            member: _,
             at: _,
             front: _,
             sender: _,

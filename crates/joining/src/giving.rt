@@ -8,7 +8,7 @@ ghost use Rattle.disk_model.specs.Disk.{LeavesOnly, Only};
 ghost use Rattle.gate_journal.specs.Runs.{OnlyReads};
 ghost use Rattle.home_blocks.specs.Places.{disk_size_of};
 ghost use Rattle.home_blocks.specs.Superblock.{Superblock};
-ghost use Rattle.joining.specs.Copying.{IsCopyOf, IsFor, LeadsOn};
+ghost use Rattle.joining.specs.Copying.{IsCopyOf, IsFor, IsInstalled, LeadsOn, MeansOnly};
 ghost use Rattle.joining.specs.Giving.{FinishesAt, GivesBlock, HasGivenNext, IsMeantBy, RefusesEnd, RefusesFinish, RefusesGiving, RefusesOpening, handed_giving, has_given_all, may_give};
 ghost use Rattle.local_store.specs.Installer.{MeansNothing, finished_meaning};
 ghost use Rattle.local_store.specs.Meaning.{Meaning, Means};
@@ -141,6 +141,8 @@ impl<D: Disk + Drop> Copying<D> {
         // A copy that is whole opens, on a disk that has room for what its superblock says.
         ensures finishes { D.keeps_model → (volume : List ℕ) → length volume ≡ 4096 * length self.sender.marks → (sb : Superblock) → IsCopyOf D.gives D.may_leave_now sb volume self
             → IfSome (disk_of self.receiver) (λ was. disk_size_of sb.geometry ≤ D.size was) → IfErr result (λ e. RefusesEnd self.broken e.0 ⊎ RefusesOpening e.0 (D.gives e.1)) }
+        // Whatever a stop may leave of a disk that is refused means nothing, or is the member's that was being installed.
+        ensures left { D.keeps_model → IfErr result (λ e. MeansOnly D.may_leave_now (IsInstalled self.receiver) e.1) }
         // 122 comes only where the copying was broken, while the installation is there.
         ensures broken { IsSome self.receiver.installation → IfErr result (λ e. e.0 ≡ Refusal.Broken → self.broken ≡ true) }
         ensures cause { IfErr result (λ e. IfSome (disk_of self.receiver) (λ was. IsCaused (D.failures was) (D.failures e.1) e.0)) }
@@ -162,6 +164,8 @@ impl<D: Disk + Drop> Copying<D> {
             → IfOk result (λ ready. IfSome (disk_of self.receiver) (λ was. LeavesOnly D.moment D.may_have_left_since was ready.disk (IsMeantBy sb self.front volume))) }
         ensures any_moment_refused { D.keeps_model → (volume : List ℕ) → length volume ≡ 4096 * length self.sender.marks → (sb : Superblock) → IsCopyOf D.gives D.may_leave_now sb volume self
             → IfErr result (λ e. IfSome (disk_of self.receiver) (λ was. LeavesOnly D.moment D.may_have_left_since was e.1 (IsMeantBy sb self.front volume))) }
+        ensures installed { D.keeps_model → IfOk result (λ ready. (meaning : Meaning) → Means meaning (D.gives ready.disk) → IsInstalled self.receiver meaning) }
+        ensures left { D.keeps_model → IfErr result (λ e. MeansOnly D.may_leave_now (IsInstalled self.receiver) e.1) }
         ensures size { IfOk result (λ ready. IfSome (disk_of self.receiver) (λ was. D.size ready.disk ≡ D.size was)) }
         ensures size_refused { IfErr result (λ e. IfSome (disk_of self.receiver) (λ was. D.size e.1 ≡ D.size was)) }
         ensures there { IsSome (disk_of self.receiver) }
@@ -171,6 +175,7 @@ impl<D: Disk + Drop> Copying<D> {
         ensures done { IfOk result (λ ready. IfSome (disk_of self.receiver) (λ was. D.failures ready.disk ≡ D.failures was)) }
         ensures cause { IfErr result (λ e. IfSome (disk_of self.receiver) (λ was. IsCaused (D.failures was) (D.failures e.1) e.0)) }
     {
+        disks_mean_one();
         let front = self.front;
         let is_broken = self.broken;
         let end = self.sender.end(front);

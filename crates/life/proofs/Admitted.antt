@@ -121,12 +121,12 @@ module _ {S : Type 0} (about : S → About) where
   attaching_leads : (given : Result Bool stores.Refusal) (old new : Managed S) → Attaches given old.candidate new.candidate old.management new.management old.world → LeadsManager old.management new.management
   attaching_leads (Ok true) old new did = let (c, slot, was, now, due, tail, done) = did.attached refl in inr (done, ap is_record due)
   attaching_leads (Ok false) old new did = inl (did.idle refl).2
-  attaching_leads (Err refusal) old new did = let (told, disk, was, now, same) = did.refused in inl same
+  attaching_leads (Err refusal) old new did = let (told, r, slot, was, now, order, same) = did.refused in inl same
 
   attaching_counted : (given : Result Bool stores.Refusal) (old new : Managed S) → Attaches given old.candidate new.candidate old.management new.management old.world → old.candidate ≡ Counted → new.candidate ≡ Counted
   attaching_counted (Ok true) old new did counted = let (c, slot, was, now, due, tail, done) = did.attached refl in absurd (not_nobody old.candidate counted was)
   attaching_counted (Ok false) old new did counted = (did.idle refl).1 ∙ counted
-  attaching_counted (Err refusal) old new did counted = let (told, disk, was, now, same) = did.refused in absurd (not_nobody old.candidate counted was)
+  attaching_counted (Err refusal) old new did counted = let (told, r, slot, was, now, order, same) = did.refused in absurd (not_nobody old.candidate counted was)
 
   pub attaches_led : (given : Result Bool stores.Refusal) (old new : Managed S) → AttachesNew given old new → IsLed about old new
   attaches_led given old new is = record {

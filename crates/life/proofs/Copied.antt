@@ -124,7 +124,7 @@ module _ {S : Type 0} (about : S → About) (keeps : S → List ℕ → Type 0) 
   attached_so (Ok false) old m n candidate did copies v w s t moves shows stands runs shows_then stands_then (incarnation, copy) =
       (incarnation, stays_as given_of may_be_left about keeps (bytes_of old.world.chain) s t moves runs incarnation old.candidate candidate (did.idle refl).1 copy)
   attached_so (Err refusal) old m n candidate did copies v w s t moves shows stands runs shows_then stands_then copy =
-      let (told, disk, was, now, same) = did.refused in
+      let (told, r, slot, was, now, order, same) = did.refused in
       (0, subst (HasCopy given_of may_be_left about keeps (bytes_of old.world.chain) t 0) (sym now) tt)
 
   pub apart_attached : (given : Result Bool store.Refusal) (apart old : Managed S) (m n : Managing MemDisk) (candidate : Candidate S MemDisk) → apart ≡ old → Attaches given apart.candidate candidate m n apart.world

@@ -9,6 +9,7 @@ use Rattle.candidate.specs.declared.candidate.Candidate.TheVariants.{Copying, Co
 use Rattle.chain.specs.Chain.{Chained}
 use Rattle.chain.specs.Joining.{IsWithOne, joined_of}
 use Rattle.chain.specs.Opening.{recorded_in}
+use Rattle.chain.proofs.Cells.{all_left}
 use Rattle.chain.specs.Recording.{HaltsAt, IsNextOf, IsToldAt}
 use Rattle.chain_steps.specs.Steps.{stop}
 use Rattle.chain_steps.specs.declared.cause.Cause.TheVariants.{Memory}
@@ -33,8 +34,9 @@ use Rattle.world.specs.World.{Seen}
 use Rattle.world.specs.declared.told.Told.{Told}
 use Rattle.configurations.specs.Store as configs
 use Rattle.configurations.specs.Store.{IsSettledConfig}
+use Rattle.life.specs.Aside.{GrowsOutside}
 use Rattle.life.specs.Begun.{AreOnDisks}
-use Rattle.life.specs.Calls.{Abandons, ArmsConfig, BeginsNext, CountsSlotOut, EndsNext, IsSame, Joins, Removes, TellsRecord, is_counted}
+use Rattle.life.specs.Calls.{Abandons, ArmsConfig, BeginsNext, CountsSlotOut, EndsNext, Forgets, IsSame, Joins, Removes, TellsRecord, is_counted}
 use Rattle.life.specs.Does.{DoesDeed, DoesIt, Manages}
 use Rattle.life.specs.Managed.{AreDated, AreInStep, IsAmong, IsAtRest, IsConfigured, IsNewcomer, JoinsAsNew, Managed, MayStand, NoImpostor, config_part}
 use Rattle.life.specs.Plays.{DeedsLead}
@@ -50,6 +52,7 @@ use Rattle.life.proofs.Configured.{next_begins_configured, next_ends_configured,
 use Rattle.life.proofs.InStep.{abandoned_in_step, joins_in_step, led_in_step, next_begins_in_step, next_ends_in_step, not_writing, removes_in_step, rests_in_step, still_in_step}
 use Rattle.life.proofs.Joiners.{StaysJoined, does_joined, joined_at_place}
 use Rattle.life.proofs.Newcomers.{if_and}
+use Rattle.life.proofs.Outside.{outside_as, outside_stays}
 use Rattle.life.proofs.Owners.{StayOwn, at_place, does_stay, map_set, own, own_of, stay_changed, stay_same}
 use Rattle.life.proofs.Places.{get_either, of_mapped}
 use Rattle.life.proofs.Starting.{all_mapped}
@@ -151,16 +154,20 @@ IsNone w d = (bytes : List ℕ) → may_be_left d.disk bytes → (meaning : Mean
 abbrev pub IsOld : {S : Type 0} → Managed S → SlotDisk MemDisk → Type 0
 IsOld w d = (bytes : List ℕ) → may_be_left d.disk bytes → (meaning : Meaning) → Means meaning bytes → meaning.incarnation ≤ w.world.chain.recorded.epoch
 
-module _ {S : Type 0} (old new : Managed S) (grows : Grows old.world.chain new.world.chain) (same : new.outside ≡ old.outside) where
+module _ {S : Type 0} (old new : Managed S) (grows : Grows old.world.chain new.world.chain) (same : GrowsOutside old new) where
   none_still : All (IsOld old) old.outside → NoImpostor old → NoImpostor new
-  none_still dated none = subst (All (IsNone new)) (sym same) (λ k d within bytes left meaning means r stands (seat, here).
+  none_still dated none = subst (All (IsNone new)) (sym same.are) (All-append (IsNone new) old.outside same.more
+      (λ k d within bytes left meaning means r stands (seat, here).
       elim (grows.members r stands seat (recorded_as meaning) here) [
         | inl newer ↦ let le = dated k d within bytes left meaning means in absurd (omega (arith, le, newer))
         | inr (before, stood, at, there) ↦ none k d within bytes left meaning means before stood (at, there)
       ])
+      (λ k d within bytes left meaning means r stands among. same.unmeant k d within bytes left meaning means))
 
   old_still : All (IsOld old) old.outside → All (IsOld new) new.outside
-  old_still dated = subst (All (IsOld new)) (sym same) (λ k d within bytes left meaning means. let le = dated k d within bytes left meaning means in omega (arith, le, grows.epoch))
+  old_still dated = subst (All (IsOld new)) (sym same.are) (All-append (IsOld new) old.outside same.more
+      (λ k d within bytes left meaning means. let le = dated k d within bytes left meaning means in omega (arith, le, grows.epoch))
+      (λ k d within bytes left meaning means. absurd (same.unmeant k d within bytes left meaning means)))
 
 module _ {S : Type 0} (about : S → About) where
   -- ---- members' disks
@@ -210,7 +217,7 @@ module _ {S : Type 0} (about : S → About) where
 
   -- ---- the chain's records stay
 
-  module _ (old new : Managed S) (same : new.outside ≡ old.outside) (was : Holds old) where
+  module _ (old new : Managed S) (same : GrowsOutside old new) (was : Holds old) where
     -- who joins does so still
     newcomer_stays : new.world.joiner ≡ old.world.joiner → (old.candidate ≡ Counted → new.candidate ≡ Counted) → new.world.chain.geometry ≡ old.world.chain.geometry → new.world.chain.recorded ≡ old.world.chain.recorded
         → new.world.chain.writing ≡ old.world.chain.writing → JoinsAsNew about new
@@ -292,7 +299,7 @@ module _ {S : Type 0} (about : S → About) where
   slot_joined slot told old new (inr (inl (at, refusal, there, moves, whole, none))) = ap (λ w. w.joiner) moves.are
   slot_joined slot told old new (inr (inr (nobody, same, whole, none))) = ap (λ w. w.joiner) same
 
-  module _ (old new : Managed S) (same : new.outside ≡ old.outside) (was : Holds old) where
+  module _ (old new : Managed S) (same : GrowsOutside old new) (was : Holds old) where
     -- the manager alone changes
     manager_changes : new.world ≡ old.world → new.candidate ≡ old.candidate → AreInStep new → IsConfigured new → Holds new
     manager_changes world candidate in_step configured =
@@ -309,6 +316,25 @@ module _ {S : Type 0} (about : S → About) where
           | inl are ↦ same_chain old new was.configured (ap (λ w. w.chain.recorded) is.world) (ap (λ w. w.chain.writing) is.world) (ap (λ m. m.config) are) (ap (λ m. m.disk) are)
           | inr noted ↦ same_chain old new was.configured (ap (λ w. w.chain.recorded) is.world) (ap (λ w. w.chain.writing) is.world) (ap (λ m. m.config) noted) (ap (λ m. m.disk) noted)
         ])
+
+    -- a removed member is forgotten: the others have what they had
+    forgets_hold : (at : ℕ) (done : Bool) → Forgets at done old new → Holds new
+    forgets_hold at true is =
+        let (store, may, did) = (is.forgotten refl).1 in
+        let chain = did.forgotten.are in
+        let recorded : new.world.chain.recorded ≡ old.world.chain.recorded = ap (λ c. c.recorded) chain in
+        let writing : new.world.chain.writing ≡ old.world.chain.writing = ap (λ c. c.writing) chain in
+        let geometry : new.world.chain.geometry ≡ old.world.chain.geometry = ap (λ c. c.geometry) chain in
+        let grows = grows_still old.world.chain new.world.chain recorded writing in
+        record {
+          in_step = still_in_step old new recorded writing (ap (λ m. m.manager) is.management) was.in_step;
+          configured = same_chain old new was.configured recorded writing (ap (λ m. m.config) is.management) (ap (λ m. m.disk) is.management);
+          fit = subst AreFit (sym chain) (all_left (λ m. IsFit old.world.chain.geometry old.world.chain.recorded.epoch (own_of about m)) old.world.chain.members at was.fit);
+          joins = newcomer_stays old new same was (ap (λ w. w.joiner) did.are) (λ counted. is.candidate ∙ counted) geometry recorded writing;
+          none = none_still old new grows same was.old was.none;
+          old = old_still old new grows same was.old;
+        }
+    forgets_hold at false is = hold_same old new same was ((is.idle refl).1, is.management) (λ counted. is.candidate ∙ counted)
 
     -- the disk is counted: it joins
     counts_in_hold : (done : Bool) → Counts about done old.candidate new.candidate old.management new.management old.world new.world → Holds new
@@ -486,10 +512,11 @@ module _ {S : Type 0} (about : S → About) where
   -- ---- deeds
 
   module _ (premise : Type 0) (keeps : S → List ℕ → Type 0) (is_pending : S → ℕ → Type 0) (may_leave_now : S → List ℕ → Type 0) (moment : S → ℕ) (left_since : S → ℕ → List ℕ → Type 0) (failures : S → ℕ) (disk : S → MemDisk) where
-    manages_hold : (act : ManagerAct) (answer : Answer) (old new : Managed S) → new.outside ≡ old.outside → Manages premise about keeps is_pending may_leave_now moment left_since failures act answer old new → Holds old → Holds new
+    manages_hold : (act : ManagerAct) (answer : Answer) (old new : Managed S) → GrowsOutside old new → Manages premise about keeps is_pending may_leave_now moment left_since failures act answer old new → Holds old → Holds new
     manages_hold (manages.Remove slot) answer old new same (given, tells, did) was = removes_hold old new same was slot given did
     manages_hold (manages.Join slot) answer old new same (given, tells, did) was = joins_hold old new same was slot given did
-    manages_hold manages.Attach answer old new same (given, tells, did) was = hold_ordered old new same was (attaches_led about given old new did)
+    manages_hold (manages.Forget at) answer old new same (done, tells, did) was = forgets_hold old new same was at done did
+    manages_hold (manages.Attach event) answer old new same (given, tells, did) was = hold_ordered old new same was (attaches_led about given old new did)
     manages_hold manages.Copy answer old new same (given, tells, did) was = hold_ordered old new same was (copies_led about premise keeps is_pending may_leave_now moment left_since failures given old new did)
     manages_hold manages.Hold answer old new same (given, tells, did) was = hold_ordered old new same was (holds_led about given old new did)
     manages_hold manages.Rest answer old new same (given, tells, did) was = hold_ordered old new same was (rests_led about premise keeps is_pending may_leave_now moment left_since failures given old new did)
@@ -501,7 +528,7 @@ module _ {S : Type 0} (about : S → About) where
     manages_hold manages.Tell answer old new same (given, tells, did) was = tells_hold old new same was given did
 
     -- the script of the configuration's disk has one more event
-    arms_hold : (event : Event) (given : Result (Unit {0}) AllocError) (old new : Managed S) → new.outside ≡ old.outside → ArmsConfig event given old new → Holds old → Holds new
+    arms_hold : (event : Event) (given : Result (Unit {0}) AllocError) (old new : Managed S) → GrowsOutside old new → ArmsConfig event given old new → Holds old → Holds new
     arms_hold event given old new same is was =
         manager_changes old new same was is.world is.candidate (still_in_step old new (ap (λ w. w.chain.recorded) is.world) (ap (λ w. w.chain.writing) is.world) is.manager was.in_step) (record {
           part = ap (λ (s : configs.State). s.pair.part) is.config ∙ was.configured.part;
@@ -516,7 +543,7 @@ module _ {S : Type 0} (about : S → About) where
           ];
         })
 
-    does_hold : (deed : Deed) (answer : Answer) (old new : Managed S) → new.outside ≡ old.outside → DoesIt premise about keeps is_pending may_leave_now moment left_since failures disk deed answer old new → Holds old → Holds new
+    does_hold : (deed : Deed) (answer : Answer) (old new : Managed S) → GrowsOutside old new → DoesIt premise about keeps is_pending may_leave_now moment left_since failures disk deed answer old new → Holds old → Holds new
     does_hold (deeds.Step step) answer old new same (is, management, candidate) was =
         hold_led old new same was (does_stay about premise keeps is_pending may_leave_now moment left_since failures step answer old.world new.world is) management
         (does_joined about premise keeps is_pending may_leave_now moment left_since failures step answer old.world new.world is) (λ counted. candidate ∙ counted)
@@ -531,7 +558,7 @@ module _ {S : Type 0} (about : S → About) where
     deed_holds : (deed : Deed) (answer : Answer) (old new : Managed S) → DoesDeed premise about keeps is_pending may_leave_now moment left_since failures disk deed answer old new → Holds old → Holds new
     deed_holds deed answer old new is was =
         let same : new.outside ≡ is.unnoted.outside = ap (λ w. w.outside) is.same in
-        hold_same is.unnoted new same (does_hold deed answer old is.unnoted (sym same ∙ is.outside) is.did was) (ap (λ w. w.world) is.same, ap (λ w. w.management) is.same)
+        hold_same is.unnoted new (outside_stays is.unnoted new same) (does_hold deed answer old is.unnoted (outside_as old new is.unnoted (sym same) is.outside) is.did was) (ap (λ w. w.world) is.same, ap (λ w. w.management) is.same)
         (noted_counted new.world.chain is.unnoted.candidate new.candidate is.noted)
 
     pub deeds_hold : (deeds : List Deed) (answers : List Answer) (old new : Managed S) → DeedsLead premise about keeps is_pending may_leave_now moment left_since failures disk deeds answers old new → Holds old → Holds new
@@ -566,6 +593,10 @@ module _ {S : Type 0} (about : S → About) where
     abandons_sizes (Ok done) old new is = (given_up about is.given_up.0 old.world new.world is.given_up.1).geometry
     abandons_sizes (Err e) old new is = ap (λ w. w.chain.geometry) is.unchanged.0.0
 
+    forgets_sizes : (at : ℕ) (done : Bool) (old new : Managed S) → Forgets at done old new → new.world.chain.geometry ≡ old.world.chain.geometry
+    forgets_sizes at true old new is = let (store, may, did) = (is.forgotten refl).1 in ap (λ c. c.geometry) did.forgotten.are
+    forgets_sizes at false old new is = ap (λ w. w.chain.geometry) (is.idle refl).1
+
     counts_sizes : (done : Bool) (old new : Managed S) → CountsSlotOut done old new → new.world.chain.geometry ≡ old.world.chain.geometry
     counts_sizes true old new is = ap (λ c. c.geometry) (is.out refl).moves.did.1
     counts_sizes false old new is = ap (λ w. w.chain.geometry) (is.idle refl).1.0
@@ -577,7 +608,8 @@ module _ {S : Type 0} (about : S → About) where
     manages_sizes : (act : ManagerAct) (answer : Answer) (old new : Managed S) → Manages premise about keeps is_pending may_leave_now moment left_since failures act answer old new → new.world.chain.geometry ≡ old.world.chain.geometry
     manages_sizes (manages.Remove slot) answer old new (given, tells, did) = ap (λ w. w.chain.geometry) did.world
     manages_sizes (manages.Join slot) answer old new (given, tells, did) = ap (λ w. w.chain.geometry) did.world
-    manages_sizes manages.Attach answer old new (given, tells, did) = (attaches_led about given old new did).stay.geometry
+    manages_sizes (manages.Forget at) answer old new (done, tells, did) = forgets_sizes at done old new did
+    manages_sizes (manages.Attach event) answer old new (given, tells, did) = (attaches_led about given old new did).stay.geometry
     manages_sizes manages.Copy answer old new (given, tells, did) = (copies_led about premise keeps is_pending may_leave_now moment left_since failures given old new did).stay.geometry
     manages_sizes manages.Hold answer old new (given, tells, did) = (holds_led about given old new did).stay.geometry
     manages_sizes manages.Rest answer old new (given, tells, did) = (rests_led about premise keeps is_pending may_leave_now moment left_since failures given old new did).stay.geometry

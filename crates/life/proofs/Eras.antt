@@ -1,8 +1,9 @@
 -- One era after another: lemmas.
 use Rattle.std.proofs.Common.{◌≡◌, ℕ, List, [], ◌∷◌, ◌++◌, map, refl, ap, sym, subst, ◌∙◌, inl, inr}
-use Rattle.std.specs.Prelude.{◌⊎◌, ◌*◌, All, Some, slice_get, zip}
+use Rattle.std.specs.Prelude.{◌⊎◌, ◌*◌, All, None, Option, Some, slice_get, zip}
 use Rattle.std.specs.List.{range_with_len}
-use Rattle.std.specs.Option.{ForSome}
+use Rattle.std.specs.Option.{ForSome, option_to_list}
+use Rattle.std.proofs.lemmas.List.Elements.{All-append, All-cons, All-nil}
 use Rattle.disk_model.specs.Memory.{given_of}
 use Rattle.disk_model.specs.declared.memory.MemDisk.{MemDisk}
 use Rattle.flush_barrier.specs.declared.session_id.SessionId.{SessionId}
@@ -14,7 +15,7 @@ use Rattle.volume.specs.declared.geometry.Geometry.{Geometry}
 use Rattle.chain_model.specs.Chain.{StandsFor}
 use Rattle.chain_model.specs.Laws.{FirstChain, IsOnEachDisk, RestartsChain, RestartsFromJoiner}
 use Rattle.chain_model.specs.Life.{HappeningsAreOfOneVolume}
-use Rattle.world_model.specs.Machine.{May, Restart, State, after, shown, start}
+use Rattle.world_model.specs.Machine.{May, Restart, State, after, machine_volume, shown, start}
 use Rattle.chain_model.specs.Refusing.{RefusalsHavePleas, StopsHaveCauses}
 use Rattle.chain.specs.Chain.{bytes_of}
 use Rattle.chain.specs.Member.{HasOwnDisk, Linked}
@@ -22,8 +23,9 @@ use Rattle.clients.specs.Clients.{AreSessions}
 use Rattle.configurations.specs.Record.{Record}
 use Rattle.clients.specs.Laws.{FirstHasNone, OutputsAreLawful}
 use Rattle.world.specs.World.{IsJoined, Seen}
+use Rattle.life.specs.Aside.{GrowsOutside}
 use Rattle.life.specs.Begun.{BeginsWith, export_of, first_about, stores_of}
-use Rattle.life.specs.Headline.{AreRefusedSo, EraLeads, ErasLead, HasDisk, HasWhatIsOwed, IsOneLife, first_record}
+use Rattle.life.specs.Headline.{Agree, AreRefusedSo, EraLeads, ErasLead, HasDisk, HasWhatIsOwed, IsOneLife, first_record, owners_of}
 use Rattle.life.specs.Lived.{AreOfOneVolume, IsFresh}
 use Rattle.life.specs.Managed.{AreInStep, IsAtRest, IsConfigured, Managed, MayStand, NoImpostor}
 use Rattle.life.specs.Plays.{DeedsLead, GoesOnFrom}
@@ -34,6 +36,7 @@ use Rattle.life.proofs.Lives.{each_disk, era_lawful, exported_as, in_own, joiner
 use Rattle.life.proofs.Passing.{goes_plays}
 use Rattle.life.proofs.Pleas.{refused_so}
 use Rattle.life.proofs.Places.{all_at, all_from}
+use Rattle.life.proofs.Starting.{all_mapped}
 
 module _ {S : Type 0} (premise : Type 0) (about : S → About) (keeps : S → List ℕ → Type 0) (is_pending : S → ℕ → Type 0) (may_leave_now : S → List ℕ → Type 0) (moment : S → ℕ)
     (left_since : S → ℕ → List ℕ → Type 0) (failures : S → ℕ) (disk : S → MemDisk) where
@@ -54,6 +57,32 @@ module _ {S : Type 0} (premise : Type 0) (about : S → About) (keeps : S → Li
   abbrev JoinerHasOwed : ℕ → State → Seen S → Type 0
   JoinerHasOwed size s w = ForSome w.joiner (λ store. (r : Record) → MayStand w.chain r → HasDisk r (about store) → (bytes : List ℕ) → may_leave_now store bytes → HasWhatIsOwed size s (about store) bytes)
 
+  -- so has each of these
+  abbrev AllHaveOwed : ℕ → State → Seen S → Type 0
+  AllHaveOwed size s w = All (λ store. (r : Record) → MayStand w.chain r → HasDisk r (about store) → (bytes : List ℕ) → may_leave_now store bytes → HasWhatIsOwed size s (about store) bytes) (owners_of w)
+
+  have_owed : (size : ℕ) (s : State) (w : Seen S) → All (HasOwed size s w) w.chain.members → JoinerHasOwed size s w → AllHaveOwed size s w
+  have_owed size s w disks joiner =
+      All-append Owes (stores_of w) (option_to_list w.joiner) (all_mapped Owes (λ m. m.node.store) w.chain.members disks) (of_joiner w.joiner joiner)
+    where
+      Owes : S → Type 0
+      Owes store = (r : Record) → MayStand w.chain r → HasDisk r (about store) → (bytes : List ℕ) → may_leave_now store bytes → HasWhatIsOwed size s (about store) bytes
+
+      of_joiner : (o : Option S) → ForSome o Owes → All Owes (option_to_list o)
+      of_joiner None so = All-nil Owes
+      of_joiner (Some store) so = All-cons Owes store [] (so store refl) (All-nil Owes)
+
+  -- any two of them that mean one front mean the same volume
+  agree_all : ((one other : Meaning) (bytes : List ℕ) → Means one bytes → Means other bytes → one ≡ other) → (size : ℕ) (s : State) (w : Seen S) → AllHaveOwed size s w
+      → (r : Record) → MayStand w.chain r → All (λ one. All (Agree about may_leave_now r one) (owners_of w)) (owners_of w)
+  agree_all one_meaning size s w have r stood = λ i d within j e inside one two x y x_left y_left m n m_means n_means same.
+      let a = have i d within r stood one x x_left in
+      let b = have j e inside r stood two y y_left in
+      let first = one_meaning m _ x m_means a.means in
+      let second = one_meaning n _ y n_means b.means in
+      let front : a.front ≡ b.front = sym (ap (λ (k : Meaning). k.front) first) ∙ same ∙ ap (λ (k : Meaning). k.front) second in
+      ap (λ (k : Meaning). k.volume) first ∙ ap (machine_volume size s) front ∙ sym (ap (λ (k : Meaning). k.volume) second)
+
   -- the disk that the chain went on from is a member's, or that of who joined
   abbrev pub IsSource : Managed S → (place : ℕ) → List ℕ → Type 0
   IsSource mid place bytes =
@@ -67,7 +96,7 @@ module _ {S : Type 0} (premise : Type 0) (about : S → About) (keeps : S → Li
       → DeedsLead premise about keeps is_pending may_leave_now moment left_since failures disk era.deeds.items answers old mid
       → AreOfOneVolume about keeps may_leave_now (zip era.deeds.items answers) dropped old.world mid.world
       → (goes : GoesOnFrom about keeps may_leave_now disk era mid new) → IsSource mid goes.from.place (given_of goes.from.source.disk)
-      → mid.outside ≡ old.outside → NoImpostor mid
+      → GrowsOutside old mid → NoImpostor mid
       → (export : Export) (s : State) → Fresh export old.world s → (t : State) × Leads export era answers old s new t × Fresh export new.world t
   era_leads happenings pleas causes restarts from_joiner means_now each_has first lawful one_meaning era answers dropped old mid new joined joined_then are owners configured in_step played pass goes source outside none export s fresh =
       let size : export.size ≡ bytes_of old.world.chain = ap (λ e. e.size) (sym fresh.has) ∙ joined.size in
@@ -87,7 +116,12 @@ module _ {S : Type 0} (premise : Type 0) (about : S → About) (keeps : S → Li
         | inr (store, joined, left) ↦
             recovers_joiner about keeps may_leave_now from_joiner means_now mid.world one.w plays.1 store (given_of goes.from.source.disk) found.meaning new.world one_meaning one.shows stands_then joined left found.means (ap export_of goes.sizes) found.begins
       ] in
-      let (may, later) = both in (
+      let (may, later) = both in
+      let disks = subst (λ n. All (HasOwed n plays.1 mid.world) mid.world.chain.members) (stays ∙ sym size)
+      (all_from (HasOwed (bytes_of mid.world.chain) plays.1 mid.world) mid.world.chain.members
+      (λ at x there r stood has bytes left. each_disk about keeps may_leave_now each_has mid.world one.w plays.1 one.shows stands_then at x there
+      (may_be_in mid.world.chain x r stood (in_own about r x (all_at (HasOwnDisk about) mid.world.chain.members at x owners there) has)) bytes left)) in
+      let joiner = subst (λ n. JoinerHasOwed n plays.1 mid.world) (stays ∙ sym size) (λ store joined r stood has bytes left. joiner_disk about keeps may_leave_now means_now mid.world one.w plays.1 one.shows stands_then store joined bytes left) in (
         after plays.1 (Restart found.meaning.front),
         record {
           end = mid;
@@ -102,11 +136,9 @@ module _ {S : Type 0} (premise : Type 0) (about : S → About) (keeps : S → Li
               (refused_so about keeps may_leave_now pleas causes happenings old.world mid.world fresh.view one.w s plays.1 one.events fresh.shows one.shows stands plays.4 fresh.runs one.goes);
           in_step = in_step;
           config = configured.left;
-          disks = subst (λ n. All (HasOwed n plays.1 mid.world) mid.world.chain.members) (stays ∙ sym size)
-              (all_from (HasOwed (bytes_of mid.world.chain) plays.1 mid.world) mid.world.chain.members
-              (λ at x there r stood has bytes left. each_disk about keeps may_leave_now each_has mid.world one.w plays.1 one.shows stands_then at x there
-              (may_be_in mid.world.chain x r stood (in_own about r x (all_at (HasOwnDisk about) mid.world.chain.members at x owners there) has)) bytes left));
-          joiner = subst (λ n. JoinerHasOwed n plays.1 mid.world) (stays ∙ sym size) (λ store joined r stood has bytes left. joiner_disk about keeps may_leave_now means_now mid.world one.w plays.1 one.shows stands_then store joined bytes left);
+          disks = disks;
+          joiner = joiner;
+          agree = λ r stood. agree_all one_meaning export.size plays.1 mid.world (have_owed export.size plays.1 mid.world disks joiner) r stood;
           outside = outside;
           no_impostor = none;
           goes_on = goes;

@@ -3,7 +3,7 @@ use Rattle.std.proofs.Common.{◌≡◌, ◌≢◌, ℕ, zero, suc, ◌<◌, ◌
 use Rattle.std.specs.Prelude.{◌⊎◌, All, AllPairs, None, Option, Some, option_map, remove, slice_get}
 use Rattle.std.specs.Option.{option_to_list}
 use Rattle.std.proofs.lemmas.Bool.{cases_lt}
-use Rattle.std.proofs.lemmas.List.Elements.{All-nil}
+use Rattle.std.proofs.lemmas.List.Elements.{All-append, All-nil}
 use Rattle.std.proofs.lemmas.Option.{get_or_from_slice_get, same_Some, slice_get-map, slice_get_within}
 use Rattle.configurations.specs.Record.{Record}
 use Rattle.configurations.specs.declared.member.Member.{Member}
@@ -33,6 +33,7 @@ use Rattle.life.proofs.Beside.{others_of, remove_is, zip_long, zip_there}
 use Rattle.life.proofs.Chosen.{IsTheSource, source_is}
 use Rattle.life.proofs.Deeds.{Holds, IsNone, IsOld, dated_members, on_disks}
 use Rattle.life.proofs.Newcomers.{joiner_shown}
+use Rattle.life.proofs.Outside.{IsUnmeant, aside_unmeant}
 use Rattle.life.proofs.Places.{all_at, all_from, get_either, of_mapped}
 use Rattle.life.proofs.Returning.{cut_of_joiner, cut_of_member}
 use Rattle.life.proofs.Starting.{IsStore, about_of_store, disk_in, first_all, keeps_volume, leaves_now}
@@ -86,6 +87,10 @@ first_dated w geometry n slots recorded nothing = record {
 -- ---- a cut
 
 module _ (mid : Managed IsStore) (cut : Cut) (disks : List (SlotDisk MemDisk)) (config : MemDisk) (cuts : AreCut about_of_store leaves_now disk_in cut mid disks config) where
+  -- what was being given the volume means nothing
+  unmeant : All IsUnmeant cuts.aside
+  unmeant = aside_unmeant mid.candidate cuts.aside cuts.set_aside
+
   -- the store of a member at this place
   abbrev pub IsMembers : ℕ → IsStore → Type 0
   IsMembers place store = (m : Linked IsStore) × (slice_get mid.world.chain.members place ≡ Some m) × (m.node.store ≡ store)
@@ -103,7 +108,7 @@ module _ (mid : Managed IsStore) (cut : Cut) (disks : List (SlotDisk MemDisk)) (
   pub record WasOutside (d : SlotDisk MemDisk) : Type 0 where
     pub was : SlotDisk MemDisk
     pub at : ℕ
-    pub here : slice_get mid.outside at ≡ Some was
+    pub here : slice_get (mid.outside ++ cuts.aside) at ≡ Some was
     pub cut_is : IsCut cut was.disk d.disk
 
   pub whose : (place : ℕ) (d : SlotDisk MemDisk) → slice_get disks place ≡ Some d → IsOwned place d ⊎ WasOutside d
@@ -118,7 +123,7 @@ module _ (mid : Managed IsStore) (cut : Cut) (disks : List (SlotDisk MemDisk)) (
           let long = zip_long (λ (x : Linked IsStore) left. IsCutAt about_of_store leaves_now disk_in cut x.node.store left) mid.world.chain.members cuts.of_members cuts.members_cut in
           inl (record { store = store; cut_is = is.0; whose = inr (omega (arith, at, first, long), joined) })
       | inr (k, place_is, out) ↦
-          let (was, here, is) = zip_there (IsCutOutside cut) mid.outside cuts.outside k d cuts.outside_cut out in
+          let (was, here, is) = zip_there (IsCutOutside cut) (mid.outside ++ cuts.aside) cuts.outside k d cuts.outside_cut out in
           inr (record { was = was; at = k; here = here; cut_is = is.0 })
     ]
   ]
@@ -130,7 +135,7 @@ module _ (mid : Managed IsStore) (cut : Cut) (disks : List (SlotDisk MemDisk)) (
   -- one that was outside is none of a member that may be recorded
   pub outside_is_none : NoImpostor mid → (d : SlotDisk MemDisk) → WasOutside d → (meaning : Meaning) → Means meaning (given_of d.disk) → (r : Record) → MayStand mid.world.chain r → IsAmong r meaning.slot meaning.incarnation → ⊥
   outside_is_none none d o meaning means r stands among =
-      all_at (IsNone mid) mid.outside o.at o.was none o.here
+      all_at (IsNone mid) (mid.outside ++ cuts.aside) o.at o.was (All-append (IsNone mid) mid.outside cuts.aside none (λ k d within bytes left meaning means r stands among. unmeant k d within bytes left meaning means)) o.here
       (given_of d.disk) o.cut_is.left meaning means r stands among
 
   pub source_is_owned : NoImpostor mid → (returned : List ℕ) (r : Record) (place : ℕ) → MayStand mid.world.chain r → (s : IsTheSource returned disks r place) → IsOwned place s.disk
@@ -185,7 +190,7 @@ module _ (mid : Managed IsStore) (cut : Cut) (disks : List (SlotDisk MemDisk)) (
           let (is, geometry, slot, incarnation) = owned_means place d o in
           let e : meaning.incarnation ≡ (about_of_store o.store).incarnation = ap (λ (x : Meaning). x.incarnation) (one_meaning meaning is.meaning (given_of d.disk) means is.means) ∙ incarnation in
           let le = owned_dated place d o in omega (arith, e, le)
-      | inr o ↦ let le = all_at (IsOld mid) mid.outside o.at o.was holds.old o.here (given_of d.disk) o.cut_is.left meaning means in omega (arith, le)
+      | inr o ↦ let le = all_at (IsOld mid) (mid.outside ++ cuts.aside) o.at o.was (All-append (IsOld mid) mid.outside cuts.aside holds.old (λ k d within bytes left meaning means. absurd (unmeant k d within bytes left meaning means))) o.here (given_of d.disk) o.cut_is.left meaning means in omega (arith, le)
     ]
 
     -- ---- and the others aren't the source's

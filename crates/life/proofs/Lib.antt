@@ -18,6 +18,7 @@ mod Lives
 mod Looking
 mod Newcomers
 mod Orders
+mod Outside
 mod Owners
 pub mod Passing
 mod Places

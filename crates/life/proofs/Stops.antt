@@ -4,6 +4,10 @@ use Rattle.std.specs.Prelude.{All, IfSome, option_map, slice_get}
 use Rattle.std.proofs.lemmas.Bool.{cases_lt}
 use Rattle.std.proofs.lemmas.List.{length-map}
 use Rattle.std.proofs.lemmas.Option.{get_or_from_slice_get, same_Some, slice_get-map, slice_get_within}
+use Rattle.candidate.specs.Orders.{Notes}
+use Rattle.candidate.specs.declared.candidate.Candidate.{Candidate}
+use Rattle.candidate.specs.declared.candidate.Candidate.TheVariants.{Copying, Counted, Nobody, Refused, Whole}
+use Rattle.chain.specs.Chain.{Chained}
 use Rattle.chain.specs.Member.{Linked}
 use Rattle.disk_model.specs.Memory.{has_stopped}
 use Rattle.disk_model.specs.declared.memory.MemDisk.{MemDisk}
@@ -14,7 +18,7 @@ use Rattle.life.specs.Begun.{AllGo, stores_of}
 use Rattle.life.specs.Does.{DoesDeed}
 use Rattle.life.specs.Managed.{Managed}
 use Rattle.life.specs.Played.{fed_by}
-use Rattle.life.specs.Plays.{HasMetStop, MemberMetStop}
+use Rattle.life.specs.Plays.{HasMetStop, MemberMetStop, RefusedByStop}
 use Rattle.life.specs.declared.answer.Answer.{Answer}
 use Rattle.life.specs.declared.era.Deed.{Deed}
 use Rattle.life.specs.declared.era.Deed.TheVariants as deeds
@@ -63,15 +67,26 @@ none_of_all disk w go met =
     let no : false ≡ true = sym runs ∙ met.stopped in absurd (cc)
 
 -- where no disk has stopped none was met
-pub none_met : {S : Type 0} (disk : S → MemDisk) (w : Managed S) → AllGo disk w → HasMetStop disk w → ⊥
-none_met disk w go (inl met) = none_of_all disk w.world go.members met
-none_met disk w go (inr met) = let no : false ≡ true = sym go.config ∙ met in absurd (cc)
+pub none_met : {S : Type 0} (disk : S → MemDisk) (w : Managed S) → AllGo disk w → w.candidate ≡ Nobody → HasMetStop disk w → ⊥
+none_met disk w go nobody (inl met) = none_of_all disk w.world go.members met
+none_met disk w go nobody (inr (inl met)) = let no : false ≡ true = sym go.config ∙ met in absurd (cc)
+none_met {S = S} disk w go nobody (inr (inr met)) = subst (λ (x : Candidate S MemDisk). RefusedByStop x) nobody met
 
--- nor by what leaves the chain and the configuration's disk as they were
-met_before : {S : Type 0} (disk : S → MemDisk) (old new : Managed S) → new.world.chain ≡ old.world.chain → new.management ≡ old.management → HasMetStop disk new → HasMetStop disk old
-met_before disk old new same management (inl met) =
+-- a disk that refused is that still where another is noted
+noted_refused : {S : Type 0} (chain : Chained S) (old new : Candidate S MemDisk) → Notes chain old new → RefusedByStop new → RefusedByStop old
+noted_refused {S = S} chain Nobody new notes met = subst (λ (x : Candidate S MemDisk). RefusedByStop x) notes met
+noted_refused {S = S} chain (Copying c) new (inl (its, (d, is, noted))) met = subst (λ (x : Candidate S MemDisk). RefusedByStop x) is met
+noted_refused {S = S} chain (Copying c) new (inr (not, is)) met = subst (λ (x : Candidate S MemDisk). RefusedByStop x) is met
+noted_refused {S = S} chain (Whole w) new notes met = subst (λ (x : Candidate S MemDisk). RefusedByStop x) notes met
+noted_refused {S = S} chain Counted new notes met = subst (λ (x : Candidate S MemDisk). RefusedByStop x) notes met
+noted_refused {S = S} chain (Refused r) new notes met = subst (λ (x : Candidate S MemDisk). RefusedByStop x) notes met
+
+-- nor by what leaves the chain, the configuration's disk and the one on its way as they were
+met_before : {S : Type 0} (disk : S → MemDisk) (old new : Managed S) → new.world.chain ≡ old.world.chain → new.management ≡ old.management → (RefusedByStop new.candidate → RefusedByStop old.candidate) → HasMetStop disk new → HasMetStop disk old
+met_before disk old new same management candidate (inl met) =
     inl (record { at = met.at; store = met.store; here = ap (λ c. slice_get (map (λ m. m.node.store) c.members) met.at) (sym same) ∙ met.here; stopped = met.stopped })
-met_before disk old new same management (inr met) = inr (ap (λ m. has_stopped m.disk) (sym management) ∙ met)
+met_before disk old new same management candidate (inr (inl met)) = inr (inl (ap (λ m. has_stopped m.disk) (sym management) ∙ met))
+met_before disk old new same management candidate (inr (inr met)) = inr (inr (candidate met))
 
 module _ {S : Type 0} (premise : Type 0) (about : S → About) (keeps : S → List ℕ → Type 0) (is_pending : S → ℕ → Type 0) (may_leave_now : S → List ℕ → Type 0) (moment : S → ℕ)
     (left_since : S → ℕ → List ℕ → Type 0) (failures : S → ℕ) (disk : S → MemDisk) where
@@ -82,7 +97,8 @@ module _ {S : Type 0} (premise : Type 0) (about : S → About) (keeps : S → Li
   unfed (deeds.Step (Bytes session piece)) answer old new is runs met id =
       let ((given, tells, did), same, still) = is.did in
       let chain = takes_in about premise keeps is_pending may_leave_now moment left_since failures session piece.items given old.world is.unnoted.world did in
-      absurd (runs (met_before disk old new (ap (λ w. w.world.chain) is.same ∙ chain) (ap (λ w. w.management) is.same ∙ same) met))
+      absurd (runs (met_before disk old new (ap (λ w. w.world.chain) is.same ∙ chain) (ap (λ w. w.management) is.same ∙ same)
+      (λ refused. subst (λ (x : Candidate S MemDisk). RefusedByStop x) still (noted_refused new.world.chain is.unnoted.candidate new.candidate is.noted refused)) met))
   unfed (deeds.Step (End session)) answer old new does runs met id = refl
   unfed (deeds.Step (HandOut session)) answer old new does runs met id = refl
   unfed (deeds.Step (Member at act)) answer old new does runs met id = refl

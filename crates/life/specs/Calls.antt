@@ -1,5 +1,5 @@
 -- The calls of a world: what each does, with what it gives.
-use Rattle.std.specs.Prelude.{◌≡◌, ◌≢◌, ◌⊎◌, ◌↔◌, ℕ, Bool, true, false, Option, None, Some, Result, Err, IfErr, IfNone, IfOk, IfSome, IsErrOf, IsOk, IsSome, OnErr, OnOk, List, [], ◌∷◌, ◌++◌, length, slice_get}
+use Rattle.std.specs.Prelude.{◌≡◌, ◌≢◌, ◌⊎◌, ◌↔◌, ◌≤◌, ℕ, Bool, true, false, Option, None, Some, Result, Err, IfErr, IfNone, IfOk, IfSome, IsErrOf, IsOk, IsSome, OnErr, OnOk, List, [], ◌∷◌, ◌++◌, length, slice_get}
 use Rattle.chain.specs.Arming.{HasArmed, HasNewScript, HasOldScript}
 use Rattle.chain.specs.Chain.{Chained, Changes, RestsAt, bytes_of}
 use Rattle.chain.specs.Commits.{EndsAt, HasBegunCommits, HasCheckpointed, HasEndedCommit, HasNoCommit, HasNoGroup, HasNoNumber, HasStoppedTold, HasTicked, IsOutOfTurn, IsUsedUpAt, LeavesAt, PostsAt, PostsNone}
@@ -43,6 +43,7 @@ use Rattle.nbd_session.specs.Progress.{is_over}
 use Rattle.nbd_session.specs.declared.refusal.Refusal as session
 use Rattle.nbd_session.specs.declared.refusal.Refusal.TheVariants.{SessionOver}
 use Rattle.std.specs.declared.alloc.AllocError.{AllocError}
+use Rattle.world.specs.Forgetting.{HasForgotten, MayForget}
 use Rattle.world.specs.Joining.{BeginsJoin, BeginsNoJoin, EndsJoin, EndsNoJoin, GivesUp, HasOnlyRecorded}
 use Rattle.world.specs.Management.{BeginsNone, CountsNone, CountsOut, EndsNone, HasBegun, HasEnded, HoldsWritten, TellsNext, TellsNobody, noted}
 use Rattle.world.specs.Reception.{Feeds, Receives}
@@ -50,7 +51,9 @@ use Rattle.world.specs.Taking.{Takes}
 use Rattle.world.specs.Telling.{Answers, Moves}
 use Rattle.world.specs.World.{Seen}
 use Rattle.world.specs.declared.told.Told.{Told}
+use Rattle.life.specs.Aside.{IsSetAside}
 use Rattle.life.specs.Managed.{Managed}
+use Rattle.life.specs.declared.managed.SlotDisk.{SlotDisk}
 
 -- ---- of clients
 
@@ -198,7 +201,7 @@ is_counted Counted = true
 is_counted Nobody = false
 is_counted (Copying c) = false
 is_counted (Whole w) = false
-is_counted (Refused disk) = false
+is_counted (Refused r) = false
 
 -- The next record is being written, with who joins; or no record is the next order, or it may not come next; or memory ran out.
 pub record BeginsWithJoiner {S : Type 0} (about : S → About) (given : Result Bool AllocError) (old new : Managed S) : Type 0 where
@@ -260,6 +263,14 @@ pub record Joins {S : Type 0} (slot : ℕ) (given : Result (Unit {0}) manager.Re
   pub memory : IsErrOf given managers.Memory → why_no_joining slot (noted old.world.chain old.management.manager) ≡ None
   pub only_noted : OnErr given (new.management ≡ record old.management { manager = noted old.world.chain old.management.manager })
 
+-- The member at the place, which was removed, was forgotten, while no disk was on its way; or there is none, or it may not be, and nothing
+-- changed.
+pub record Forgets {S : Type 0} (at : ℕ) (done : Bool) (old new : Managed S) : Type 0 where
+  pub candidate : new.candidate ≡ old.candidate
+  pub management : new.management ≡ old.management
+  pub forgotten : done ≡ true → (old.candidate ≡ Nobody) × ((store : S) × MayForget at old.world × HasForgotten at store old.world new.world)
+  pub idle : done ≡ false → ((length old.world.chain.members ≤ at) ⊎ ((old.candidate ≢ Nobody) ⊎ (MayForget at old.world → ⊥))) × (new.world ≡ old.world)
+
 -- A new disk is attached, if that is the next order, and its copy begins; or memory ran out, and nothing changed; or it refuses.
 pub record AttachesNew {S : Type 0} (given : Result Bool stores.Refusal) (old new : Managed S) : Type 0 where
   pub world : new.world ≡ old.world
@@ -271,15 +282,18 @@ pub record AttachesNew {S : Type 0} (given : Result Bool stores.Refusal) (old ne
 abbrev pub HasCausedIt : {S : Type 0} → Result Gave stores.Refusal → Managed S → Managed S → Type 0
 HasCausedIt given old new = IfErr given (λ e. LedOn (λ was now. IsCaused (failures_of was) (failures_of now) e) old.candidate new.candidate)
 
--- The joining under way was abandoned: its disk is gone, and who joins was given up; or it is refused, and nothing changed.
+-- The joining under way was abandoned: who joins was given up, and the disk that was being given the volume stands outside; or it is refused,
+-- and nothing changed.
 pub record Abandons {S : Type 0} (given : Result (Unit {0}) manager.Refusal) (old new : Managed S) : Type 0 where
   pub done : OnOk given (new.management ≡ record old.management { manager = abandoned old.management.manager })
   pub nobody : OnOk given (new.candidate ≡ Nobody)
+  pub aside : OnOk given ((left : List (SlotDisk MemDisk)) × IsSetAside old.candidate left × (new.outside ≡ old.outside ++ left))
   pub given_up : OnOk given ((store : Option S) × GivesUp store old.world new.world)
   pub ok : IsOk given → why_no_abandoning old.management.manager ≡ None
   pub refused : IfErr given (λ e. e ≢ managers.Memory → why_no_abandoning old.management.manager ≡ Some e)
   pub memory : IsErrOf given managers.Memory → why_no_abandoning old.management.manager ≡ None
   pub unchanged : OnErr given (AllSame old new)
+  pub outside : OnErr given (new.outside ≡ old.outside)
 
 -- The script of the configuration's disk has one more event, unless memory ran out.
 pub record ArmsConfig {S : Type 0} (event : Event) (given : Result (Unit {0}) AllocError) (old new : Managed S) : Type 0 where

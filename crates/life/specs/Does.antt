@@ -23,7 +23,8 @@ use Rattle.std.specs.declared.alloc.AllocError.{AllocError}
 use Rattle.world.specs.Telling.{is_whole, outputs_of}
 use Rattle.world.specs.World.{Seen}
 use Rattle.world.specs.declared.told.Told.{Told}
-use Rattle.life.specs.Calls.{Abandons, AnswersFront, Arms, ArmsConfig, AttachesNew, BeginsCommits, BeginsNext, Checkpoints, Connects, CopiesNext, CountsSlotOut, EndsCommit, EndsInput, EndsNext, FindsFront, Gauges, GivesRest, HandsOut, Joins, LooksUp, MustersCrew, Numbers, Passes, Posts, Raises, Removes, Settles, Stops, TakesFirst, TakesIn, TakesRaised, TellsRecord, Ticks}
+use Rattle.life.specs.Aside.{GrowsOutside}
+use Rattle.life.specs.Calls.{Abandons, AnswersFront, Arms, ArmsConfig, AttachesNew, BeginsCommits, BeginsNext, Checkpoints, Connects, CopiesNext, CountsSlotOut, EndsCommit, EndsInput, EndsNext, FindsFront, Forgets, Gauges, GivesRest, HandsOut, Joins, LooksUp, MustersCrew, Numbers, Passes, Posts, Raises, Removes, Settles, Stops, TakesFirst, TakesIn, TakesRaised, TellsRecord, Ticks}
 use Rattle.life.specs.Managed.{Managed}
 use Rattle.life.specs.Played.{told_in, tried_in, went_in}
 use Rattle.life.specs.declared.answer.Answer.{Answer}
@@ -156,6 +157,19 @@ IsArmed about keeps is_pending may_leave_now failures disk at event answer old n
 abbrev pub IsConfigArmed : {S : Type 0} → Event → Answer → Managed S → Managed S → Type 0
 IsConfigArmed event answer old new = (given : Result (Unit {0}) AllocError) × TellsArmed given answer × ArmsConfig event given old new
 
+-- ---- a joining that is abandoned
+
+abbrev pub is_abandon : ManagerAct → Bool
+is_abandon manages.Abandon = true
+is_abandon _ = false
+
+-- the deed is that the manager abandons one
+abbrev pub is_abandoning : Deed → Bool
+is_abandoning (deeds.Manage act) = is_abandon act
+is_abandoning (deeds.Step step) = false
+is_abandoning (deeds.Arm at event) = false
+is_abandoning (deeds.ArmConfig event) = false
+
 -- ---- any step
 
 module _ {S : Type 0} (premise : Type 0) (about : S → About) (keeps : S → List ℕ → Type 0) (is_pending : S → ℕ → Type 0) (may_leave_now : S → List ℕ → Type 0) (moment : S → ℕ)
@@ -203,7 +217,8 @@ module _ {S : Type 0} (premise : Type 0) (about : S → About) (keeps : S → Li
   abbrev pub Manages : ManagerAct → Answer → Managed S → Managed S → Type 0
   Manages (manages.Remove slot) answer old new = (given : Result (Unit {0}) managers.Refusal) × TellsRemoved given answer × Removes slot given old new
   Manages (manages.Join slot) answer old new = (given : Result (Unit {0}) managers.Refusal) × TellsRemoved given answer × Joins slot given old new
-  Manages manages.Attach answer old new = (given : Result Bool stores.Refusal) × TellsAttached given answer × AttachesNew given old new
+  Manages (manages.Forget at) answer old new = IsDone answer (λ done. Forgets at done old new)
+  Manages (manages.Attach event) answer old new = (given : Result Bool stores.Refusal) × TellsAttached given answer × AttachesNew given old new
   Manages manages.Copy answer old new = (given : Result Gave stores.Refusal) × TellsGave given answer × CopiesNext premise about keeps is_pending may_leave_now moment left_since failures given old new
   Manages manages.Hold answer old new = IsTold answer (λ given. Holds given old.candidate new.candidate old.management new.management old.world new.world)
   Manages manages.Rest answer old new = (given : Result Gave stores.Refusal) × TellsGave given answer × GivesRest premise about keeps is_pending may_leave_now moment left_since failures given old new
@@ -224,10 +239,12 @@ module _ {S : Type 0} (premise : Type 0) (about : S → About) (keeps : S → Li
       IsArmed about keeps is_pending may_leave_now failures disk at event answer old.world new.world × (new.management ≡ old.management) × (new.candidate ≡ old.candidate)
   DoesIt disk (deeds.ArmConfig event) answer old new = IsConfigArmed event answer old new
 
-  -- It did so; and then what the member came to know, whose volume the disk on its way is given, was noted. The disks outside stay.
+  -- It did so; and then what the member came to know, whose volume the disk on its way is given, was noted. The disks outside stay, and only
+  -- an abandoned joining leaves another.
   pub record DoesDeed (disk : S → MemDisk) (deed : Deed) (answer : Answer) (old new : Managed S) : Type 0 where
     pub unnoted : Managed S
     pub did : DoesIt disk deed answer old unnoted
     pub noted : Notes new.world.chain unnoted.candidate new.candidate
     pub same : new ≡ record unnoted { candidate = new.candidate }
-    pub outside : new.outside ≡ old.outside
+    pub outside : GrowsOutside old new
+    pub outside_stay : is_abandoning deed ≡ false → new.outside ≡ old.outside

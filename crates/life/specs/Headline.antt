@@ -9,7 +9,7 @@
 -- front (GoesOnFrom).
 use Rattle.std.specs.Prelude.{◌≡◌, ◌≢◌, ◌⊎◌, ℕ, ◌*◌, ◌≤◌, false, true, Some, All, List, [], ◌∷◌, ◌++◌, length, map, slice_get, take, zip}
 use Rattle.std.specs.List.{flat_map, range_with_len}
-use Rattle.std.specs.Option.{ForSome}
+use Rattle.std.specs.Option.{ForSome, option_to_list}
 use Rattle.configurations.specs.Record.{Record}
 use Rattle.configurations.specs.declared.refusal.Refusal.TheVariants.{NotNext}
 use Rattle.disk_model.specs.Memory.{may_be_left}
@@ -17,7 +17,7 @@ use Rattle.disk_model.specs.Part.{inside}
 use Rattle.disk_model.specs.declared.memory.MemDisk.{MemDisk}
 use Rattle.flush_barrier.specs.declared.session_id.SessionId.{SessionId}
 use Rattle.local_store.specs.About.{About}
-use Rattle.local_store.specs.Meaning.{Means}
+use Rattle.local_store.specs.Meaning.{Meaning, Means}
 use Rattle.nbd_session.specs.Demand.{Asked}
 use Rattle.nbd_session.specs.Lawful.{IsLawful}
 use Rattle.nbd_session.specs.Replies.{WireReply}
@@ -36,6 +36,7 @@ use Rattle.world_model.specs.Machine.{May, Move, Restart, RunsOn, State, after, 
 use Rattle.chain_model.specs.Refusing.{HasPlea}
 use Rattle.world.specs.Management.{HoldsOne}
 use Rattle.world.specs.World.{Seen, Shows, sent_in}
+use Rattle.life.specs.Aside.{GrowsOutside}
 use Rattle.life.specs.Begun.{BeginsWith, export_of, first_about, stores_of}
 use Rattle.life.specs.Played.{fed_by, handed_by}
 use Rattle.life.specs.Managed.{AreInStep, IsAtRest, Managed, MayStand, NoImpostor, config_part}
@@ -125,6 +126,15 @@ pub record HasWhatIsOwed (size : ℕ) (s : State) (member : About) (bytes : List
 abbrev pub HasDisk : Record → About → Type 0
 HasDisk r member = is_in r member.slot member.incarnation ≡ true
 
+-- the stores of the members, and of who joins, if somebody does
+abbrev pub owners_of : {S : Type 0} → Seen S → List S
+owners_of w = stores_of w ++ option_to_list w.joiner
+
+-- Whatever is left of the disks of two members of the record: where they mean one front, they mean the same volume.
+abbrev pub Agree : {S : Type 0} → (S → About) → (S → List ℕ → Type 0) → Record → S → S → Type 0
+Agree about may_leave_now r one two =
+    HasDisk r (about one) → HasDisk r (about two) → (x y : List ℕ) → may_leave_now one x → may_leave_now two y → (m n : Meaning) → Means m x → Means n y → m.front ≡ n.front → m.volume ≡ n.volume
+
 -- ---- a life
 
 -- the first record of a chain of so many members: their disks were formatted
@@ -155,8 +165,10 @@ module _ {S : Type 0} (premise : Type 0) (about : S → About) (keeps : S → Li
     -- and so has that of who joins, if it is a member of the one that is being written
     pub joiner : ForSome end.world.joiner (λ store. (r : Record) → MayStand end.world.chain r → HasDisk r (about store) → (bytes : List ℕ) → may_leave_now store bytes
         → HasWhatIsOwed export.size state (about store) bytes)
-    -- and no disk outside is that of a member of either
-    pub outside : end.outside ≡ old.outside
+    -- so any two of these that mean one front mean the same volume, those too that were rebuilt
+    pub agree : (r : Record) → MayStand end.world.chain r → All (λ one. All (Agree about may_leave_now r one) (owners_of end.world)) (owners_of end.world)
+    -- the disks outside stay, and behind them come such as mean nothing; and none of all is that of a member of either
+    pub outside : GrowsOutside old end
     pub no_impostor : NoImpostor end
     -- of the disks that return the chain goes on from the source, and the machine from its front
     pub goes_on : GoesOnFrom about keeps may_leave_now disk era end new

@@ -1,3 +1,4 @@
+pub mod Aside
 pub mod Begun
 pub mod Calls
 pub mod Does

@@ -2,6 +2,8 @@
 use Rattle.std.specs.Prelude.{◌≡◌, ◌⊎◌, ℕ, true, Some, List, [], ◌∷◌, ◌++◌, length, slice_get}
 use Rattle.std.specs.List.{AllZip}
 use Rattle.std.specs.Option.{option_to_list}
+use Rattle.candidate.specs.declared.candidate.Candidate.{Candidate}
+use Rattle.candidate.specs.declared.candidate.Candidate.TheVariants.{Copying, Counted, Nobody, Refused, Whole}
 use Rattle.chain.specs.Chain.{Chained}
 use Rattle.configurations.specs.Record.{Record}
 use Rattle.disk_model.specs.Memory.{given_of, has_stopped}
@@ -11,6 +13,7 @@ use Rattle.local_store.specs.About.{About}
 use Rattle.world.specs.World.{Seen}
 use Rattle.life.specs.Begun.{IsCut, IsCutFrom, stores_of}
 use Rattle.life.specs.Does.{DoesDeed}
+use Rattle.life.specs.Aside.{IsSetAside}
 use Rattle.life.specs.Managed.{Managed, MayStand, StandsOn}
 use Rattle.life.specs.Recovered.{RecoversFrom}
 use Rattle.life.specs.declared.answer.Answer.{Answer}
@@ -25,9 +28,17 @@ pub record MemberMetStop {S : Type 0} (disk : S → MemDisk) (w : Seen S) : Type
   pub here : slice_get (stores_of w) at ≡ Some store
   pub stopped : has_stopped (disk store) ≡ true
 
+-- or the disk on its way, which refused that call
+abbrev pub RefusedByStop : {S : Type 0} → Candidate S MemDisk → Type 0
+RefusedByStop (Refused r) = has_stopped r.disk ≡ true
+RefusedByStop Nobody = ⊥
+RefusedByStop (Copying c) = ⊥
+RefusedByStop (Whole w) = ⊥
+RefusedByStop Counted = ⊥
+
 -- or the configuration's disk
 abbrev pub HasMetStop : {S : Type 0} → (S → MemDisk) → Managed S → Type 0
-HasMetStop disk w = MemberMetStop disk w.world ⊎ (has_stopped w.management.disk ≡ true)
+HasMetStop disk w = MemberMetStop disk w.world ⊎ ((has_stopped w.management.disk ≡ true) ⊎ RefusedByStop w.candidate)
 
 module _ {S : Type 0} (premise : Type 0) (about : S → About) (keeps : S → List ℕ → Type 0) (is_pending : S → ℕ → Type 0) (may_leave_now : S → List ℕ → Type 0) (moment : S → ℕ)
     (left_since : S → ℕ → List ℕ → Type 0) (failures : S → ℕ) (disk : S → MemDisk) where
@@ -48,16 +59,18 @@ IsCutAt about may_leave_now disk cut store left = IsCutFrom may_leave_now disk c
 abbrev pub IsCutOutside : Cut → SlotDisk MemDisk → SlotDisk MemDisk → Type 0
 IsCutOutside cut was left = IsCut cut was.disk left.disk × (left.slot ≡ was.slot)
 
--- Everything stopped, and each disk was cut so: these are the members', behind them that of who joins, if somebody does, and then those
--- outside.
+-- Everything stopped, and each disk was cut so: these are the members', behind them that of who joins, if somebody does, then those outside,
+-- and the one that was being given the volume.
 pub record AreCut {S : Type 0} (about : S → About) (may_leave_now : S → List ℕ → Type 0) (disk : S → MemDisk) (cut : Cut) (old : Managed S) (disks : List (SlotDisk MemDisk)) (config : MemDisk) : Type 0 where
   pub of_members : List (SlotDisk MemDisk)
   pub of_joiner : List (SlotDisk MemDisk)
+  pub aside : List (SlotDisk MemDisk)
   pub outside : List (SlotDisk MemDisk)
   pub are : disks ≡ of_members ++ (of_joiner ++ outside)
   pub members_cut : AllZip (λ m left. IsCutAt about may_leave_now disk cut m.node.store left) old.world.chain.members of_members
   pub joiner_cut : AllZip (IsCutAt about may_leave_now disk cut) (option_to_list old.world.joiner) of_joiner
-  pub outside_cut : AllZip (IsCutOutside cut) old.outside outside
+  pub set_aside : IsSetAside old.candidate aside
+  pub outside_cut : AllZip (IsCutOutside cut) (old.outside ++ aside) outside
   pub config_is : IsCut cut old.management.disk config
 
 -- The record that a stop left on the configuration's disk: the recorded chain's, or the one that was being written.

@@ -1,18 +1,20 @@
 //! A disk is admitted into the chain: the orders of a joining, as a list holds them.
-ghost use Rattle.std.specs.Prelude.{◌≡◌};
+ghost use Rattle.std.specs.Prelude.{◌≡◌, ◌+◌, ◌≤◌, false, true, vec_capacity, vec_len};
 ghost use Rattle.candidate.specs.Orders.{handed_gave};
 ghost use Rattle.clients.specs.Clients.{no_one};
-ghost use Rattle.life.specs.Calls.{AttachesNew};
+ghost use Rattle.life.specs.Aside.{GrowsOutside};
+ghost use Rattle.life.specs.Calls.{AttachesNew, Forgets};
 ghost use Rattle.life.specs.Does.{Manages, TellsGave, TellsRefused};
 ghost use Rattle.life.specs.Lived.{IsOfOneVolumeIn, KeepsCopyIn};
 ghost use Rattle.life.specs.Played.{handed_of};
 
-use crate::answer::Answer;
-use crate::managed::ManagedWorld;
+use crate::answer::{Answer, MEMORY};
+use crate::cutting::set_aside;
+use crate::managed::{ManagedWorld, SlotDisk};
 use crate::playing::{done, silent, told};
 use crate::step::ManagerAct;
 use candidate::{Candidate, Gave};
-use disk_model::{MemDisk, Script};
+use disk_model::{Event, MemDisk, Script};
 use home_blocks::disk_size;
 use local_store::{Refusal, Store, StoreLike};
 use manager::Order;
@@ -38,16 +40,58 @@ pub(crate) fn join(
     }
 }
 
-/// A new disk, just long enough, is attached.
-pub(crate) fn attach(alloc: Global, managed: &mut ManagedWorld<Store<MemDisk>, MemDisk>) -> Answer
+/// A removed member is forgotten.
+pub(crate) fn forget(
+    alloc: Global,
+    managed: &mut ManagedWorld<Store<MemDisk>, MemDisk>,
+    at: usize,
+) -> Answer
     ensures does { Manages ⟦<Store<MemDisk> as StoreLike>⟧.keeps_model ⟦<Store<MemDisk> as StoreLike>⟧.about ⟦<Store<MemDisk> as StoreLike>⟧.keeps ⟦<Store<MemDisk> as StoreLike>⟧.is_pending ⟦<Store<MemDisk> as StoreLike>⟧.may_leave_now ⟦<Store<MemDisk> as StoreLike>⟧.moment ⟦<Store<MemDisk> as StoreLike>⟧.may_have_left_since ⟦<Store<MemDisk> as StoreLike>⟧.failures
-        ManagerAct.Attach result managed.old managed.new }
+        (ManagerAct.Forget at) result managed.old managed.new }
     ensures outside { managed.new.outside ≡ managed.old.outside }
     ensures one_volume { IsOfOneVolumeIn ⟦<Store<MemDisk> as StoreLike>⟧.about ⟦<Store<MemDisk> as StoreLike>⟧.keeps ⟦<Store<MemDisk> as StoreLike>⟧.may_leave_now
         no_one (handed_of result) managed.old managed.new }
     ensures copy { KeepsCopyIn ⟦<Store<MemDisk> as StoreLike>⟧.about ⟦<Store<MemDisk> as StoreLike>⟧.keeps ⟦<Store<MemDisk> as StoreLike>⟧.may_leave_now managed.old managed.new }
 {
-    match attach_new(alloc, managed) {
+    let forgotten = forget_at(managed, at);
+    done(alloc, forgotten)
+}
+
+/// If it may be, and no disk is on its way.
+fn forget_at(managed: &mut ManagedWorld<Store<MemDisk>, MemDisk>, at: usize) -> bool
+    ensures forgets { Forgets at result managed.old managed.new }
+    ensures outside { managed.new.outside ≡ managed.old.outside }
+    ensures one_volume { IsOfOneVolumeIn ⟦<Store<MemDisk> as StoreLike>⟧.about ⟦<Store<MemDisk> as StoreLike>⟧.keeps ⟦<Store<MemDisk> as StoreLike>⟧.may_leave_now
+        no_one no_one managed.old managed.new }
+    ensures copy { KeepsCopyIn ⟦<Store<MemDisk> as StoreLike>⟧.about ⟦<Store<MemDisk> as StoreLike>⟧.keeps ⟦<Store<MemDisk> as StoreLike>⟧.may_leave_now managed.old managed.new }
+{
+    if at >= managed.world.len() {
+        return false;
+    }
+    if !managed.is_alone() {
+        return false;
+    }
+    let Some(store) = managed.world.forget(at) else {
+        return false;
+    };
+    drop(store);
+    true
+}
+
+/// A new disk, just long enough, is attached, at one of whose device calls this is to happen, if anything is.
+pub(crate) fn attach(
+    alloc: Global,
+    managed: &mut ManagedWorld<Store<MemDisk>, MemDisk>,
+    event: Option<Event>,
+) -> Answer
+    ensures does { Manages ⟦<Store<MemDisk> as StoreLike>⟧.keeps_model ⟦<Store<MemDisk> as StoreLike>⟧.about ⟦<Store<MemDisk> as StoreLike>⟧.keeps ⟦<Store<MemDisk> as StoreLike>⟧.is_pending ⟦<Store<MemDisk> as StoreLike>⟧.may_leave_now ⟦<Store<MemDisk> as StoreLike>⟧.moment ⟦<Store<MemDisk> as StoreLike>⟧.may_have_left_since ⟦<Store<MemDisk> as StoreLike>⟧.failures
+        (ManagerAct.Attach event) result managed.old managed.new }
+    ensures outside { managed.new.outside ≡ managed.old.outside }
+    ensures one_volume { IsOfOneVolumeIn ⟦<Store<MemDisk> as StoreLike>⟧.about ⟦<Store<MemDisk> as StoreLike>⟧.keeps ⟦<Store<MemDisk> as StoreLike>⟧.may_leave_now
+        no_one (handed_of result) managed.old managed.new }
+    ensures copy { KeepsCopyIn ⟦<Store<MemDisk> as StoreLike>⟧.about ⟦<Store<MemDisk> as StoreLike>⟧.keeps ⟦<Store<MemDisk> as StoreLike>⟧.may_leave_now managed.old managed.new }
+{
+    match attach_new(alloc, managed, event) {
         Ok(attached) => done(alloc, attached),
         Err(refusal) => refused(refusal),
     }
@@ -57,6 +101,7 @@ pub(crate) fn attach(alloc: Global, managed: &mut ManagedWorld<Store<MemDisk>, M
 fn attach_new(
     alloc: Global,
     managed: &mut ManagedWorld<Store<MemDisk>, MemDisk>,
+    event: Option<Event>,
 ) -> Result<bool, Refusal>
     ensures attaches { AttachesNew result managed.old managed.new }
     ensures outside { managed.new.outside ≡ managed.old.outside }
@@ -67,7 +112,10 @@ fn attach_new(
         return Ok(false);
     };
     let len = disk_size(managed.world.geometry());
-    let disk = MemDisk::new(alloc, len, Script::new(alloc))?;
+    let mut disk = MemDisk::new(alloc, len, Script::new(alloc))?;
+    if let Some(event) = event {
+        disk.arm(event)?;
+    }
     managed
         .candidate
         .attach(alloc, &managed.world, &mut managed.management, disk)
@@ -138,19 +186,33 @@ pub(crate) fn count_in(alloc: Global, managed: &mut ManagedWorld<Store<MemDisk>,
 pub(crate) fn abandon(alloc: Global, managed: &mut ManagedWorld<Store<MemDisk>, MemDisk>) -> Answer
     ensures does { Manages ⟦<Store<MemDisk> as StoreLike>⟧.keeps_model ⟦<Store<MemDisk> as StoreLike>⟧.about ⟦<Store<MemDisk> as StoreLike>⟧.keeps ⟦<Store<MemDisk> as StoreLike>⟧.is_pending ⟦<Store<MemDisk> as StoreLike>⟧.may_leave_now ⟦<Store<MemDisk> as StoreLike>⟧.moment ⟦<Store<MemDisk> as StoreLike>⟧.may_have_left_since ⟦<Store<MemDisk> as StoreLike>⟧.failures
         ManagerAct.Abandon result managed.old managed.new }
-    ensures outside { managed.new.outside ≡ managed.old.outside }
+    ensures outside { GrowsOutside managed.old managed.new }
     ensures one_volume { IsOfOneVolumeIn ⟦<Store<MemDisk> as StoreLike>⟧.about ⟦<Store<MemDisk> as StoreLike>⟧.keeps ⟦<Store<MemDisk> as StoreLike>⟧.may_leave_now
         no_one (handed_of result) managed.old managed.new }
     ensures copy { KeepsCopyIn ⟦<Store<MemDisk> as StoreLike>⟧.about ⟦<Store<MemDisk> as StoreLike>⟧.keeps ⟦<Store<MemDisk> as StoreLike>⟧.may_leave_now managed.old managed.new }
 {
+    let may = managed.management.can_abandon();
+    if !make_room(&mut managed.outside, may) {
+        return Answer::Refused(MEMORY);
+    }
     match managed.management.abandon_join(&mut managed.world) {
         Ok(store) => {
             drop(store);
-            drop(mem::replace(&mut managed.candidate, Candidate::Nobody));
+            let candidate = mem::replace(&mut managed.candidate, Candidate::Nobody);
+            set_aside(candidate, &mut managed.outside);
             silent(alloc)
         }
         Err(refusal) => Answer::Refused(refusal.number()),
     }
+}
+
+/// Makes room for one more outside, where it may be needed. `false` where memory for that runs out.
+fn make_room(outside: &mut Vec<SlotDisk<MemDisk>>, may: bool) -> bool
+    ensures items { outside.new.items ≡ outside.old.items }
+    ensures room { result ≡ true → may ≡ true → vec_len outside.new + 1 ≤ vec_capacity outside.new }
+    ensures needed { result ≡ false → may ≡ true }
+{
+    outside.reserve(1).is_ok() || !may
 }
 
 /// What tells that a disk was given something, or not.

@@ -1,12 +1,14 @@
 //! Everything stops.
-ghost use Rattle.std.specs.Prelude.{◌≡◌, ◌++◌, IfOk, List, OnOk};
+ghost use Rattle.std.specs.Prelude.{◌≡◌, ◌++◌, ◌+◌, ◌≤◌, IfOk, List, OnOk, vec_capacity, vec_len};
 ghost use Rattle.std.specs.List.{AllZip};
 ghost use Rattle.std.specs.Option.{option_to_list};
+ghost use Rattle.life.specs.Aside.{IsSetAside};
 ghost use Rattle.life.specs.Begun.{IsCut};
 ghost use Rattle.life.specs.Plays.{AreCut, IsCutAt, IsCutOutside};
 ghost use Rattle.life.specs.Recovered.{IsCutAnew};
 
 use crate::managed::{ManagedWorld, SlotDisk};
+use candidate::Candidate;
 use disk_model::{Cut, MemDisk};
 use local_store::{Store, StoreLike};
 use std::alloc::{AllocError, Global};
@@ -14,15 +16,15 @@ use std::alloc::{AllocError, Global};
 /// The disks that a cut left.
 #[derive(Drop)]
 pub struct Disks {
-    /// Those of the slots: the members', in the order of their places, then that of who joins, if somebody does, and then those outside.
+    /// Those of the slots: the members', in the order of their places, then that of who joins, if somebody does, then those outside, and the one
+    /// that was being given the volume.
     pub slots: Vec<SlotDisk<MemDisk>>,
     /// The configuration's.
     pub config: MemDisk,
 }
 
-/// Everything stops: the members' disks, in the order of their places, behind them that of who joins, if somebody does, those outside, and the
-/// configuration's, each with the content that the cut leaves, which is one that a stop now may leave. A disk on its way that isn't counted
-/// is dropped.
+/// Everything stops: the members' disks, in the order of their places, behind them that of who joins, if somebody does, those outside, that
+/// which was being given the volume, and the configuration's, each with the content that the cut leaves, which is one that a stop now may leave.
 ///
 /// Where memory runs out, the disks are dropped.
 pub fn cut(
@@ -38,16 +40,48 @@ pub fn cut(
         candidate,
         outside,
     } = managed;
-    drop(candidate);
+    let config = cut_one(management.into_disk(), cut);
+    let given = with_aside(candidate, outside);
     let (stores, joiner) = world.abandon()?;
+    let outside = given?;
     let mut slots = cut_all(alloc, stores, cut)?;
     cut_joiner(&mut slots, joiner, cut)?;
     let mut outside = cut_outside(outside, cut);
     slots.append(&mut outside)?;
-    Ok(Disks {
-        slots,
-        config: cut_one(management.into_disk(), cut),
-    })
+    Ok(Disks { slots, config })
+}
+
+/// Those outside, and behind them the disk that was being given the volume, if one was.
+fn with_aside(
+    candidate: Candidate<Store<MemDisk>, MemDisk>,
+    outside: Vec<SlotDisk<MemDisk>>,
+) -> Result<Vec<SlotDisk<MemDisk>>, AllocError>
+    ensures { IfOk result (λ disks. (left : List (SlotDisk MemDisk)) × IsSetAside candidate left × (disks.items ≡ outside.items ++ left)) }
+{
+    let mut outside = outside;
+    outside.reserve(1)?;
+    set_aside(candidate, &mut outside);
+    Ok(outside)
+}
+
+/// A disk that was being given the volume stands outside from now on; any other on its way is dropped. There is room for it.
+pub(crate) fn set_aside(
+    candidate: Candidate<Store<MemDisk>, MemDisk>,
+    outside: &mut Vec<SlotDisk<MemDisk>>,
+)
+    requires { vec_len outside.old + 1 ≤ vec_capacity outside.old }
+    ensures { (left : List (SlotDisk MemDisk)) × IsSetAside candidate left × (outside.new.items ≡ outside.old.items ++ left) }
+{
+    match candidate {
+        Candidate::Copying(copying) => outside.push_reserved(SlotDisk {
+            slot: copying.member().slot,
+            disk: copying.into_disk(),
+        }),
+        Candidate::Whole(_) => {}
+        Candidate::Refused(_) => {}
+        Candidate::Nobody => {}
+        Candidate::Counted => {}
+    }
 }
 
 /// The disks of these stores, cut.

@@ -22,8 +22,7 @@ pub struct Era {
     pub deeds: Vec<Deed>,
     /// What a stop leaves of the ranges that aren't synced.
     pub cut: Cut,
-    /// The places of the disks that return, counted as `cut` gives them: the members', in the order of their places, and then those outside. One
-    /// that isn't there, or stands twice, changes nothing.
+    /// The places of the disks that return, counted as `cut` gives them. One that isn't there, or stands twice, changes nothing.
     pub returned: Vec<usize>,
 }
 

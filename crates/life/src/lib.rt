@@ -25,7 +25,7 @@ pub use answer::{Answer, MEMORY};
 pub use beginning::begin;
 pub use cutting::{Disks, cut};
 pub use era::{Answers, Deed, Era};
-pub use living::{Lived, live};
+pub use living::{Lived, has_met_stop, live};
 pub use managed::{ManagedWorld, SlotDisk};
 pub use managing::manage;
 pub use playing::play;

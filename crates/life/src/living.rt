@@ -1,5 +1,5 @@
 //! Whole lives.
-ghost use Rattle.std.specs.Prelude.{◌≡◌, ◌⊎◌, ◌<◌, ◌≤◌, ◌↔◌, ℕ, All, IfErr, IfOk, IsTrue, List, OnOk, length, zip};
+ghost use Rattle.std.specs.Prelude.{◌≡◌, ◌⊎◌, ◌<◌, ◌≤◌, ◌↔◌, ℕ, false, All, IfErr, IfOk, IsTrue, List, OnOk, length, zip};
 ghost use Rattle.clients.specs.Clients.{no_one};
 ghost use Rattle.configurations.specs.Record.{Record};
 ghost use Rattle.configurations.specs.declared.refusal.Refusal.TheVariants as config_refusals;
@@ -8,13 +8,14 @@ ghost use Rattle.disk_model.specs.Memory.{given_of, may_be_left};
 ghost use Rattle.flush_barrier.specs.declared.session_id.SessionId.{SessionId};
 ghost use Rattle.disk_model.specs.declared.memory.MemDisk.{MemDisk};
 ghost use Rattle.std.specs.List.{AllZip};
+ghost use Rattle.life.specs.Aside.{GrowsOutside};
 ghost use Rattle.life.specs.Begun.{AllGo, AreOnDisks};
-ghost use Rattle.life.specs.Does.{Does, DoesDeed, DoesIt, IsArmed, IsConfigArmed};
+ghost use Rattle.life.specs.Does.{Does, DoesDeed, DoesIt, IsArmed, IsConfigArmed, is_abandoning};
 ghost use Rattle.life.specs.Headline.{BreaksOff, EndsAtReturn, EraLeads, IsOneLife};
 ghost use Rattle.life.specs.Lived.{AreOfOneVolume, IsFresh, IsOfOneVolumeIn, KeepsCopyIn};
 ghost use Rattle.life.specs.Managed.{AreDated, IsAtRest, NoImpostor};
 ghost use Rattle.life.specs.Played.{fed_by, fed_by_step, handed_by, handed_by_step};
-ghost use Rattle.life.specs.Plays.{DeedsLead, HasMetStop, MemberMetStop};
+ghost use Rattle.life.specs.Plays.{DeedsLead, HasMetStop, MemberMetStop, RefusedByStop};
 ghost use Rattle.life.specs.Recovered.{GivesOnly, HasChain, IsAtItsEnd, IsChosen, IsNoChoice, IsNoReturn, IsStill, IsStranger, MayReturn, Recovers, RecoversFrom, StandsThere};
 ghost use Rattle.life.specs.Refusal.{IsOfMemory};
 ghost use Rattle.nbd_session.specs.declared.answer.Export.{Export};
@@ -140,7 +141,7 @@ fn play_all(
     ensures all { IfOk result (λ answers. length answers.items ≤ length deeds.now) }
     ensures plays { IfOk result (λ answers. DeedsLead ⟦<Store<MemDisk> as StoreLike>⟧.keeps_model ⟦<Store<MemDisk> as StoreLike>⟧.about ⟦<Store<MemDisk> as StoreLike>⟧.keeps ⟦<Store<MemDisk> as StoreLike>⟧.is_pending ⟦<Store<MemDisk> as StoreLike>⟧.may_leave_now ⟦<Store<MemDisk> as StoreLike>⟧.moment ⟦<Store<MemDisk> as StoreLike>⟧.may_have_left_since ⟦<Store<MemDisk> as StoreLike>⟧.failures (λ s. s.disk)
         deeds.now answers.items managed.old managed.new) }
-    ensures outside { OnOk result (managed.new.outside ≡ managed.old.outside) }
+    ensures outside { OnOk result (GrowsOutside managed.old managed.new) }
     ensures pass { IfOk result (λ answers. (dropped : SessionId → List ℕ) × AreOfOneVolume ⟦<Store<MemDisk> as StoreLike>⟧.about ⟦<Store<MemDisk> as StoreLike>⟧.keeps ⟦<Store<MemDisk> as StoreLike>⟧.may_leave_now
         (zip deeds.now answers.items) dropped managed.old.world managed.new.world) }
 {
@@ -159,11 +160,23 @@ fn play_all(
     Ok(answers)
 }
 
-/// Whether a device call met its stop: the disk that met it says so.
-fn has_met_stop(managed: &ManagedWorld<Store<MemDisk>, MemDisk>) -> bool
+/// Whether a device call met its stop, of a member's disk, the configuration's, or the one on its way, which refused that call then.
+pub fn has_met_stop(managed: &ManagedWorld<Store<MemDisk>, MemDisk>) -> bool
     ensures { IsTrue result ↔ HasMetStop (λ s. s.disk) managed.now }
 {
-    managed.management.disk().is_stopped() || member_met_stop(&managed.world)
+    managed.management.disk().is_stopped()
+        || member_met_stop(&managed.world)
+        || refused_by_stop(&managed.candidate)
+}
+
+/// Whether the disk on its way did, and refused that call.
+fn refused_by_stop(candidate: &Candidate<Store<MemDisk>, MemDisk>) -> bool
+    ensures { IsTrue result ↔ RefusedByStop candidate.now }
+{
+    match candidate {
+        Candidate::Refused(refused) => refused.disk().is_stopped(),
+        _ => false,
+    }
 }
 
 /// Whether the disk of a member did.
@@ -186,7 +199,7 @@ fn play_deed(
 ) -> Answer
     ensures does { DoesDeed ⟦<Store<MemDisk> as StoreLike>⟧.keeps_model ⟦<Store<MemDisk> as StoreLike>⟧.about ⟦<Store<MemDisk> as StoreLike>⟧.keeps ⟦<Store<MemDisk> as StoreLike>⟧.is_pending ⟦<Store<MemDisk> as StoreLike>⟧.may_leave_now ⟦<Store<MemDisk> as StoreLike>⟧.moment ⟦<Store<MemDisk> as StoreLike>⟧.may_have_left_since ⟦<Store<MemDisk> as StoreLike>⟧.failures (λ s. s.disk)
         deed.now result managed.old managed.new }
-    ensures outside { managed.new.outside ≡ managed.old.outside }
+    ensures outside { GrowsOutside managed.old managed.new }
     ensures one_volume { IsOfOneVolumeIn ⟦<Store<MemDisk> as StoreLike>⟧.about ⟦<Store<MemDisk> as StoreLike>⟧.keeps ⟦<Store<MemDisk> as StoreLike>⟧.may_leave_now
         (fed_by deed.now result) (handed_by deed.now result) managed.old managed.new }
     ensures copy { KeepsCopyIn ⟦<Store<MemDisk> as StoreLike>⟧.about ⟦<Store<MemDisk> as StoreLike>⟧.keeps ⟦<Store<MemDisk> as StoreLike>⟧.may_leave_now managed.old managed.new }
@@ -204,7 +217,8 @@ fn do_deed(
 ) -> Answer
     ensures does { DoesIt ⟦<Store<MemDisk> as StoreLike>⟧.keeps_model ⟦<Store<MemDisk> as StoreLike>⟧.about ⟦<Store<MemDisk> as StoreLike>⟧.keeps ⟦<Store<MemDisk> as StoreLike>⟧.is_pending ⟦<Store<MemDisk> as StoreLike>⟧.may_leave_now ⟦<Store<MemDisk> as StoreLike>⟧.moment ⟦<Store<MemDisk> as StoreLike>⟧.may_have_left_since ⟦<Store<MemDisk> as StoreLike>⟧.failures (λ s. s.disk)
         deed.now result managed.old managed.new }
-    ensures outside { managed.new.outside ≡ managed.old.outside }
+    ensures outside { GrowsOutside managed.old managed.new }
+    ensures outside_stay { is_abandoning deed.now ≡ false → managed.new.outside ≡ managed.old.outside }
     ensures one_volume { IsOfOneVolumeIn ⟦<Store<MemDisk> as StoreLike>⟧.about ⟦<Store<MemDisk> as StoreLike>⟧.keeps ⟦<Store<MemDisk> as StoreLike>⟧.may_leave_now
         (fed_by deed.now result) (handed_by deed.now result) managed.old managed.new }
     ensures copy { KeepsCopyIn ⟦<Store<MemDisk> as StoreLike>⟧.about ⟦<Store<MemDisk> as StoreLike>⟧.keeps ⟦<Store<MemDisk> as StoreLike>⟧.may_leave_now managed.old managed.new }

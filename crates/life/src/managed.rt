@@ -1,5 +1,6 @@
-ghost use Rattle.std.specs.Prelude.{◌≡◌, ◌+◌, ◌≤◌, All};
+ghost use Rattle.std.specs.Prelude.{◌≡◌, ◌↔◌, ◌+◌, ◌≤◌, All, IsTrue};
 ghost use Rattle.candidate.specs.Orders.{Notes};
+ghost use Rattle.candidate.specs.declared.candidate.Candidate.TheVariants.{Nobody};
 ghost use Rattle.chain.specs.Chain.{bytes_of};
 ghost use Rattle.chain.specs.Member.{HasOwnDisk};
 ghost use Rattle.chain_model.specs.Chain.{StandsFor};
@@ -34,7 +35,7 @@ pub struct ManagedWorld<S: StoreLike, D: Disk> {
     pub management: Management<D>,
     /// The disk on its way into the chain, if one is.
     pub candidate: Candidate<S, D>,
-    /// The disks outside the chain: of members that a recovery left out. Nothing is written to them.
+    /// The disks outside the chain: of members that a recovery left out, and of joinings that ended early. Nothing is written to them.
     pub outside: Vec<SlotDisk<D>>,
 }
 
@@ -47,11 +48,35 @@ impl<S: StoreLike, D: Disk> Model for ManagedWorld<S, D> {
 }
 
 impl<S: StoreLike + Drop, D: Disk + Drop> ManagedWorld<S, D> {
+    /// Gives it up: what waits for clients is gone, the tokens are abandoned, and the disks are dropped.
+    pub fn abandon(self) {
+        let ManagedWorld {
+            world,
+            management: _,
+            candidate: _,
+            outside: _,
+        } = self;
+        let _stores = world.abandon();
+    }
+
     /// Whether the disk on its way was counted.
     pub(crate) fn is_counted(&self) -> bool
         ensures { result ≡ is_counted self.now.candidate }
     {
         matches!(self.candidate, Candidate::Counted)
+    }
+
+    /// Whether no disk is on its way.
+    pub(crate) fn is_alone(&self) -> bool
+        ensures { IsTrue result ↔ (self.now.candidate ≡ Nobody) }
+    {
+        match &self.candidate {
+            Candidate::Nobody => true,
+            Candidate::Copying(_)
+            | Candidate::Whole(_)
+            | Candidate::Counted
+            | Candidate::Refused(_) => false,
+        }
     }
 
     /// Does nothing: its clauses are what holds of every world and its manager.

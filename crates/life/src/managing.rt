@@ -1,12 +1,13 @@
 //! The manager's acts, as a list holds them.
-ghost use Rattle.std.specs.Prelude.{◌≡◌};
+ghost use Rattle.std.specs.Prelude.{◌≡◌, false};
 ghost use Rattle.clients.specs.Clients.{no_one};
+ghost use Rattle.life.specs.Aside.{GrowsOutside};
 ghost use Rattle.life.specs.Calls.{BeginsNext, EndsNext, EndsWithJoiner};
-ghost use Rattle.life.specs.Does.{Manages};
+ghost use Rattle.life.specs.Does.{Manages, is_abandon};
 ghost use Rattle.life.specs.Lived.{IsOfOneVolumeIn, KeepsCopyIn};
 ghost use Rattle.life.specs.Played.{handed_of};
 
-use crate::admitting::{abandon, attach, copy, count_in, hold, join, rest};
+use crate::admitting::{abandon, attach, copy, count_in, forget, hold, join, rest};
 use crate::answer::{Answer, MEMORY};
 use crate::managed::ManagedWorld;
 use crate::playing::{done, silent, told};
@@ -27,7 +28,8 @@ pub fn manage(
 ) -> Answer
     ensures does { Manages ⟦<Store<MemDisk> as StoreLike>⟧.keeps_model ⟦<Store<MemDisk> as StoreLike>⟧.about ⟦<Store<MemDisk> as StoreLike>⟧.keeps ⟦<Store<MemDisk> as StoreLike>⟧.is_pending ⟦<Store<MemDisk> as StoreLike>⟧.may_leave_now ⟦<Store<MemDisk> as StoreLike>⟧.moment ⟦<Store<MemDisk> as StoreLike>⟧.may_have_left_since ⟦<Store<MemDisk> as StoreLike>⟧.failures
         act result managed.old managed.new }
-    ensures outside { managed.new.outside ≡ managed.old.outside }
+    ensures outside { GrowsOutside managed.old managed.new }
+    ensures outside_stay { is_abandon act ≡ false → managed.new.outside ≡ managed.old.outside }
     ensures one_volume { IsOfOneVolumeIn ⟦<Store<MemDisk> as StoreLike>⟧.about ⟦<Store<MemDisk> as StoreLike>⟧.keeps ⟦<Store<MemDisk> as StoreLike>⟧.may_leave_now
         no_one (handed_of result) managed.old managed.new }
     ensures copy { KeepsCopyIn ⟦<Store<MemDisk> as StoreLike>⟧.about ⟦<Store<MemDisk> as StoreLike>⟧.keeps ⟦<Store<MemDisk> as StoreLike>⟧.may_leave_now managed.old managed.new }
@@ -35,7 +37,8 @@ pub fn manage(
     match act {
         ManagerAct::Remove { slot } => remove(alloc, managed, slot),
         ManagerAct::Join { slot } => join(alloc, managed, slot),
-        ManagerAct::Attach => attach(alloc, managed),
+        ManagerAct::Forget { at } => forget(alloc, managed, at),
+        ManagerAct::Attach { event } => attach(alloc, managed, event),
         ManagerAct::Copy => copy(alloc, managed),
         ManagerAct::Hold => hold(managed),
         ManagerAct::Rest => rest(alloc, managed),

@@ -1,3 +1,4 @@
+use disk_model::Event;
 use flush_barrier::SessionId;
 use gate_journal::Slot;
 
@@ -12,7 +13,7 @@ pub enum Step {
     End { session: SessionId },
     /// What waits for the client goes out.
     HandOut { session: SessionId },
-    /// The member at a place acts. Places are counted from 0, in the order of the chain with which the world began.
+    /// The member at a place acts. Places are counted from 0, in the order of the chain with which the world began; who joins comes last.
     Member { at: usize, act: Act },
 }
 
@@ -62,8 +63,12 @@ pub enum ManagerAct {
     Remove { slot: u64 },
     /// It notes who has stopped, and begins the joining of a disk at a slot.
     Join { slot: u64 },
-    /// A new disk is attached, if that is the next order: it will be given the volume of the chain's tail.
-    Attach,
+    /// The member at a place, which was removed, is forgotten, and its disk is dropped, while no other disk is on its way: one may join at
+    /// its slot then. Its sessions end, and the members behind it move up by a place, with theirs.
+    Forget { at: usize },
+    /// A new disk is attached, if that is the next order: it will be given the volume of the chain's tail. At one of its device calls, counted
+    /// from its first, this happens, if anything does.
+    Attach { event: Option<Event> },
     /// The disk is given the next block, if that is the next order; the order is carried out once each block was given.
     Copy,
     /// The tail holds the front, if that is the next order.
@@ -72,7 +77,7 @@ pub enum ManagerAct {
     Rest,
     /// The disk is counted, if that is the next order, and it has the volume at the front that the tail holds.
     CountIn,
-    /// The joining under way is abandoned: its disk is dropped.
+    /// The joining under way is abandoned: a disk that was being given the volume stands outside from then on, any other is dropped.
     Abandon,
     /// The next record is being written, if that is the next order: with the disk that was counted, if one was.
     BeginRecord,

@@ -1,5 +1,5 @@
 // What a manager knows, and its calls.
-ghost use Rattle.std.specs.Prelude.{◌≡◌, ◌≢◌, ◌⊎◌, ◌+◌, ◌<◌, ◌||◌, nat_lt, [], Some, None, is_some, length, replicate, false, IfOk, IfErr, IfSome, IsOk, IsErrOf, OnErr, OnOk};
+ghost use Rattle.std.specs.Prelude.{◌≡◌, ◌≢◌, ◌↔◌, ◌⊎◌, ◌+◌, ◌<◌, ◌||◌, nat_lt, [], Some, None, is_some, length, replicate, false, IfOk, IfErr, IfSome, IsOk, IsErrOf, IsTrue, OnErr, OnOk};
 ghost use Rattle.std.specs.Result.{result_err};
 ghost use Rattle.configurations.specs.Record.{AreMembers};
 ghost use Rattle.manager.specs.Orders.{joined as joined_members, removal_orders as orders_of_removal, without as without_slot};
@@ -128,6 +128,13 @@ impl Manager {
         self.stopped[usize::from(slot.number())] = false;
         self.left = left;
         Ok(())
+    }
+
+    /// Whether the joining under way, if one is, may be abandoned.
+    pub fn can_abandon(&self) -> bool
+        ensures { IsTrue result ↔ (why_no_abandoning self.now ≡ None) }
+    {
+        self.may_abandon().is_ok()
     }
 
     /// Abandons the joining under way: the same members are recorded with the next epoch, so that the joiner's

@@ -2,7 +2,7 @@
 use crate::tests::same_at;
 use disk_model::MemDisk;
 use flush_barrier::SessionId;
-use life::{Act, Answer, ManagedWorld, Step};
+use life::{Act, Answer, Step};
 use local_store::Store;
 use simulator::NEGOTIATION;
 use std::alloc::Global;
@@ -55,15 +55,10 @@ fn cut_requests(rt: HostRuntime) {
     let geometry = Geometry::new(8, least_area(4_096), 4_096).expect(&rt, "a geometry");
     for cut in 1..FIRST_WRITE.len() {
         let steps = session_of(&rt, alloc, &FIRST_WRITE[..cut]);
-        let ManagedWorld {
-            mut world,
-            management: _,
-            candidate: _,
-            outside: _,
-        } = life::begin(alloc, geometry, 1).expect(&rt, "memory");
-        let (before, last) = last_two(alloc, &mut world, &steps);
-        let front = world.front();
-        let _stores = world.abandon();
+        let mut managed = life::begin(alloc, geometry, 1).expect(&rt, "memory");
+        let (before, last) = last_two(alloc, &mut managed.world, &steps);
+        let front = managed.world.front();
+        managed.abandon();
         let is_silent = match before {
             Answer::HandedOut(output) => output.closed && output.bytes.is_empty(),
             _ => false,

@@ -4,7 +4,7 @@ ghost use Rattle.std.specs.Prelude.{◌<◌, ◌≤◌};
 use crate::refusal::Refusal;
 use crate::sim::Sim;
 use disk_model::Cut;
-use life::{Answer, Answers, Deed, Era, Lived, ManagedWorld, live};
+use life::{Answer, Answers, Deed, Era, Lived, live};
 use std::alloc::Global;
 use std::io::Write;
 use std::mem;
@@ -134,13 +134,7 @@ fn answers_of(
         return Err(Refusal::Memory);
     };
     let Lived { managed, answers } = lived;
-    let ManagedWorld {
-        world,
-        management: _,
-        candidate: _,
-        outside: _,
-    } = managed;
-    let _stores = world.abandon();
+    managed.abandon();
     Ok(answers)
 }
 

@@ -58,23 +58,24 @@ impl Sim {
     /// The script goes on with this world and its manager.
     fn goes_on_with(&mut self, managed: ManagedWorld<Store<MemDisk>, MemDisk>) {
         if let Some(old) = mem::replace(&mut self.managed, Some(managed)) {
-            let ManagedWorld {
-                world,
-                management: _,
-                candidate: _,
-                outside: _,
-            } = old;
-            let _stores = world.abandon();
+            old.abandon();
         }
         self.raised.clear();
     }
 
-    /// A device call to come fails, or the world stops in it. A member that is none, or no call, changes nothing.
+    /// A device call to come fails, or the world stops in it; where a disk is attached at the member's slot next, one of that disk's. A member
+    /// that is none, or no call, changes nothing.
     pub(crate) fn arm(&mut self, disk: NamedDisk, event: Event) -> Result<(), Refusal> {
         let (Event::FailAt { call } | Event::StopAt { call, .. }) = event;
         let NamedDisk::Member(member) = disk else {
             return self.arm_config(call, event);
         };
+        if self.awaits(member) {
+            if call > 0 {
+                self.awaited = Some(event);
+            }
+            return Ok(());
+        }
         let Some(at) = self.place(member) else {
             return Ok(());
         };

@@ -4,7 +4,8 @@ use crate::refusal::Refusal;
 use crate::sim::Sim;
 use crate::steps::Outcome;
 use disk_model::Event;
-use life::{Answer, Deed, MEMORY, ManagerAct};
+use gate_journal::Slot;
+use life::{Act, Answer, Deed, MEMORY, ManagerAct};
 use manager::Order;
 
 impl Sim {
@@ -33,7 +34,7 @@ impl Sim {
         }
         let answer = life::manage(self.alloc, managed, act);
         managed.note();
-        let is_stopped = managed.management.disk().is_stopped();
+        let is_stopped = life::has_met_stop(managed);
         self.stopped = is_stopped;
         if let Some(kept) = &mut self.kept {
             let answer = if is_stopped { None } else { Some(&answer) };
@@ -53,6 +54,7 @@ impl Sim {
 
     /// It begins the joining of a new disk at a slot, or refuses it.
     pub(crate) fn join(&mut self, slot: u64, printed: &mut Printed) -> Result<(), Refusal> {
+        self.awaited = None;
         self.manage(ManagerAct::Join { slot }, printed)?
             .show(printed)
     }
@@ -86,13 +88,45 @@ impl Sim {
             Order::Record => self.record(printed),
             Order::CountOut(_) => self.carry(ManagerAct::CountOut, printed),
             Order::Tell(_) => self.carry(ManagerAct::Tell, printed),
-            Order::Attach(_) => self.carry(ManagerAct::Attach, printed),
+            Order::Attach(slot) => self.attach(slot, printed),
             Order::Copy(_) => self.give_all(ManagerAct::Copy, order, printed),
             Order::Hold(_) => self.carry(ManagerAct::Hold, printed),
             Order::Rest(_) => self.give_all(ManagerAct::Rest, order, printed),
             Order::CountIn(_) => self.carry(ManagerAct::CountIn, printed),
             Order::Idle => Ok(false),
         }
+    }
+
+    /// A new disk is attached at a slot. A member that stands there was removed: what is asked of it is refused, and it is forgotten.
+    fn attach(&mut self, slot: Slot, printed: &mut Printed) -> Result<bool, Refusal> {
+        if let Some(at) = self.place(u64::from(slot.number())) {
+            self.take_all(at, printed)?;
+            self.manage(ManagerAct::Forget { at }, printed)?;
+            self.faulty.retain(|faulty| *faulty != slot);
+        }
+        let event = self.awaited.take();
+        self.carry(ManagerAct::Attach { event }, printed)
+    }
+
+    /// Whether a disk is attached at the slot next.
+    pub(crate) fn awaits(&self, slot: u64) -> bool {
+        let Some(managed) = &self.managed else {
+            return false;
+        };
+        match managed.management.next() {
+            Order::Attach(awaited) => u64::from(awaited.number()) == slot,
+            _ => false,
+        }
+    }
+
+    /// The member at a place takes all that its sessions ask.
+    fn take_all(&mut self, at: usize, printed: &mut Printed) -> Result<(), Refusal> {
+        for _ in 0..u64::MAX {
+            if !self.step_at(at, Act::Take, printed)?.is_taken() {
+                break;
+            }
+        }
+        Ok(())
     }
 
     /// An order is carried out by one act: whether that was done. A refusal is added.

@@ -89,7 +89,7 @@ impl Sim {
         }
         let mut sessions: Vec<SessionId> = Vec::new(self.alloc);
         for (session, speaker) in &self.speakers {
-            if speaker.at == at {
+            if self.slot(at) == Some(speaker.slot) {
                 sessions.push(*session)?;
             }
         }

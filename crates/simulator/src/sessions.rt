@@ -4,6 +4,7 @@ use crate::printed::Printed;
 use crate::refusal::Refusal;
 use crate::sim::Sim;
 use flush_barrier::SessionId;
+use gate_journal::Slot;
 use life::Step;
 
 /// Whose bytes a session has.
@@ -15,10 +16,10 @@ pub(crate) enum Voice {
     Client,
 }
 
-/// A session of the script, at the member at a place.
+/// A session of the script, at the member at a slot.
 #[derive(Clone, Copy)]
 pub(crate) struct Speaker {
-    pub(crate) at: usize,
+    pub(crate) slot: Slot,
     pub(crate) voice: Voice,
 }
 
@@ -73,13 +74,16 @@ impl Sim {
         let Some(at) = self.place(member) else {
             return Ok(false);
         };
+        let Some(slot) = self.slot(at) else {
+            return Ok(false);
+        };
         if self.progress(at).is_none() {
             return Ok(false);
         }
         let begun = self.step(Step::Connect { session, at }, printed)?;
         begun.show(printed)?;
         if begun.is_taken() {
-            let _none = self.speakers.insert(session, Speaker { at, voice })?;
+            let _none = self.speakers.insert(session, Speaker { slot, voice })?;
         }
         Ok(begun.is_taken())
     }

@@ -92,6 +92,8 @@ pub struct Sim {
     /// The configuration's disk, which it left.
     pub(crate) config_left: Option<MemDisk>,
     pub(crate) speakers: BTreeMap<SessionId, Speaker>,
+    /// What is to happen at a device call of the disk that is attached next, if anything is.
+    pub(crate) awaited: Option<Event>,
     /// The members whose devices' faults were told.
     pub(crate) faulty: Vec<Slot>,
     /// What is to be told of the steps since the last command, where they are told.
@@ -113,6 +115,7 @@ impl Sim {
             left: Vec::new(alloc),
             config_left: None,
             speakers: BTreeMap::new(alloc),
+            awaited: None,
             faulty: Vec::new(alloc),
             notes: None,
             is_kept: false,
@@ -131,21 +134,14 @@ impl Sim {
             left: _,
             config_left: _,
             speakers: _,
+            awaited: _,
             faulty: _,
             notes: _,
             is_kept: _,
             kept: _,
         } = self;
-        if let Some(
-            ManagedWorld {
-                world,
-                management: _,
-                candidate: _,
-                outside: _,
-            },
-        ) = managed
-        {
-            let _stores = world.abandon();
+        if let Some(managed) = managed {
+            managed.abandon();
         }
     }
 

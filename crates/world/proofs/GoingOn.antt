@@ -1,5 +1,5 @@
 -- How sessions' histories go on, one call after another.
-use Rattle.std.proofs.Common.{◌≡◌, ℕ, List, [], ◌++◌, length, arith, inl, ap, sym, subst, ◌∙◌}
+use Rattle.std.proofs.Common.{◌≡◌, ℕ, List, [], ◌++◌, length, map, arith, inl, ap, sym, subst, ◌∙◌}
 use Rattle.std.proofs.lemmas.Grind.{flat_map-append}
 use Rattle.std.proofs.lemmas.List.{append_assoc, append-nil, length-map}
 use Rattle.flush_barrier.specs.declared.session_id.SessionId.{SessionId}
@@ -63,14 +63,17 @@ go_on_still a histories going = (
 )
 
 -- sessions of the same numbers stand where they stood
-pub remain_at : (a b : Sessions) → AreAtPlaces a b → Remain a b
-remain_at a b same = record {
-  places = λ id place there. place_by_ids id b.clients a.clients same.ids ∙ there;
-  came = λ id place there. inl (place_by_ids id a.clients b.clients (sym same.ids) ∙ there);
+pub remain_by : (a b : Sessions) → map (λ c. c.session.id) b.clients ≡ map (λ c. c.session.id) a.clients → b.export ≡ a.export → Remain a b
+remain_by a b ids export = record {
+  places = λ id place there. place_by_ids id b.clients a.clients ids ∙ there;
+  came = λ id place there. inl (place_by_ids id a.clients b.clients (sym ids) ∙ there);
   many =
       let one = length-map a.clients (λ c. c.session.id) in
       let other = length-map b.clients (λ c. c.session.id) in
-      let both = ap length same.ids in
+      let both = ap length ids in
       omega (arith, one, other, both);
-  export = same.export;
+  export = export;
 }
+
+pub remain_at : (a b : Sessions) → AreAtPlaces a b → Remain a b
+remain_at a b same = remain_by a b same.ids same.export

@@ -2,6 +2,7 @@ mod AlikeSteps
 mod BeginningSteps
 mod CallSteps
 mod FeedSteps
+mod ForgettingSteps
 pub mod Going
 pub mod GoingOn
 pub mod InnerSteps

@@ -1,3 +1,4 @@
+pub mod Forgetting
 pub mod Joining
 pub mod Management
 pub mod Reception

@@ -8,6 +8,7 @@
 
 mod arming;
 mod asking;
+mod forgetting;
 mod holding;
 mod joiner;
 mod joining;

@@ -1,5 +1,5 @@
 //! The manager of a world carries the orders of a joining out.
-ghost use Rattle.std.specs.Prelude.{◌≡◌, ◌≢◌, ◌⊎◌, None, Some, false, true, IfErr, IfNone, IfOk, IfSome, IsErrOf, IsOk, OnErr, OnOk, ℕ};
+ghost use Rattle.std.specs.Prelude.{◌≡◌, ◌≢◌, ◌⊎◌, ◌↔◌, None, Some, false, true, IfErr, IfNone, IfOk, IfSome, IsErrOf, IsOk, IsTrue, OnErr, OnOk, ℕ};
 ghost use Rattle.chain.specs.Joining.{IsCopyAt};
 ghost use Rattle.chain_core.specs.Node.{IsRunning};
 ghost use Rattle.configurations.specs.Record.{Record};
@@ -42,6 +42,13 @@ impl<D: Disk + Drop> Management<D> {
     {
         self.note(world);
         self.manager.join(self.alloc, slot)
+    }
+
+    /// Whether the joining under way, if one is, may be abandoned.
+    pub fn can_abandon(&self) -> bool
+        ensures { IsTrue result ↔ (why_no_abandoning self.now.manager ≡ None) }
+    {
+        self.manager.can_abandon()
     }
 
     /// The manager abandons the joining under way, and who joins is given up: the store comes back, if its disk was counted. 171

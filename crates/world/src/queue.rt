@@ -1,5 +1,5 @@
 //! The demands that wait for a member.
-ghost use Rattle.std.specs.Prelude.{◌≡◌, ◌≤◌, ◌∷◌, ◌++◌, [], ◌+◌, None, length, IfSome, OnOk};
+ghost use Rattle.std.specs.Prelude.{◌≡◌, ◌↔◌, ◌≤◌, ◌∷◌, ◌++◌, [], ◌+◌, None, length, IfSome, IsTrue, OnOk};
 ghost use Rattle.std.specs.VecDeque.{deque_capacity, deque_len};
 ghost use Rattle.world.specs.Taking.{asks_floor};
 
@@ -30,6 +30,13 @@ impl Queue {
         Queue {
             demands: VecDeque::new(alloc),
         }
+    }
+
+    /// Whether no demand is in it.
+    pub(crate) fn is_empty(&self) -> bool
+        ensures { IsTrue result ↔ (self.now ≡ []) }
+    {
+        self.demands.is_empty()
     }
 
     /// The first demand leaves it. `None` where there is none.

@@ -63,7 +63,7 @@ returns-in-Err-Refused-clause-refused g c =
     subst (λ r. IsRefusedDisk g.D.Disk.keeps_model (λ s volume. IsStored s.contents volume (g.D.Disk.gives s.disk) (g.D.Disk.may_leave_now s.disk)) g.D.Disk.gives g.D.Disk.failures c.args.world.now.chain c.args.disk c.into_disk.result r)
     (sym c.in-Err-Refused.refusal-is) (record {
       told = inr (inl why.0);
-      cause = some_and _ (disk_of c.fill.new.copying.receiver) (led g.D.Disk.failures c.args.disk c.in-Ok.copying c.fill.new.copying c.in-Ok.ensures.done (λ n now. IsCaused n (g.D.Disk.failures now) c.in-Err-Refused.refusal) why.1) c.into_disk.result c.into_disk.ensures;
+      cause = some_and _ (disk_of c.fill.new.copying.receiver) (led g.D.Disk.failures c.args.disk c.in-Ok.copying c.fill.new.copying c.in-Ok.ensures.done (λ n now. IsCaused n (g.D.Disk.failures now) c.in-Err-Refused.refusal) why.1) c.into_disk.result c.into_disk.ensures.its;
       opens = λ keeps volume long all.
           let begun = long ∙ ap (λ (n : ℕ). 4096 * n) (sym c.in-Ok.ensures.is_for.blocks) in
           ticking_refused c.in-Err-Refused.refusal _

@@ -1,14 +1,16 @@
-use Rattle.std.proofs.Common.{◌≡◌, true, false, ap, refl, subst}
+use Rattle.std.proofs.Common.{◌≡◌, ◌++◌, ◌∙◌, true, false, ap, refl, subst, sym}
 use Rattle.std.specs.Prelude.{Err, Ok, Result}
 use Rattle.manager.specs.declared.refusal.Refusal as manager
 use Rattle.manager.specs.declared.refusal.Refusal.TheVariants as managers
 use Rattle.clients.specs.Clients.{no_one}
+use Rattle.life.specs.Aside.{GrowsOutside, IsSetAside}
 use Rattle.life.specs.Calls.{Abandons}
 use Rattle.life.specs.Managed.{Managed}
 use Rattle.life.specs.Played.{handed_of}
 use Rattle.life.specs.declared.answer.Answer.TheVariants.{Refused}
 use Rattle.life.proofs.Answering.{done_so, silent_none}
-use Rattle.life.proofs.Copied.{apart_anyhow, apart_same, gone}
+use Rattle.life.proofs.Copied.{apart_anyhow, apart_same, gone, nothing_happens}
+use Rattle.life.proofs.Outside.{outside_aside, outside_stays}
 use Rattle.life.proofs.Starting.{IsStore, about_of_store, keeps_volume, leaves_now}
 use Rattle.life.proofs.admitting.abandon.Goals as goal
 
@@ -20,14 +22,16 @@ pub returns-in-Ok-clause-does : goal.returns-in-Ok-clause-does
 returns-in-Ok-clause-does c = (
   Ok tt,
   c.silent.ensures,
-  subst (λ (m : Managed IsStore). Abandons (Ok tt) m (record { world = c.abandon_join.new.world; management = c.abandon_join.new.self; candidate = c.replace.new.dest; outside = c.managed.inside.outside.items })) c.managed.view_is (record {
+  subst (λ (m : Managed IsStore). Abandons (Ok tt) m (record { world = c.abandon_join.new.world; management = c.abandon_join.new.self; candidate = c.replace-candidate.new.dest; outside = c.set_aside.new.outside.items })) c.managed.view_is (record {
     done = c.in-Ok.ensures.done;
-    nobody = c.replace.ensures.after;
+    nobody = c.replace-candidate.ensures.after;
+    aside = (c.set_aside.ensures.0, subst (λ x. IsSetAside x c.set_aside.ensures.0) c.replace-candidate.ensures.value c.set_aside.ensures.1, c.set_aside.ensures.2 ∙ ap (λ l. l ++ c.set_aside.ensures.0) c.make_room.ensures.items);
     given_up = (c.in-Ok.store, c.in-Ok.ensures.given_up);
     ok = λ is. c.in-Ok.ensures.ok refl;
     refused = tt;
     memory = λ is. let clash : ◌≡◌ {A = Result (Unit {0}) manager.Refusal} (Ok tt) (Err managers.Memory) = is in absurd (cc);
     unchanged = tt;
+    outside = tt;
   }),
 )
 
@@ -37,20 +41,22 @@ returns-in-Ok-clause-one_volume c =
     (done_so about_of_store keeps_volume leaves_now c.managed.inside.world c.abandon_join.new.world no_one c.silent.result (silent_none _ c.silent.ensures) (c.abandon_join.ensures.one_volume tt))
 
 pub returns-in-Ok-clause-copy : goal.returns-in-Ok-clause-copy
-returns-in-Ok-clause-copy c = gone about_of_store keeps_volume leaves_now c.args.managed.now _ _ c.replace.ensures.after
+returns-in-Ok-clause-copy c = gone about_of_store keeps_volume leaves_now c.args.managed.now _ _ c.replace-candidate.ensures.after
 
 pub returns-in-Err-clause-does : goal.returns-in-Err-clause-does
 returns-in-Err-clause-does c = (
   Err c.in-Err.refusal,
   ap Refused c.number.ensures,
-  subst (λ (m : Managed IsStore). Abandons (Err c.in-Err.refusal) m (record { world = c.abandon_join.new.world; management = c.abandon_join.new.self; candidate = c.managed.inside.candidate; outside = c.managed.inside.outside.items })) c.managed.view_is (record {
+  subst (λ (m : Managed IsStore). Abandons (Err c.in-Err.refusal) m (record { world = c.abandon_join.new.world; management = c.abandon_join.new.self; candidate = c.managed.inside.candidate; outside = c.make_room.new.outside.items })) c.managed.view_is (record {
     done = tt;
     nobody = tt;
+    aside = tt;
     given_up = tt;
     ok = λ is. let clash : false ≡ true = is in absurd (cc);
     refused = c.in-Err.ensures.refused;
     memory = λ is. c.in-Err.ensures.memory (err_as c.in-Err.refusal managers.Memory is);
     unchanged = ((c.in-Err.ensures.unchanged.1, c.in-Err.ensures.unchanged.0), refl);
+    outside = c.make_room.ensures.items;
   }),
 )
 
@@ -59,3 +65,40 @@ returns-in-Err-clause-one_volume c = apart_anyhow about_of_store keeps_volume le
 
 pub returns-in-Err-clause-copy : goal.returns-in-Err-clause-copy
 returns-in-Err-clause-copy c = apart_same about_of_store keeps_volume leaves_now _ _ _ c.managed.view_is
+
+pub set_aside-requires : goal.set_aside-requires
+set_aside-requires c = c.make_room.ensures.room c.if-not-make_room.false (c.can_abandon-may.ensures.1 (c.in-Ok.ensures.ok refl))
+
+pub returns-in-Ok-clause-outside : goal.returns-in-Ok-clause-outside
+returns-in-Ok-clause-outside c =
+    subst (λ (m : Managed IsStore). GrowsOutside m (record { world = c.abandon_join.new.world; management = c.abandon_join.new.self; candidate = c.replace-candidate.new.dest; outside = c.set_aside.new.outside.items })) c.managed.view_is
+    (outside_aside _ _ c.replace-candidate.result c.set_aside.ensures.0 c.set_aside.ensures.1 (c.set_aside.ensures.2 ∙ ap (λ l. l ++ c.set_aside.ensures.0) c.make_room.ensures.items))
+
+pub returns-in-Err-clause-outside : goal.returns-in-Err-clause-outside
+returns-in-Err-clause-outside c =
+    subst (λ (m : Managed IsStore). GrowsOutside m (record { world = c.abandon_join.new.world; management = c.abandon_join.new.self; candidate = c.managed.inside.candidate; outside = c.make_room.new.outside.items })) c.managed.view_is
+    (outside_stays _ _ c.make_room.ensures.items)
+
+pub returns-then-not-make_room-clause-does : goal.returns-then-not-make_room-clause-does
+returns-then-not-make_room-clause-does c = (
+  Err managers.Memory,
+  refl,
+  subst (λ (m : Managed IsStore). Abandons (Err managers.Memory) m (record { world = c.managed.inside.world; management = c.managed.inside.management; candidate = c.managed.inside.candidate; outside = c.make_room.new.outside.items })) c.managed.view_is (record {
+    done = tt;
+    nobody = tt;
+    aside = tt;
+    given_up = tt;
+    ok = λ is. let clash : false ≡ true = is in absurd (cc);
+    refused = λ other. absurd (other refl);
+    memory = λ is. c.can_abandon-may.ensures.0 (c.make_room.ensures.needed c.if-not-make_room.true);
+    unchanged = ((refl, refl), refl);
+    outside = c.make_room.ensures.items;
+  }),
+)
+
+pub returns-then-not-make_room-clause-one_volume : goal.returns-then-not-make_room-clause-one_volume
+returns-then-not-make_room-clause-one_volume c = nothing_happens about_of_store keeps_volume leaves_now no_one c.args.managed.now
+    (record { world = c.managed.inside.world; management = c.managed.inside.management; candidate = c.managed.inside.candidate; outside = c.make_room.new.outside.items }) (ap (λ (m : Managed IsStore). m.world) c.managed.view_is) refl
+
+pub returns-then-not-make_room-clause-copy : goal.returns-then-not-make_room-clause-copy
+returns-then-not-make_room-clause-copy c = apart_same about_of_store keeps_volume leaves_now _ _ _ c.managed.view_is

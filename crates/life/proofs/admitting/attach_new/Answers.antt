@@ -33,3 +33,6 @@ returns-clause-attaches c =
 pub returns-clause-copy : goal.returns-clause-copy
 returns-clause-copy c =
     apart_attached about_of_store keeps_volume leaves_now c.attach.result _ _ _ _ _ c.managed.view_is c.attach.ensures.attaches (c.attach.ensures.copy tt)
+
+pub returns-in_err-arm-clause-copy : goal.returns-in_err-arm-clause-copy
+returns-in_err-arm-clause-copy c = same_copy about_of_store keeps_volume leaves_now c.args.managed.now c.args.managed.now refl

@@ -32,7 +32,7 @@ abbrev EndsSo : Era → Managed IsStore → Refusal → Type 0
 EndsSo = EndsAtReturn (Unit {0}) about_of_store keeps_volume pends_in leaves_now moment_in left_in failures_in disk_in
 
 pub play_all-requires-clause-go : goal.play_all-requires-clause-go
-play_all-requires-clause-go c = none_met disk_in c.args.managed c.requires.go
+play_all-requires-clause-go c = none_met disk_in c.args.managed c.requires.go c.requires.rests.nobody
 
 pub play_all-requires-clause-nobody : goal.play_all-requires-clause-nobody
 play_all-requires-clause-nobody c = c.requires.rests.nobody

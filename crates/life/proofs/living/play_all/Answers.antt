@@ -6,6 +6,7 @@ use Rattle.life.specs.Lived.{AreOfOneVolume}
 use Rattle.life.specs.Played.{handed_by}
 use Rattle.life.specs.declared.answer.Answer.{Answer}
 use Rattle.life.specs.declared.era.Deed.{Deed}
+use Rattle.life.proofs.Outside.{outside_stays, outside_then}
 use Rattle.life.proofs.Lives.{GoOnCopied, are_of_one_volume, none_turn, turn_more, turn_to_stop, zip_less, zip_more}
 use Rattle.life.proofs.Leading.{leads_more, leads_to_stop}
 use Rattle.life.proofs.Stops.{unfed}
@@ -20,7 +21,7 @@ loop-deed-init c = record {
   pass = subst (λ (l : List Answer). GoOnCopied about_of_store keeps_volume leaves_now (zip [] l) c.args.managed.now c.args.managed.now) (sym c.in_ok-answers.ensures.items)
       (none_turn about_of_store keeps_volume leaves_now c.args.managed.now c.sound.ensures.sessions c.requires.nobody);
   runs = c.requires.go;
-  outside = refl;
+  outside = outside_stays c.args.managed.now c.args.managed.now refl;
   many = ap length c.in_ok-answers.ensures.items;
   count = c.in_ok-answers.ensures.len;
   room = omega (arith, c.in_ok-answers.ensures.capacity);
@@ -51,7 +52,7 @@ loop-deed-preserved c =
           (turn_more about_of_store keeps_volume leaves_now c.lives_are_of_one_volume.ensures.happenings c.args.managed.now c.loop-deed.managed c.play_deed-answer.new.managed c.sound.ensures.joined c.sound-in-loop-deed.ensures.joined
           (zip (take i deeds) answers) deed answer c.sound-in-loop-deed-2.ensures.sessions inv.pass c.play_deed-answer.ensures.one_volume c.play_deed-answer.ensures.copy);
       runs = runs;
-      outside = c.play_deed-answer.ensures.outside ∙ inv.outside;
+      outside = outside_then c.args.managed.now c.loop-deed.managed c.play_deed-answer.new.managed inv.outside c.play_deed-answer.ensures.outside;
       many = let sum = length-append answers (answer ∷ []) in omega (arith, inv.many, ap length items, sum);
       count = omega (arith, inv.count, c.push_reserved.ensures.len);
       room = omega (arith, inv.room, c.push_reserved.ensures.capacity);
@@ -75,7 +76,7 @@ returns-then-has_met_stop-clause-plays c =
     (drop (i + 1) deeds) long inv.plays c.play_deed-answer.ensures.does (c.has_met_stop.ensures.0 c.if-has_met_stop.true))
 
 pub returns-then-has_met_stop-clause-outside : goal.returns-then-has_met_stop-clause-outside
-returns-then-has_met_stop-clause-outside c = c.play_deed-answer.ensures.outside ∙ c.loop-deed.invariant.outside
+returns-then-has_met_stop-clause-outside c = outside_then c.args.managed.now c.loop-deed.managed c.play_deed-answer.new.managed c.loop-deed.invariant.outside c.play_deed-answer.ensures.outside
 
 pub returns-clause-outside : goal.returns-clause-outside
 returns-clause-outside c = c.loop-deed.invariant.outside

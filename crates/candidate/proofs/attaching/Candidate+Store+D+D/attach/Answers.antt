@@ -1,4 +1,4 @@
-use Rattle.std.proofs.Common.{List, ℕ, ◌*◌, ◌≤◌, suc, length, ap, sym, subst, ◌≡◌, ◌∙◌, arith, true, false}
+use Rattle.std.proofs.Common.{List, ℕ, ◌*◌, ◌≤◌, suc, length, ap, refl, sym, subst, ◌≡◌, ◌∙◌, arith, true, false}
 use Rattle.std.specs.Prelude.{IfSome, None, Option, Some}
 use Rattle.std.proofs.lemmas.List.{length-replicate}
 use Rattle.local_store.specs.About.{about_of}
@@ -51,3 +51,10 @@ returns-in-Ok-clause-copy g c = λ keeps v s shows stands had runs.
       long = ap (λ (n : ℕ). length (machine_volume (bytes_of c.args.world.now.chain) s n)) front ∙ long;
       copy = c.in-Ok.ensures.copies keeps (machine_volume (bytes_of c.args.world.now.chain) s c.in-Ok.copying.front) (ap (λ (n : ℕ). length (machine_volume (bytes_of c.args.world.now.chain) s n)) front ∙ long);
     }
+
+pub returns-in-Err-clause-attaches : goal.returns-in-Err-clause-attaches
+returns-in-Err-clause-attaches g c = record {
+  attached = tt;
+  idle = tt;
+  refused = (c.in-Err.ensures.told, c.at_once.result, c.in-Attach.slot, c.in-Nobody.is, refl, sym c.in-Attach.ensures, refl);
+}

@@ -36,3 +36,11 @@ returns-in_err-gave-clause-one_volume g c = λ keeps.
     let leaves = λ (x : stores.Store g.row.D.Denot g.D.Disk). g.D.Disk.may_leave_now x.disk in
     let p = err_from_is_err_and c.from_residual.result c.from_residual.ensures.1 in
     subst (λ (r : Result Gave Refusal). IsOfOneVolume about kept leaves no_one (handed_gave r) c.args.world.now c.give.new.world) (sym p.1) (c.in_err-gave.ensures.one_volume keeps)
+
+pub returns-in_err-gave-clause-copies : goal.returns-in_err-gave-clause-copies
+returns-in_err-gave-clause-copies g c =
+    let p = err_from_is_err_and c.from_residual.result c.from_residual.ensures.1 in
+    rw (p.1, p.2) (record {
+      due = λ slot is. (c.in_err-gave.ensures.gives, (tt, refl));
+      idle = λ other. absurd (other c.in-Copy.field-0 (sym c.in-Copy.ensures));
+    })

@@ -1,4 +1,4 @@
-use Rattle.std.proofs.Common.{List, ℕ, ap, refl, sym, subst, ◌∙◌}
+use Rattle.std.proofs.Common.{List, ℕ, ap, refl, sym, subst, ◌≡◌, ◌∙◌}
 use Rattle.local_store.specs.About.{about_of}
 use Rattle.local_store.specs.Store.{IsStored}
 use Rattle.local_store.specs.declared.store.Store as stores
@@ -10,7 +10,11 @@ use Rattle.candidate.proofs.Copied.{copy_stays, stays_as}
 use Rattle.candidate.proofs.Given.{given_is, stopped_same}
 use Rattle.std.specs.Prelude.{Err, None, Some}
 use Rattle.clients.specs.Clients.{no_one}
-use Rattle.joining.specs.Giving.{handed_giving}
+use Rattle.joining.specs.Copying.{Seen}
+use Rattle.joining.specs.Giving.{RefusesGiving, handed_giving}
+use Rattle.local_store.specs.Refusal.{IsCaused}
+use Rattle.rejoin_catchup.specs.Receiving.{disk_of}
+use Rattle.candidate.proofs.Refusals.{led_on}
 use Rattle.joining.specs.declared.refusal.NotGiven.{NotGiven}
 use Rattle.joining.specs.declared.refusal.NotGiven.TheVariants as not_given
 use Rattle.world.specs.World.{IsOfOneVolume}
@@ -98,3 +102,31 @@ returns-in-Ok-false-clause-copy g c = λ keeps incarnation v w s t moves shows s
 
 pub returns-in-Ok-false-clause-one_volume : goal.returns-in-Ok-false-clause-one_volume
 returns-in-Ok-false-clause-one_volume g c = λ keeps. c.in-Ok-false.ensures.one_volume keeps
+
+pub returns-in-Err-Refused-clause-gives : goal.returns-in-Err-Refused-clause-gives
+returns-in-Err-Refused-clause-gives g c =
+    let about = λ (x : stores.Store g.row.D.Denot g.D.Disk). about_of x.contents in
+    let failures = λ (x : stores.Store g.row.D.Denot g.D.Disk). g.D.Disk.failures x.disk in
+    let kept = λ (x : stores.Store g.row.D.Denot g.D.Disk) (volume : List ℕ). IsStored x.contents volume (g.D.Disk.gives x.disk) (g.D.Disk.may_leave_now x.disk) in
+    let moment = λ (x : stores.Store g.row.D.Denot g.D.Disk). g.D.Disk.moment x.disk in
+    let since = λ (x : stores.Store g.row.D.Denot g.D.Disk). g.D.Disk.may_have_left_since x.disk in
+    let spoils = c.refuse.ensures in
+    let same : spoils.before ≡ c.give.new.self = cc (sym spoils.was) in
+    record {
+      before = c.in-Copying.copying;
+      behind = c.give.new.self;
+      left = spoils.left;
+      was = c.in-Copying.is;
+      is = spoils.is;
+      its = subst (λ (d : Seen g.row.D.Denot). disk_of d.receiver ≡ Some spoils.left.disk) same spoils.its;
+      known = spoils.known;
+      refused = subst (λ (e : NotGiven). RefusesGiving g.D.Disk.keeps_model about failures kept moment since e c.in-Copying.copying c.give.new.self c.args.world.now c.give.new.world) c.in-Err-Refused.field-0-is c.in-Err-Refused.ensures.refused;
+    }
+
+pub returns-in-Err-Refused-clause-cause : goal.returns-in-Err-Refused-clause-cause
+returns-in-Err-Refused-clause-cause g c =
+    let spoils = c.refuse.ensures in
+    let same : spoils.before ≡ c.give.new.self = cc (sym spoils.was) in
+    let R = λ (was now : g.row.D.Denot). IsCaused (g.D.Disk.failures was) (g.D.Disk.failures now) c.in-Err-Refused.refusal in
+    rw (c.in-Copying.is, spoils.is) (led_on (stores.Store g.row.D.Denot g.D.Disk) R c.in-Copying.copying c.give.new.self spoils.left (c.in-Err-Refused.ensures.cause c.in-Err-Refused.refusal c.in-Err-Refused.field-0-is)
+    (subst (λ (d : Seen g.row.D.Denot). disk_of d.receiver ≡ Some spoils.left.disk) same spoils.its))

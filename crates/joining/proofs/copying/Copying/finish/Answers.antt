@@ -2,6 +2,7 @@ use Rattle.std.proofs.Common.{◌≤◌, inl, inr, subst, sym, ℕ}
 use Rattle.std.proofs.lemmas.Result.{err_from_is_err_and}
 use Rattle.home_blocks.specs.Places.{disk_size_of}
 use Rattle.local_store.specs.Installer.{finished_meaning}
+use Rattle.local_store.specs.Meaning.{Means}
 use Rattle.local_store.specs.Refusal.{IsOfOpening}
 use Rattle.rejoin_catchup.specs.Receiving.{disk_of}
 use Rattle.joining.proofs.Ending.{if_some, read_leaves}
@@ -54,3 +55,16 @@ pub returns-in_err-store-clause-broken : goal.returns-in_err-store-clause-broken
 returns-in_err-store-clause-broken g c = λ there.
     let p = err_from_is_err_and c.from_residual-in_err-store.result c.from_residual-in_err-store.ensures.1 in
     rw (p.1, p.2) (λ same. absurd (subst IsOfOpening same c.in_err-store.ensures.told))
+
+pub returns-in_err-receipt-clause-left : goal.returns-in_err-receipt-clause-left
+returns-in_err-receipt-clause-left g c = λ keeps.
+    let p = err_from_is_err_and c.from_residual.result c.from_residual.ensures.1 in rw (p.1, p.2) (c.in_err-receipt.ensures.left keeps)
+
+pub returns-in_err-store-clause-left : goal.returns-in_err-store-clause-left
+returns-in_err-store-clause-left g c = λ keeps.
+    let p = err_from_is_err_and c.from_residual-in_err-store.result c.from_residual-in_err-store.ensures.1 in
+    let disk = c.in_ok-receipt.field-0.disk in
+    let back = c.in_err-store.ensures.back keeps in
+    rw (p.1, p.2) (λ bytes left meaning means.
+    let was = back.moments.each bytes (g.met.D.Disk.counts_now keeps _ (g.D.Disk.moment disk) bytes back.moments.later left) in
+    c.in_ok-receipt.ensures.installed keeps meaning (subst (Means meaning) (c.in_ok-receipt.ensures.durable keeps bytes was) means))

@@ -1,4 +1,4 @@
-use Rattle.std.proofs.Common.{◌≡◌, ◌∙◌, ◌*◌, ap, sym, subst, ℕ, length}
+use Rattle.std.proofs.Common.{◌≡◌, ◌∙◌, ◌*◌, ap, refl, sym, subst, true, ℕ, length}
 use Rattle.std.specs.Prelude.{◌||◌, IfErr, OnOk, Err, IsSome, IsSomeAnd}
 use Rattle.std.proofs.lemmas.Bool.{both_ways}
 use Rattle.local_store.specs.Installer.{MeansNothing}
@@ -11,6 +11,7 @@ use Rattle.rejoin_catchup.specs.declared.piece.Piece.{Piece}
 use Rattle.rejoin_catchup.specs.declared.refusal.Refusal.TheVariants.{Store}
 use Rattle.joining.specs.Copying.{IsCopyOf, IsInCourse, Seen}
 use Rattle.joining.specs.Giving.{has_given_all}
+use Rattle.joining.proofs.OnItsWay.{member_on, refused_on, takes_on}
 use Rattle.joining.proofs.Pieces.{piece_goes_on, piece_leaves}
 use Rattle.joining.proofs.Putting.{copies_on, failed_block, from_some, in_course_broken, in_course_given, leads_on, leads_refused, never_out_of_order, of_store, some_of, there_behind, there_so, weaker_on}
 use Rattle.joining.proofs.copying.Copying.put.Goals as goal
@@ -20,7 +21,7 @@ unreachable-requires g c =
     let old = c.args.self.now in
     let (block, due) = some_of (due_of old.sender) c.requires.due in
     let view = c.self.view_is in
-    let was = subst IsInCourse view c.self.invariant in
+    let was = subst IsInCourse view c.self.invariant.0 in
     let piece = from_some (λ (b : ℕ). c.next_block-piece.result ≡ piece_of c.self.inside.sender b c.args.bytes) (due_of c.self.inside.sender) c.next_block-piece.ensures.piece block (ap (λ (s : Seen g.row.D.Denot). due_of s.sender) view ∙ due) in
     never_out_of_order old was c.requires.sending c.requires.runs block c.args.bytes due
     (ap (λ (s : Seen g.row.D.Denot). course_behind s.receiver.course (piece_of s.sender block c.args.bytes)) (sym view) ∙ ap (course_behind c.self.inside.receiver.course) (sym piece) ∙ c.take.ensures.order.0 (c.in-Err-OutOfOrder.is ∙ ap Err c.in-Err-OutOfOrder.field-0-is))
@@ -31,10 +32,20 @@ invariant_of-self g c =
     let (block, due) = some_of (due_of old.sender) c.requires.due in
     let view = c.self.view_is in
     let piece = from_some (λ (b : ℕ). c.next_block-piece.result ≡ piece_of c.self.inside.sender b c.args.bytes) (due_of c.self.inside.sender) c.next_block-piece.ensures.piece block (ap (λ (s : Seen g.row.D.Denot). due_of s.sender) view ∙ due) in
-    in_course_broken (record { at = c.self.inside.at; front = c.self.inside.front; sender = c.self.inside.sender; receiver = c.self.inside.receiver; rests = c.self.inside.rests; broken = c.self.inside.broken })
-    c.self.invariant c.next_block-piece.new.self c.take.new.self
-    (there_behind (disk_of c.self.inside.receiver) (disk_of c.take.new.self) _ c.self.invariant.there (leads_refused _ c.self.inside.receiver c.take.new.self c.take.result c.take.ensures.size c.in-Err-Store.field-0 c.in-Err-Store.is))
-    (ap (λ (course : Course). course.again) (c.in-Err-Store.ensures.failed (of_store c.in-Err-Store.field-0 c.in-Err-Store.refusal c.in-Err-Store.field-0-is) ∙ ap (course_failed c.self.inside.receiver.course) piece ∙ failed_block c.self.inside.sender block c.args.bytes c.self.inside.receiver.course))
+    let new : Seen g.row.D.Denot = record { at = c.self.inside.at; front = c.self.inside.front; sender = c.next_block-piece.new.self; receiver = c.take.new.self; rests = c.self.inside.rests; broken = true } in (
+      in_course_broken (record { at = c.self.inside.at; front = c.self.inside.front; sender = c.self.inside.sender; receiver = c.self.inside.receiver; rests = c.self.inside.rests; broken = c.self.inside.broken })
+          c.self.invariant.0 c.next_block-piece.new.self c.take.new.self
+          (there_behind (disk_of c.self.inside.receiver) (disk_of c.take.new.self) _ c.self.invariant.0.there (leads_refused _ c.self.inside.receiver c.take.new.self c.take.result c.take.ensures.size c.in-Err-Store.field-0 c.in-Err-Store.is))
+          (ap (λ (course : Course). course.again) (c.in-Err-Store.ensures.failed (of_store c.in-Err-Store.field-0 c.in-Err-Store.refusal c.in-Err-Store.field-0-is) ∙ ap (course_failed c.self.inside.receiver.course) piece ∙ failed_block c.self.inside.sender block c.args.bytes c.self.inside.receiver.course)),
+      λ keeps.
+          let way = c.self.invariant.1 keeps in
+          let (sb, copy, seen) = way.taking (ap (λ (s : Seen g.row.D.Denot). s.broken) view ∙ c.requires.runs) in
+          refused_on g.D.Disk.gives g.D.Disk.may_leave_now g.D.Disk.moment g.D.Disk.may_have_left_since (g.met.D.Disk.counts_now keeps) c.self.inside.member new
+          (member_on g.D.Disk.gives g.D.Disk.may_leave_now c.self.inside.member sb copy c.self.inside.receiver c.take.new.self seen c.take.ensures.home way.its) (disk_of c.self.inside.receiver) c.self.invariant.0.there
+          (λ was here. weaker_on g.D.Disk.moment g.D.Disk.may_have_left_since was (disk_of c.take.new.self) (MayBeLeft sb copy c.next_block-piece.result) MeansNothing
+          (λ d left. piece_leaves c.self.inside.sender block c.args.bytes sb copy d (subst (λ (p : Piece). MayBeLeft sb copy p d) piece left))
+          (leads_refused _ c.self.inside.receiver c.take.new.self c.take.result (c.take.ensures.any_moment keeps sb copy seen) c.in-Err-Store.field-0 c.in-Err-Store.is was here)) refl,
+    )
 
 pub returns-in-Err-Store-clause-any_moment : goal.returns-in-Err-Store-clause-any_moment
 returns-in-Err-Store-clause-any_moment g c = λ keeps sb copy taken was here.
@@ -55,7 +66,7 @@ pub returns-in-Err-Store-clause-broken : goal.returns-in-Err-Store-clause-broken
 returns-in-Err-Store-clause-broken g c = λ there same.
     let view = c.self.view_is in
     let (i, is) = some_of c.self.inside.receiver.installation (subst (λ (s : Seen g.row.D.Denot). IsSome s.receiver.installation) (sym view) there) in
-    both_ways i.broken (c.self.invariant.goes_on (ap (λ (s : Seen g.row.D.Denot). s.broken) view ∙ c.requires.runs) i is) ((c.take.ensures.broken i is).0 (c.in-Err-Store.is ∙ ap Err (c.in-Err-Store.field-0-is ∙ ap Store same))).1
+    both_ways i.broken (c.self.invariant.0.goes_on (ap (λ (s : Seen g.row.D.Denot). s.broken) view ∙ c.requires.runs) i is) ((c.take.ensures.broken i is).0 (c.in-Err-Store.is ∙ ap Err (c.in-Err-Store.field-0-is ∙ ap Store same))).1
 
 pub invariant_of-self-2 : goal.invariant_of-self-2
 invariant_of-self-2 g c =
@@ -64,11 +75,19 @@ invariant_of-self-2 g c =
     let piece = from_some (λ (b : ℕ). c.next_block-piece.result ≡ piece_of c.self.inside.sender b c.args.bytes) (due_of c.self.inside.sender) c.next_block-piece.ensures.piece block (ap (λ (s : Seen g.row.D.Denot). due_of s.sender) view ∙ due) in
     let old : Seen g.row.D.Denot = record { at = c.self.inside.at; front = c.self.inside.front; sender = c.self.inside.sender; receiver = c.self.inside.receiver; rests = c.self.inside.rests; broken = c.self.inside.broken } in
     let some = c.in-Ok.ensures.ready ∙ ap is_end piece ∙ piece_goes_on c.self.inside.sender block c.args.bytes in
-    in_course_given old c.self.invariant (subst (λ (s : Seen g.row.D.Denot). IsSending s.sender) (sym view) c.requires.sending) (ap (λ (s : Seen g.row.D.Denot). s.broken) view ∙ c.requires.runs)
-    block c.args.bytes (ap (λ (s : Seen g.row.D.Denot). due_of s.sender) view ∙ due)
-    c.next_block-piece.new.self c.next_block-piece.ensures.given c.take.new.self c.rests_then-rests.result (c.rests_then-rests.ensures ∙ ap (λ (s : Seen g.row.D.Denot). s.rests || has_given_all s) (sym view))
-    (there_behind (disk_of c.self.inside.receiver) (disk_of c.take.new.self) _ c.self.invariant.there (leads_on _ c.self.inside.receiver c.take.new.self c.take.result c.take.ensures.size c.in-Ok.field-0 c.in-Ok.is some))
-    (ap (course_behind c.self.inside.receiver.course) (sym piece) ∙ c.in-Ok.ensures.taken) c.in-Ok.ensures.runs
+    let new : Seen g.row.D.Denot = record { at = c.self.inside.at; front = c.self.inside.front; sender = c.next_block-piece.new.self; receiver = c.take.new.self; rests = c.rests_then-rests.result; broken = c.self.inside.broken } in (
+      in_course_given old c.self.invariant.0 (subst (λ (s : Seen g.row.D.Denot). IsSending s.sender) (sym view) c.requires.sending) (ap (λ (s : Seen g.row.D.Denot). s.broken) view ∙ c.requires.runs)
+          block c.args.bytes (ap (λ (s : Seen g.row.D.Denot). due_of s.sender) view ∙ due)
+          c.next_block-piece.new.self c.next_block-piece.ensures.given c.take.new.self c.rests_then-rests.result (c.rests_then-rests.ensures ∙ ap (λ (s : Seen g.row.D.Denot). s.rests || has_given_all s) (sym view))
+          (there_behind (disk_of c.self.inside.receiver) (disk_of c.take.new.self) _ c.self.invariant.0.there (leads_on _ c.self.inside.receiver c.take.new.self c.take.result c.take.ensures.size c.in-Ok.field-0 c.in-Ok.is some))
+          (ap (course_behind c.self.inside.receiver.course) (sym piece) ∙ c.in-Ok.ensures.taken) c.in-Ok.ensures.runs,
+      λ keeps.
+          let way = c.self.invariant.1 keeps in
+          let (sb, copy, seen) = way.taking (ap (λ (s : Seen g.row.D.Denot). s.broken) view ∙ c.requires.runs) in
+          takes_on g.D.Disk.gives g.D.Disk.may_leave_now c.self.inside.member sb (with_piece copy c.next_block-piece.result) new
+          (member_on g.D.Disk.gives g.D.Disk.may_leave_now c.self.inside.member sb copy c.self.inside.receiver c.take.new.self seen c.take.ensures.home way.its)
+          (c.in-Ok.ensures.given keeps sb copy seen (ap is_end piece ∙ piece_goes_on c.self.inside.sender block c.args.bytes)),
+    )
 
 pub returns-clause-copies : goal.returns-clause-copies
 returns-clause-copies g c = λ keeps volume long block due is sb was.
@@ -104,7 +123,7 @@ returns-clause-cause g c = λ was here.
     let (block, due) = some_of (due_of c.args.self.now.sender) c.requires.due in
     let view = c.self.view_is in
     let piece = from_some (λ (b : ℕ). c.next_block-piece.result ≡ piece_of c.self.inside.sender b c.args.bytes) (due_of c.self.inside.sender) c.next_block-piece.ensures.piece block (ap (λ (s : Seen g.row.D.Denot). due_of s.sender) view ∙ due) in
-    there_so (disk_of c.take.new.self) _ (there_behind (disk_of c.self.inside.receiver) (disk_of c.take.new.self) _ c.self.invariant.there (leads_on _ c.self.inside.receiver c.take.new.self c.take.result c.take.ensures.size c.in-Ok.field-0 c.in-Ok.is (c.in-Ok.ensures.ready ∙ ap is_end piece ∙ piece_goes_on c.self.inside.sender block c.args.bytes))) (λ _. tt)
+    there_so (disk_of c.take.new.self) _ (there_behind (disk_of c.self.inside.receiver) (disk_of c.take.new.self) _ c.self.invariant.0.there (leads_on _ c.self.inside.receiver c.take.new.self c.take.result c.take.ensures.size c.in-Ok.field-0 c.in-Ok.is (c.in-Ok.ensures.ready ∙ ap is_end piece ∙ piece_goes_on c.self.inside.sender block c.args.bytes))) (λ _. tt)
 
 pub returns-clause-done : goal.returns-clause-done
 returns-clause-done g c = λ was here.
