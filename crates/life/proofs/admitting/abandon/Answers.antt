@@ -1,4 +1,4 @@
-use Rattle.std.proofs.Common.{◌≡◌, ◌++◌, ◌∙◌, true, false, ap, refl, subst, sym}
+use Rattle.std.proofs.Common.{◌≡◌, ◌++◌, ◌∙◌, true, false, ap, refl, subst}
 use Rattle.std.specs.Prelude.{Err, Ok, Result}
 use Rattle.manager.specs.declared.refusal.Refusal as manager
 use Rattle.manager.specs.declared.refusal.Refusal.TheVariants as managers
