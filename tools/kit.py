@@ -178,7 +178,7 @@ def build_by(crate, backend):
 
 
 def prove_tests(crate, jobs):
-    """Proves the crate's tests, over what its own proof kept, and builds them by Rattle's own compiler, which takes a fifth of LLVM's time."""
+    """Proves the crate's tests, over what its own proof kept, and builds them by Rattle's own compiler, which is far faster than LLVM."""
     with copy_of_kept(crate) as kept:
         own = lambda flags: [*crate.words(flags, tests=True, keeps=False), KEPT[0], kept]
         return crate.prove(["check", *own(["--jobs", str(jobs)])]) or compile_by(crate, own(ONE_JOB), "rattle", f"out/{crate.name}_tests")
