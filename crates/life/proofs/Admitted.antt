@@ -29,6 +29,7 @@ use Rattle.world.specs.declared.told.Told.{Told}
 use Rattle.life.specs.Calls.{AttachesNew, CopiesNext, GivesRest}
 use Rattle.life.specs.Managed.{Managed}
 use Rattle.life.proofs.Joiners.{StaysJoined}
+use Rattle.life.proofs.Waiting.{Waits, waits_for, waits_still}
 use Rattle.life.proofs.Owners.{StayOwn, map_set, own, own_of, stay_changed, stay_same}
 
 -- ---- which order is the next
@@ -71,17 +72,22 @@ pub record IsLed {S : Type 0} (about : S → About) (old new : Managed S) : Type
   pub leads : LeadsManager old.management new.management
   pub joiner : StaysJoined old.world new.world
   pub counted : old.candidate ≡ Counted → new.candidate ≡ Counted
+  pub waits : Waits old → Waits new
 
 -- a disk that was counted is none that is given something, nor is there none
 not_copying : {S D : Type 0} (x : Candidate S D) (c : copying.Seen D) → x ≡ Counted → x ≡ Copying c → ⊥
 not_copying x c counted is = let no : Counted ≡ Copying c = sym counted ∙ is in absurd (cc)
 
-not_nobody : {S D : Type 0} (x : Candidate S D) → x ≡ Counted → x ≡ Nobody → ⊥
+pub not_nobody : {S D : Type 0} (x : Candidate S D) → x ≡ Counted → x ≡ Nobody → ⊥
 not_nobody x counted is = let no : Counted ≡ Nobody = sym counted ∙ is in absurd (cc)
 
 -- where another is noted, it stays
 pub noted_counted : {S D : Type 0} (chain : Chained S) (old new : Candidate S D) → Notes chain old new → old ≡ Counted → new ≡ Counted
 noted_counted {S = S} {D = D} chain old new notes counted = subst (λ (x : Candidate S D). Notes chain x new) counted notes
+
+-- where none is on its way, none is noted
+pub noted_nobody : {S D : Type 0} (chain : Chained S) (old new : Candidate S D) → Notes chain old new → old ≡ Nobody → new ≡ Nobody
+noted_nobody {S = S} {D = D} chain old new notes nobody = subst (λ (x : Candidate S D). Notes chain x new) nobody notes
 
 module _ {S : Type 0} (about : S → About) where
   pub given_up : (store : Option S) (old new : Seen S) → GivesUp store old new → StayOwn about old.chain new.chain
@@ -108,12 +114,14 @@ module _ {S : Type 0} (about : S → About) where
     leads = inr (is.held.are, ap is_record is.held.due);
     joiner = ap (λ w. w.joiner) is.held.holds.are;
     counted = noted_counted new.world.chain old.candidate new.candidate is.noted;
+    waits = waits_for old new (orders.Hold _) is.held.due refl;
   }
   holds_led None old new is = let (why, same, still) = is.idle refl in record {
     stay = stay_same about old.world.chain new.world.chain (ap (λ w. w.chain) still);
     leads = inl same;
     joiner = ap (λ w. w.joiner) still;
     counted = noted_counted new.world.chain old.candidate new.candidate is.noted;
+    waits = waits_still old new (ap (λ m. m.manager) same) (noted_nobody new.world.chain old.candidate new.candidate is.noted);
   }
 
   -- ---- a disk is attached
@@ -128,12 +136,18 @@ module _ {S : Type 0} (about : S → About) where
   attaching_counted (Ok false) old new did counted = (did.idle refl).1 ∙ counted
   attaching_counted (Err refusal) old new did counted = let (told, r, slot, was, now, order, same) = did.refused in absurd (not_nobody old.candidate counted was)
 
+  attaching_waits : (given : Result Bool stores.Refusal) (old new : Managed S) → Attaches given old.candidate new.candidate old.management new.management old.world → Waits old → Waits new
+  attaching_waits (Ok true) old new did = let (c, slot, was, now, due, tail, done) = did.attached refl in waits_for old new (orders.Attach slot) due refl
+  attaching_waits (Ok false) old new did = waits_still old new (ap (λ m. m.manager) (did.idle refl).2) (λ nobody. (did.idle refl).1 ∙ nobody)
+  attaching_waits (Err refusal) old new did = let (told, r, slot, was, now, order, same) = did.refused in waits_for old new (orders.Attach slot) order refl
+
   pub attaches_led : (given : Result Bool stores.Refusal) (old new : Managed S) → AttachesNew given old new → IsLed about old new
   attaches_led given old new is = record {
     stay = stay_same about old.world.chain new.world.chain (ap (λ w. w.chain) is.world);
     leads = elim is.attaches [ inl (memory, (same, still)) ↦ inl same.1 | inr did ↦ attaching_leads given old new did ];
     joiner = ap (λ w. w.joiner) is.world;
     counted = λ counted. elim is.attaches [ inl (memory, (same, still)) ↦ still ∙ counted | inr did ↦ attaching_counted given old new did counted ];
+    waits = elim is.attaches [ inl (memory, (same, still)) ↦ waits_still old new (ap (λ m. m.manager) same.1) (λ nobody. still ∙ nobody) | inr did ↦ attaching_waits given old new did ];
   }
 
   -- a disk that was counted isn't filled any more
@@ -178,6 +192,7 @@ module _ {S : Type 0} (about : S → About) where
       leads = inl stays.management;
       joiner = ap (λ w. w.joiner) stays.same;
       counted = λ counted. stays.candidate ∙ counted;
+      waits = waits_still old new (ap (λ m. m.manager) stays.management) (λ nobody. stays.candidate ∙ nobody);
     }
 
     given_leads : (given : Result Gave stores.Refusal) (b : Bool) (m n : Managing MemDisk) → IfOk given (λ _. DoneIf b m n) → OnErr given (n ≡ m) → is_record (next_of m.manager) ≡ false → LeadsManager m n
@@ -193,6 +208,7 @@ module _ {S : Type 0} (about : S → About) where
             leads = given_leads given (has_given_all new.candidate) old.management new.management done same (ap is_record due);
             joiner = gives_joined given old.candidate new.candidate old.world new.world gives;
             counted = gives_counted given old.candidate new.candidate old.world new.world gives;
+            waits = waits_for old new (orders.Copy slot) due refl;
           }
       | inr other ↦ idle_led old new (is.copies.idle other).1
     ]
@@ -215,6 +231,7 @@ module _ {S : Type 0} (about : S → About) where
               leads = inl same;
               joiner = gives_joined given old.candidate new.candidate old.world new.world gives;
               counted = gives_counted given old.candidate new.candidate old.world new.world gives;
+              waits = waits_for old new (orders.Rest slot) due refl;
             }
         by_filled true filled slot due =
             let (finishes, (done, (same, still))) = is.rests.end slot due filled in
@@ -223,4 +240,5 @@ module _ {S : Type 0} (about : S → About) where
               leads = end_leads given old.management new.management done same (ap is_record due);
               joiner = ap (λ w. w.joiner) still;
               counted = λ counted. absurd (not_filled old.candidate counted filled);
+              waits = waits_for old new (orders.Rest slot) due refl;
             }

@@ -3,7 +3,7 @@ use Rattle.std.proofs.Common.{◌≡◌, ◌≢◌, ℕ, zero, suc, ◌<◌, ◌
 use Rattle.std.specs.Prelude.{◌⊎◌, All, AllPairs, None, Option, Some, option_map, remove, slice_get}
 use Rattle.std.specs.Option.{option_to_list}
 use Rattle.std.proofs.lemmas.Bool.{cases_lt}
-use Rattle.std.proofs.lemmas.List.Elements.{All-append, All-nil}
+use Rattle.std.proofs.lemmas.List.Elements.{All-append, All-cons, All-head, All-nil}
 use Rattle.std.proofs.lemmas.Option.{get_or_from_slice_get, same_Some, slice_get-map, slice_get_within}
 use Rattle.configurations.specs.Record.{Record}
 use Rattle.configurations.specs.declared.member.Member.{Member}
@@ -31,12 +31,16 @@ use Rattle.life.specs.Recovered.{GivesOnly, IsSpared, RecoversFrom, recorded_as}
 use Rattle.life.specs.declared.managed.SlotDisk.{SlotDisk}
 use Rattle.life.proofs.Beside.{others_of, remove_is, zip_long, zip_there}
 use Rattle.life.proofs.Chosen.{IsTheSource, source_is}
-use Rattle.life.proofs.Deeds.{Holds, IsNone, IsOld, dated_members, on_disks}
+use Rattle.life.proofs.Deeds.{AreInTime, Holds, IsNone, dated_members, next_is_none, on_disks}
 use Rattle.life.proofs.Newcomers.{joiner_shown}
-use Rattle.life.proofs.Outside.{IsUnmeant, aside_unmeant}
+use Rattle.life.proofs.Outside.{IsOfNext, aside_counted, aside_next}
 use Rattle.life.proofs.Places.{all_at, all_from, get_either, of_mapped}
 use Rattle.life.proofs.Returning.{cut_of_joiner, cut_of_member}
-use Rattle.life.proofs.Starting.{IsStore, about_of_store, disk_in, first_all, keeps_volume, leaves_now}
+use Rattle.life.proofs.Starting.{IsStore, about_of_store, all_mapped, disk_in, first_all, keeps_volume, leaves_now}
+
+-- what a stop leaves of it is of an incarnation that was recorded
+abbrev IsOld : {S : Type 0} → Managed S → SlotDisk MemDisk → Type 0
+IsOld w d = (bytes : List ℕ) → may_be_left d.disk bytes → (meaning : Meaning) → Means meaning bytes → meaning.incarnation ≤ w.world.chain.recorded.epoch
 
 -- ---- lists
 
@@ -79,17 +83,34 @@ none_outside w nothing = subst (All (IsNone w)) (sym nothing) (All-nil (IsNone w
 -- and the first members' disks are dated
 pub first_dated : (w : Managed IsStore) (geometry : Geometry) (n : ℕ) → map about_of_store (stores_of w.world) ≡ map (first_about geometry) (range_with_len 0 n) → w.world.chain.recorded ≡ first_record n → w.outside ≡ [] → AreDated about_of_store w
 first_dated w geometry n slots recorded nothing = record {
+  recorded = subst (λ (r : Record). All (λ m. m.incarnation ≤ r.epoch) r.members) (sym recorded)
+      (all_mapped (λ (m : Member). m.incarnation ≤ 1) (λ slot. record { slot = slot; incarnation = 1 }) (range_with_len 0 n) (λ k d within. omega arith));
   members = of_mapped (λ s. (about_of_store s).incarnation ≤ w.world.chain.recorded.epoch) (λ (m : Linked IsStore). m.node.store) w.world.chain.members
       (first_all about_of_store geometry n (λ a. a.incarnation ≤ w.world.chain.recorded.epoch) (stores_of w.world) slots (λ k. let e = ap (λ (r : Record). r.epoch) recorded in omega (arith, e)));
   outside = subst (All (IsOld w)) (sym nothing) (All-nil (IsOld w));
 }
 
+-- what a stop leaves of it is of an incarnation up to the next epoch
+abbrev IsUpToNext : {S : Type 0} → Managed S → SlotDisk MemDisk → Type 0
+IsUpToNext w d = (bytes : List ℕ) → may_be_left d.disk bytes → (meaning : Meaning) → Means meaning bytes → meaning.incarnation ≤ suc w.world.chain.recorded.epoch
+
 -- ---- a cut
 
 module _ (mid : Managed IsStore) (cut : Cut) (disks : List (SlotDisk MemDisk)) (config : MemDisk) (cuts : AreCut about_of_store leaves_now disk_in cut mid disks config) where
-  -- what was being given the volume means nothing
-  unmeant : All IsUnmeant cuts.aside
-  unmeant = aside_unmeant mid.candidate cuts.aside cuts.set_aside
+  -- what was set aside is of the next epoch, or means nothing
+  aside_is : All (IsOfNext (suc mid.world.chain.recorded.epoch)) (option_to_list cuts.aside)
+  aside_is = aside_next about_of_store leaves_now (suc mid.world.chain.recorded.epoch) mid.candidate cuts.aside cuts.set_aside
+
+  -- so it is no recorded member's: where a disk was counted, none was set aside
+  aside_none : AreInTime mid → All (IsNone mid) (option_to_list cuts.aside)
+  aside_none time = by cuts.aside refl
+    where
+      by : (o : Option (SlotDisk MemDisk)) → cuts.aside ≡ o → All (IsNone mid) (option_to_list o)
+      by None is = All-nil (IsNone mid)
+      by (Some d) is = All-cons (IsNone mid) d []
+          (next_is_none mid time
+          (λ counted. let none : None ≡ Some d = sym (aside_counted about_of_store leaves_now (suc mid.world.chain.recorded.epoch) mid.candidate cuts.aside counted cuts.set_aside) ∙ is in cc) d
+          (All-head (IsOfNext (suc mid.world.chain.recorded.epoch)) d [] (subst (λ o. All (IsOfNext (suc mid.world.chain.recorded.epoch)) (option_to_list o)) is aside_is))) (All-nil (IsNone mid))
 
   -- the store of a member at this place
   abbrev pub IsMembers : ℕ → IsStore → Type 0
@@ -108,7 +129,7 @@ module _ (mid : Managed IsStore) (cut : Cut) (disks : List (SlotDisk MemDisk)) (
   pub record WasOutside (d : SlotDisk MemDisk) : Type 0 where
     pub was : SlotDisk MemDisk
     pub at : ℕ
-    pub here : slice_get (mid.outside ++ cuts.aside) at ≡ Some was
+    pub here : slice_get (mid.outside ++ option_to_list cuts.aside) at ≡ Some was
     pub cut_is : IsCut cut was.disk d.disk
 
   pub whose : (place : ℕ) (d : SlotDisk MemDisk) → slice_get disks place ≡ Some d → IsOwned place d ⊎ WasOutside d
@@ -123,7 +144,7 @@ module _ (mid : Managed IsStore) (cut : Cut) (disks : List (SlotDisk MemDisk)) (
           let long = zip_long (λ (x : Linked IsStore) left. IsCutAt about_of_store leaves_now disk_in cut x.node.store left) mid.world.chain.members cuts.of_members cuts.members_cut in
           inl (record { store = store; cut_is = is.0; whose = inr (omega (arith, at, first, long), joined) })
       | inr (k, place_is, out) ↦
-          let (was, here, is) = zip_there (IsCutOutside cut) (mid.outside ++ cuts.aside) cuts.outside k d cuts.outside_cut out in
+          let (was, here, is) = zip_there (IsCutOutside cut) (mid.outside ++ option_to_list cuts.aside) cuts.outside k d cuts.outside_cut out in
           inr (record { was = was; at = k; here = here; cut_is = is.0 })
     ]
   ]
@@ -133,15 +154,15 @@ module _ (mid : Managed IsStore) (cut : Cut) (disks : List (SlotDisk MemDisk)) (
   gives_only place d there = elim (whose place d there) [ inl o ↦ o.cut_is.only | inr o ↦ o.cut_is.only ]
 
   -- one that was outside is none of a member that may be recorded
-  pub outside_is_none : NoImpostor mid → (d : SlotDisk MemDisk) → WasOutside d → (meaning : Meaning) → Means meaning (given_of d.disk) → (r : Record) → MayStand mid.world.chain r → IsAmong r meaning.slot meaning.incarnation → ⊥
-  outside_is_none none d o meaning means r stands among =
-      all_at (IsNone mid) (mid.outside ++ cuts.aside) o.at o.was (All-append (IsNone mid) mid.outside cuts.aside none (λ k d within bytes left meaning means r stands among. unmeant k d within bytes left meaning means)) o.here
+  pub outside_is_none : Holds about_of_store mid → (d : SlotDisk MemDisk) → WasOutside d → (meaning : Meaning) → Means meaning (given_of d.disk) → (r : Record) → MayStand mid.world.chain r → IsAmong r meaning.slot meaning.incarnation → ⊥
+  outside_is_none holds d o meaning means r stands among =
+      all_at (IsNone mid) (mid.outside ++ option_to_list cuts.aside) o.at o.was (All-append (IsNone mid) mid.outside (option_to_list cuts.aside) holds.none (aside_none holds.time)) o.here
       (given_of d.disk) o.cut_is.left meaning means r stands among
 
-  pub source_is_owned : NoImpostor mid → (returned : List ℕ) (r : Record) (place : ℕ) → MayStand mid.world.chain r → (s : IsTheSource returned disks r place) → IsOwned place s.disk
-  source_is_owned none returned r place stands s = elim (whose place s.disk s.there) [
+  pub source_is_owned : Holds about_of_store mid → (returned : List ℕ) (r : Record) (place : ℕ) → MayStand mid.world.chain r → (s : IsTheSource returned disks r place) → IsOwned place s.disk
+  source_is_owned holds returned r place stands s = elim (whose place s.disk s.there) [
     | inl o ↦ o
-    | inr o ↦ absurd (outside_is_none none s.disk o s.is.meaning s.is.means r stands (s.seat, s.recorded))
+    | inr o ↦ absurd (outside_is_none holds s.disk o s.is.meaning s.is.means r stands (s.seat, s.recorded))
   ]
 
   -- so it is a source
@@ -190,7 +211,11 @@ module _ (mid : Managed IsStore) (cut : Cut) (disks : List (SlotDisk MemDisk)) (
           let (is, geometry, slot, incarnation) = owned_means place d o in
           let e : meaning.incarnation ≡ (about_of_store o.store).incarnation = ap (λ (x : Meaning). x.incarnation) (one_meaning meaning is.meaning (given_of d.disk) means is.means) ∙ incarnation in
           let le = owned_dated place d o in omega (arith, e, le)
-      | inr o ↦ let le = all_at (IsOld mid) (mid.outside ++ cuts.aside) o.at o.was (All-append (IsOld mid) mid.outside cuts.aside holds.old (λ k d within bytes left meaning means. absurd (unmeant k d within bytes left meaning means))) o.here (given_of d.disk) o.cut_is.left meaning means in omega (arith, le)
+      | inr o ↦
+          all_at (IsUpToNext mid) (mid.outside ++ option_to_list cuts.aside) o.at o.was
+          (All-append (IsUpToNext mid) mid.outside (option_to_list cuts.aside)
+          (λ k d within bytes left meaning means. elim (holds.past k d within bytes left meaning means) [ inl le ↦ omega (arith, le) | inr (next, waits) ↦ omega (arith, next) ])
+          (λ k d within bytes left meaning means. let next = aside_is k d within bytes left meaning means in omega (arith, next))) o.here (given_of d.disk) o.cut_is.left meaning means
     ]
 
     -- ---- and the others aren't the source's
@@ -246,9 +271,9 @@ module _ (mid : Managed IsStore) (cut : Cut) (disks : List (SlotDisk MemDisk)) (
       pub others_differ : ((one other : Meaning) (bytes : List ℕ) → Means one bytes → Means other bytes → one ≡ other) → (returned : List ℕ) (r : Record) (place : ℕ) → MayStand mid.world.chain r → (src : IsTheSource returned disks r place)
           → (j : ℕ) (d : SlotDisk MemDisk) → j ≢ place → slice_get disks j ≡ Some d → (meaning : Meaning) → Means meaning (given_of d.disk) → recorded_as src.is.meaning ≡ recorded_as meaning → ⊥
       others_differ one_meaning returned r place may src j d other there meaning means same = elim (whose j d there) [
-        | inr o ↦ outside_is_none holds.none d o meaning means r may (src.seat, src.recorded ∙ ap Some same)
+        | inr o ↦ outside_is_none holds d o meaning means r may (src.seat, src.recorded ∙ ap Some same)
         | inl o ↦
-            let its = source_is_owned holds.none returned r place may src in
+            let its = source_is_owned holds returned r place may src in
             let (is, geometry, slot, incarnation) = owned_means j d o in
             let (own, own_geometry, own_slot, own_incarnation) = owned_means place src.disk its in
             let meant : meaning ≡ is.meaning = one_meaning meaning is.meaning (given_of d.disk) means is.means in
@@ -317,6 +342,10 @@ module _ (mid : Managed IsStore) (cut : Cut) (disks : List (SlotDisk MemDisk)) (
 
         pub dated_after : AreDated about_of_store new
         dated_after = record {
+          recorded = subst (All (λ m. m.incarnation ≤ new.world.chain.recorded.epoch)) (sym from.recovers.alone)
+              (All-cons (λ m. m.incarnation ≤ new.world.chain.recorded.epoch) (recorded_as from.recovers.meaning) []
+              (let le = disk_dated one_meaning from.place from.source from.there from.recovers.meaning from.recovers.means in omega (arith, le, later))
+              (All-nil (λ m. m.incarnation ≤ new.world.chain.recorded.epoch)));
           members = all_from (λ m. (about_of_store m.node.store).incarnation ≤ new.world.chain.recorded.epoch) new.world.chain.members (λ at m here.
               let its = (all_at (λ n. ((about_of_store n.node.store).slot ≡ from.recovers.meaning.slot) × ((about_of_store n.node.store).incarnation ≡ from.recovers.meaning.incarnation)) new.world.chain.members at m
               (of_mapped (λ s. ((about_of_store s).slot ≡ from.recovers.meaning.slot) × ((about_of_store s).incarnation ≡ from.recovers.meaning.incarnation)) (λ (n : Linked IsStore). n.node.store) new.world.chain.members from.recovers.member) here).1 in

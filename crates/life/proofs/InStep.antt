@@ -106,6 +106,54 @@ record_due : (st : State) (b : Bool) (next : Record) → (if b then Some (coming
 record_due st true next is = (refl, same_Some (coming_record st) next is)
 record_due st false next is = let clash : ◌≡◌ {A = Option Record} None (Some next) = is in absurd (cc)
 
+-- ---- behind an abandoned joining
+
+-- no joining is under way, and the next order is the record's: that of an abandoned joining, or of a removal
+pub record IsWaiting (st : State) : Type 0 where
+  pub joining : st.joining ≡ None
+  pub first : is_record (first_of st.left) ≡ true
+
+waiting_free : (st : State) → IsWaiting st → is_held st ≡ false
+waiting_free st waits = ap (λ o. not st.begun && is_cut st o) waits.joining ∙ none (not st.begun)
+  where
+    none : (b : Bool) → b && false ≡ false
+    none true = refl
+    none false = refl
+
+waiting_next : (st : State) → IsWaiting st → is_record (next_of st) ≡ true
+waiting_next st waits = ap is_record (next_is st (waiting_free st waits)) ∙ waits.first
+
+-- so no other order is
+pub waiting_due : (st : State) (order : Order) → next_of st ≡ order → is_record order ≡ false → IsWaiting st → ⊥
+waiting_due st order due isnt waits = let clash : false ≡ true = sym isnt ∙ sym (ap is_record due) ∙ waiting_next st waits in cc
+
+alike_waiting : (a b : State) → IsAlike a b → IsWaiting b → IsWaiting a
+alike_waiting a b alike waits = record { joining = alike.joining ∙ waits.joining; first = ap (λ l. is_record (first_of l)) alike.left ∙ waits.first }
+
+-- its writing may begin
+pub begun_waiting : (st new : State) → new ≡ begun_of st → IsWaiting st → IsWaiting new
+begun_waiting st new is waits = subst IsWaiting (sym is) (by (is_record (next_of st)))
+  where
+    by : (b : Bool) → IsWaiting (if b then record st { begun = true } else st)
+    by true = record { joining = waits.joining; first = waits.first }
+    by false = waits
+
+-- a joining is abandoned: then it is so
+pub abandoned_waiting : (st new : State) → new ≡ abandoned st → why_no_abandoning st ≡ None → IsWaiting new
+abandoned_waiting st new is ok = subst IsWaiting (sym is) (by st.joining refl)
+  where
+    joined : (j b : Bool) → (if j && not b then None else Some OneAtATime) ≡ None → j ≡ true
+    joined true b is = refl
+    joined false b is = let clash : ◌≡◌ {A = Option manager.Refusal} (Some OneAtATime) None = is in absurd (cc)
+
+    by : (o : Option ℕ) → st.joining ≡ o → IsWaiting (abandoned_at st o)
+    by None none = let clash : false ≡ true = sym (ap is_some none) ∙ joined (is_some st.joining) st.begun ok in absurd (cc)
+    by (Some slot) some = record { joining = refl; first = refl }
+
+-- where it is so, none may be abandoned
+pub waiting_alone : (st : State) → why_no_abandoning st ≡ None → IsWaiting st → ⊥
+waiting_alone st ok waits = let clash : Some OneAtATime ≡ None = sym (ap (λ o. if is_some o && not st.begun then None else Some OneAtATime) waits.joining) ∙ ok in cc
+
 -- ---- in step
 
 module _ {S : Type 0} where
@@ -169,6 +217,21 @@ module _ {S : Type 0} where
     only_noted_in_step : new.management ≡ record old.management { manager = NotedNow } → AreInStep new
     only_noted_in_step noted =
         alike_in_step old new (ap (λ w. w.chain.recorded) same) (ap (λ w. w.chain.writing) same) (subst (λ st. IsAlike st old.management.manager) (sym (ap (λ m. m.manager) noted)) alike_now) was
+
+    not_waiting : is_busy NotedNow ≡ false → IsWaiting old.management.manager → ⊥
+    not_waiting free waits =
+        let clash : false ≡ true = sym (ap (λ l. is_record (first_of l)) (sym alike_now.left) ∙ none_left NotedNow.left free) ∙ waits.first in cc
+
+    noted_waiting : new.management ≡ record old.management { manager = NotedNow } → IsWaiting old.management.manager → IsWaiting new.management.manager
+    noted_waiting noted waits = subst IsWaiting (sym (ap (λ m. m.manager) noted)) (alike_waiting NotedNow old.management.manager alike_now waits)
+
+  pub removes_waiting : (slot : ℕ) (given : Result (Unit {0}) manager.Refusal) (old new : Managed S) → Removes slot given old new → AreInStep old → IsWaiting old.management.manager → IsWaiting new.management.manager
+  removes_waiting slot (Ok done) old new is was waits = absurd (not_waiting old new is.world was (not_busy _ _ (is.ok refl)) waits)
+  removes_waiting slot (Err e) old new is was waits = noted_waiting old new is.world was is.only_noted waits
+
+  pub joins_waiting : (slot : ℕ) (given : Result (Unit {0}) manager.Refusal) (old new : Managed S) → Joins slot given old new → AreInStep old → IsWaiting old.management.manager → IsWaiting new.management.manager
+  joins_waiting slot (Ok done) old new is was waits = absurd (not_waiting old new is.world was (not_busy _ _ (is.ok refl)) waits)
+  joins_waiting slot (Err e) old new is was waits = noted_waiting old new is.world was is.only_noted waits
 
   pub removes_in_step : (slot : ℕ) (given : Result (Unit {0}) manager.Refusal) (old new : Managed S) → Removes slot given old new → AreInStep old → AreInStep new
   removes_in_step slot (Ok done) old new is was = change_in_step old new is.world was (not_busy _ _ (is.ok refl)) (ap (λ m. m.manager.chain) is.done)

@@ -28,3 +28,4 @@ pub mod Returning
 mod Several
 pub mod Starting
 mod Stops
+mod Waiting

@@ -1,5 +1,5 @@
 -- The calls of a world: what each does, with what it gives.
-use Rattle.std.specs.Prelude.{◌≡◌, ◌≢◌, ◌⊎◌, ◌↔◌, ◌≤◌, ℕ, Bool, true, false, Option, None, Some, Result, Err, IfErr, IfNone, IfOk, IfSome, IsErrOf, IsOk, IsSome, OnErr, OnOk, List, [], ◌∷◌, ◌++◌, length, slice_get}
+use Rattle.std.specs.Prelude.{◌≡◌, ◌≢◌, ◌⊎◌, ◌↔◌, ◌≤◌, ℕ, suc, Bool, true, false, Option, None, Some, Result, Err, IfErr, IfNone, IfOk, IfSome, IsErrOf, IsOk, IsSome, OnErr, OnOk, List, [], ◌∷◌, ◌++◌, length, slice_get}
 use Rattle.chain.specs.Arming.{HasArmed, HasNewScript, HasOldScript}
 use Rattle.chain.specs.Chain.{Chained, Changes, RestsAt, bytes_of}
 use Rattle.chain.specs.Commits.{EndsAt, HasBegunCommits, HasCheckpointed, HasEndedCommit, HasNoCommit, HasNoGroup, HasNoNumber, HasStoppedTold, HasTicked, IsOutOfTurn, IsUsedUpAt, LeavesAt, PostsAt, PostsNone}
@@ -42,6 +42,7 @@ use Rattle.manager.specs.declared.refusal.Refusal.TheVariants as managers
 use Rattle.nbd_session.specs.Progress.{is_over}
 use Rattle.nbd_session.specs.declared.refusal.Refusal as session
 use Rattle.nbd_session.specs.declared.refusal.Refusal.TheVariants.{SessionOver}
+use Rattle.std.specs.Option.{option_to_list}
 use Rattle.std.specs.declared.alloc.AllocError.{AllocError}
 use Rattle.world.specs.Forgetting.{HasForgotten, MayForget}
 use Rattle.world.specs.Joining.{BeginsJoin, BeginsNoJoin, EndsJoin, EndsNoJoin, GivesUp, HasOnlyRecorded}
@@ -51,7 +52,7 @@ use Rattle.world.specs.Taking.{Takes}
 use Rattle.world.specs.Telling.{Answers, Moves}
 use Rattle.world.specs.World.{Seen}
 use Rattle.world.specs.declared.told.Told.{Told}
-use Rattle.life.specs.Aside.{IsSetAside}
+use Rattle.life.specs.Aside.{IsSetAside, IsStoreLeft}
 use Rattle.life.specs.Managed.{Managed}
 use Rattle.life.specs.declared.managed.SlotDisk.{SlotDisk}
 
@@ -282,13 +283,21 @@ pub record AttachesNew {S : Type 0} (given : Result Bool stores.Refusal) (old ne
 abbrev pub HasCausedIt : {S : Type 0} → Result Gave stores.Refusal → Managed S → Managed S → Type 0
 HasCausedIt given old new = IfErr given (λ e. LedOn (λ was now. IsCaused (failures_of was) (failures_of now) e) old.candidate new.candidate)
 
--- The joining under way was abandoned: who joins was given up, and the disk that was being given the volume stands outside; or it is refused,
--- and nothing changed.
-pub record Abandons {S : Type 0} (given : Result (Unit {0}) manager.Refusal) (old new : Managed S) : Type 0 where
+-- Who joined was given up, and behind the disks outside stands what is left of the disk on its way, and of who joined.
+pub record LeavesAside {S : Type 0} (about : S → About) (may_leave_now : S → List ℕ → Type 0) (old new : Managed S) : Type 0 where
+  pub store : Option S
+  pub given_up : GivesUp store old.world new.world
+  pub on_its_way : Option (SlotDisk MemDisk)
+  pub joined : Option (SlotDisk MemDisk)
+  pub set_aside : IsSetAside about may_leave_now (suc old.world.chain.recorded.epoch) old.candidate on_its_way
+  pub left : IsStoreLeft about may_leave_now (suc old.world.chain.recorded.epoch) store joined
+  pub are : new.outside ≡ (old.outside ++ option_to_list on_its_way) ++ option_to_list joined
+
+-- The joining under way was abandoned: nobody joins any more, and its disk stands outside; or it is refused, and nothing changed.
+pub record Abandons {S : Type 0} (about : S → About) (may_leave_now : S → List ℕ → Type 0) (given : Result (Unit {0}) manager.Refusal) (old new : Managed S) : Type 0 where
   pub done : OnOk given (new.management ≡ record old.management { manager = abandoned old.management.manager })
   pub nobody : OnOk given (new.candidate ≡ Nobody)
-  pub aside : OnOk given ((left : List (SlotDisk MemDisk)) × IsSetAside old.candidate left × (new.outside ≡ old.outside ++ left))
-  pub given_up : OnOk given ((store : Option S) × GivesUp store old.world new.world)
+  pub aside : OnOk given (LeavesAside about may_leave_now old new)
   pub ok : IsOk given → why_no_abandoning old.management.manager ≡ None
   pub refused : IfErr given (λ e. e ≢ managers.Memory → why_no_abandoning old.management.manager ≡ Some e)
   pub memory : IsErrOf given managers.Memory → why_no_abandoning old.management.manager ≡ None

@@ -223,7 +223,7 @@ module _ {S : Type 0} (premise : Type 0) (about : S → About) (keeps : S → Li
   Manages manages.Hold answer old new = IsTold answer (λ given. Holds given old.candidate new.candidate old.management new.management old.world new.world)
   Manages manages.Rest answer old new = (given : Result Gave stores.Refusal) × TellsGave given answer × GivesRest premise about keeps is_pending may_leave_now moment left_since failures given old new
   Manages manages.CountIn answer old new = IsDone answer (λ done. Counts about done old.candidate new.candidate old.management new.management old.world new.world)
-  Manages manages.Abandon answer old new = (given : Result (Unit {0}) managers.Refusal) × TellsRemoved given answer × Abandons given old new
+  Manages manages.Abandon answer old new = (given : Result (Unit {0}) managers.Refusal) × TellsRemoved given answer × Abandons about may_leave_now given old new
   Manages manages.BeginRecord answer old new = (given : Result Bool AllocError) × TellsBegun given answer × BeginsNext about given old new
   Manages manages.EndRecord answer old new = (given : Result Bool configs.Refusal) × TellsRecorded given answer × EndsNext about given old new
   Manages manages.CountOut answer old new = IsDone answer (λ done. CountsSlotOut done old new)

@@ -167,7 +167,7 @@ module _ {S : Type 0} (premise : Type 0) (about : S → About) (keeps : S → Li
         → HasWhatIsOwed export.size state (about store) bytes)
     -- so any two of these that mean one front mean the same volume, those too that were rebuilt
     pub agree : (r : Record) → MayStand end.world.chain r → All (λ one. All (Agree about may_leave_now r one) (owners_of end.world)) (owners_of end.world)
-    -- the disks outside stay, and behind them come such as mean nothing; and none of all is that of a member of either
+    -- the disks outside stay, and behind them come those of joinings that ended early; and none of all is that of a member of either
     pub outside : GrowsOutside old end
     pub no_impostor : NoImpostor end
     -- of the disks that return the chain goes on from the source, and the machine from its front

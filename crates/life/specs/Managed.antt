@@ -58,8 +58,9 @@ IsAmong r slot incarnation = (seat : ℕ) × (slice_get r.members seat ≡ Some 
 abbrev pub NoImpostor : {S : Type 0} → Managed S → Type 0
 NoImpostor w = All (λ d. (bytes : List ℕ) → may_be_left d.disk bytes → (meaning : Meaning) → Means meaning bytes → (r : Record) → MayStand w.world.chain r → IsAmong r meaning.slot meaning.incarnation → ⊥) w.outside
 
--- Each disk is of an incarnation that was recorded: a member's, and, whatever a stop may leave of it, one outside.
+-- Each disk is of an incarnation that was recorded: a member's, and, whatever a stop may leave of it, one outside. So is each recorded member.
 pub record AreDated {S : Type 0} (about : S → About) (w : Managed S) : Type 0 where
+  pub recorded : All (λ m. m.incarnation ≤ w.world.chain.recorded.epoch) w.world.chain.recorded.members
   pub members : All (λ m. (about m.node.store).incarnation ≤ w.world.chain.recorded.epoch) w.world.chain.members
   pub outside : All (λ d. (bytes : List ℕ) → may_be_left d.disk bytes → (meaning : Meaning) → Means meaning bytes → meaning.incarnation ≤ w.world.chain.recorded.epoch) w.outside
 

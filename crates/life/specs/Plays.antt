@@ -1,5 +1,5 @@
 -- How an era is played: each deed does what it names, one after another, and then the chain goes on from one disk.
-use Rattle.std.specs.Prelude.{◌≡◌, ◌⊎◌, ℕ, true, Some, List, [], ◌∷◌, ◌++◌, length, slice_get}
+use Rattle.std.specs.Prelude.{◌≡◌, ◌⊎◌, ℕ, suc, true, Option, Some, List, [], ◌∷◌, ◌++◌, length, slice_get}
 use Rattle.std.specs.List.{AllZip}
 use Rattle.std.specs.Option.{option_to_list}
 use Rattle.candidate.specs.declared.candidate.Candidate.{Candidate}
@@ -60,17 +60,17 @@ abbrev pub IsCutOutside : Cut → SlotDisk MemDisk → SlotDisk MemDisk → Type
 IsCutOutside cut was left = IsCut cut was.disk left.disk × (left.slot ≡ was.slot)
 
 -- Everything stopped, and each disk was cut so: these are the members', behind them that of who joins, if somebody does, then those outside,
--- and the one that was being given the volume.
+-- and what is left of the one on its way.
 pub record AreCut {S : Type 0} (about : S → About) (may_leave_now : S → List ℕ → Type 0) (disk : S → MemDisk) (cut : Cut) (old : Managed S) (disks : List (SlotDisk MemDisk)) (config : MemDisk) : Type 0 where
   pub of_members : List (SlotDisk MemDisk)
   pub of_joiner : List (SlotDisk MemDisk)
-  pub aside : List (SlotDisk MemDisk)
+  pub aside : Option (SlotDisk MemDisk)
   pub outside : List (SlotDisk MemDisk)
   pub are : disks ≡ of_members ++ (of_joiner ++ outside)
   pub members_cut : AllZip (λ m left. IsCutAt about may_leave_now disk cut m.node.store left) old.world.chain.members of_members
   pub joiner_cut : AllZip (IsCutAt about may_leave_now disk cut) (option_to_list old.world.joiner) of_joiner
-  pub set_aside : IsSetAside old.candidate aside
-  pub outside_cut : AllZip (IsCutOutside cut) (old.outside ++ aside) outside
+  pub set_aside : IsSetAside about may_leave_now (suc old.world.chain.recorded.epoch) old.candidate aside
+  pub outside_cut : AllZip (IsCutOutside cut) (old.outside ++ option_to_list aside) outside
   pub config_is : IsCut cut old.management.disk config
 
 -- The record that a stop left on the configuration's disk: the recorded chain's, or the one that was being written.

@@ -9,7 +9,7 @@ ghost use Rattle.life.specs.Lived.{IsOfOneVolumeIn, KeepsCopyIn};
 ghost use Rattle.life.specs.Played.{handed_of};
 
 use crate::answer::{Answer, MEMORY};
-use crate::cutting::set_aside;
+use crate::cutting::{left_of, left_of_store, put_outside};
 use crate::managed::{ManagedWorld, SlotDisk};
 use crate::playing::{done, silent, told};
 use crate::step::ManagerAct;
@@ -195,24 +195,25 @@ pub(crate) fn abandon(alloc: Global, managed: &mut ManagedWorld<Store<MemDisk>, 
     if !make_room(&mut managed.outside, may) {
         return Answer::Refused(MEMORY);
     }
+    let next = managed.world.recorded().epoch().number() + 1;
     match managed.management.abandon_join(&mut managed.world) {
         Ok(store) => {
-            drop(store);
             let candidate = mem::replace(&mut managed.candidate, Candidate::Nobody);
-            set_aside(candidate, &mut managed.outside);
+            put_outside(&mut managed.outside, left_of(candidate, next));
+            put_outside(&mut managed.outside, left_of_store(store, next));
             silent(alloc)
         }
         Err(refusal) => Answer::Refused(refusal.number()),
     }
 }
 
-/// Makes room for one more outside, where it may be needed. `false` where memory for that runs out.
+/// Makes room for two more outside, where it may be needed. `false` where memory for that runs out.
 fn make_room(outside: &mut Vec<SlotDisk<MemDisk>>, may: bool) -> bool
     ensures items { outside.new.items ≡ outside.old.items }
-    ensures room { result ≡ true → may ≡ true → vec_len outside.new + 1 ≤ vec_capacity outside.new }
+    ensures room { result ≡ true → may ≡ true → vec_len outside.new + 2 ≤ vec_capacity outside.new }
     ensures needed { result ≡ false → may ≡ true }
 {
-    outside.reserve(1).is_ok() || !may
+    outside.reserve(2).is_ok() || !may
 }
 
 /// What tells that a disk was given something, or not.

@@ -1,30 +1,31 @@
 //! Everything stops.
-ghost use Rattle.std.specs.Prelude.{◌≡◌, ◌++◌, ◌+◌, ◌≤◌, IfOk, List, OnOk, vec_capacity, vec_len};
+ghost use Rattle.std.specs.Prelude.{◌≡◌, ◌++◌, ◌+◌, ◌≤◌, IfOk, IfSome, List, OnOk, vec_capacity, vec_len};
 ghost use Rattle.std.specs.List.{AllZip};
 ghost use Rattle.std.specs.Option.{option_to_list};
-ghost use Rattle.life.specs.Aside.{IsSetAside};
+ghost use Rattle.chain_core.specs.Node.{IsRunning};
+ghost use Rattle.life.specs.Aside.{IsRefusedLeft, IsSetAside, IsStoreLeft};
 ghost use Rattle.life.specs.Begun.{IsCut};
 ghost use Rattle.life.specs.Plays.{AreCut, IsCutAt, IsCutOutside};
 ghost use Rattle.life.specs.Recovered.{IsCutAnew};
 
 use crate::managed::{ManagedWorld, SlotDisk};
-use candidate::Candidate;
+use candidate::{Candidate, Refused};
 use disk_model::{Cut, MemDisk};
-use local_store::{Store, StoreLike};
+use local_store::{Store, StoreLike, disks_mean_one};
 use std::alloc::{AllocError, Global};
 
 /// The disks that a cut left.
 #[derive(Drop)]
 pub struct Disks {
-    /// Those of the slots: the members', in the order of their places, then that of who joins, if somebody does, then those outside, and the one
-    /// that was being given the volume.
+    /// Those of the slots: the members', in the order of their places, then that of who joins, if somebody does, then those outside, and what is
+    /// left of the one on its way.
     pub slots: Vec<SlotDisk<MemDisk>>,
     /// The configuration's.
     pub config: MemDisk,
 }
 
-/// Everything stops: the members' disks, in the order of their places, behind them that of who joins, if somebody does, those outside, that
-/// which was being given the volume, and the configuration's, each with the content that the cut leaves, which is one that a stop now may leave.
+/// Everything stops: the members' disks, in the order of their places, behind them that of who joins, if somebody does, those outside, what is
+/// left of the one on its way, and the configuration's, each with the content that the cut leaves, which is one that a stop now may leave.
 ///
 /// Where memory runs out, the disks are dropped.
 pub fn cut(
@@ -41,7 +42,9 @@ pub fn cut(
         outside,
     } = managed;
     let config = cut_one(management.into_disk(), cut);
-    let given = with_aside(candidate, outside);
+    let next = world.recorded().epoch().number() + 1;
+    let left = left_of(candidate, next);
+    let given = with_left(outside, left);
     let (stores, joiner) = world.abandon()?;
     let outside = given?;
     let mut slots = cut_all(alloc, stores, cut)?;
@@ -51,37 +54,87 @@ pub fn cut(
     Ok(Disks { slots, config })
 }
 
-/// Those outside, and behind them the disk that was being given the volume, if one was.
-fn with_aside(
-    candidate: Candidate<Store<MemDisk>, MemDisk>,
+/// Those outside, and behind them what is left of another.
+fn with_left(
     outside: Vec<SlotDisk<MemDisk>>,
+    left: Option<SlotDisk<MemDisk>>,
 ) -> Result<Vec<SlotDisk<MemDisk>>, AllocError>
-    ensures { IfOk result (λ disks. (left : List (SlotDisk MemDisk)) × IsSetAside candidate left × (disks.items ≡ outside.items ++ left)) }
+    ensures { IfOk result (λ disks. disks.items ≡ outside.items ++ option_to_list left) }
 {
     let mut outside = outside;
     outside.reserve(1)?;
-    set_aside(candidate, &mut outside);
+    put_outside(&mut outside, left);
     Ok(outside)
 }
 
-/// A disk that was being given the volume stands outside from now on; any other on its way is dropped. There is room for it.
-pub(crate) fn set_aside(
-    candidate: Candidate<Store<MemDisk>, MemDisk>,
-    outside: &mut Vec<SlotDisk<MemDisk>>,
-)
+/// What is left of one stands behind those outside from now on. There is room for it.
+pub(crate) fn put_outside(outside: &mut Vec<SlotDisk<MemDisk>>, left: Option<SlotDisk<MemDisk>>)
     requires { vec_len outside.old + 1 ≤ vec_capacity outside.old }
-    ensures { (left : List (SlotDisk MemDisk)) × IsSetAside candidate left × (outside.new.items ≡ outside.old.items ++ left) }
+    ensures items { outside.new.items ≡ outside.old.items ++ option_to_list left }
+    ensures len { vec_len outside.new ≤ vec_len outside.old + 1 }
+    ensures capacity { vec_capacity outside.new ≡ vec_capacity outside.old }
+{
+    if let Some(disk) = left {
+        outside.push_reserved(disk);
+    }
+}
+
+/// What is left of the disk on its way when its joining ends early, where this is the next epoch: a disk that was being given the volume; and
+/// one of that incarnation, which no record has then, that has the volume, or refused something behind its start. Any other is dropped.
+pub(crate) fn left_of(
+    candidate: Candidate<Store<MemDisk>, MemDisk>,
+    next: u64,
+) -> Option<SlotDisk<MemDisk>>
+    ensures { IsSetAside ⟦<Store<MemDisk> as StoreLike>⟧.about ⟦<Store<MemDisk> as StoreLike>⟧.may_leave_now next candidate result }
 {
     match candidate {
-        Candidate::Copying(copying) => outside.push_reserved(SlotDisk {
+        Candidate::Copying(copying) => Some(SlotDisk {
             slot: copying.member().slot,
             disk: copying.into_disk(),
         }),
-        Candidate::Whole(_) => {}
-        Candidate::Refused(_) => {}
-        Candidate::Nobody => {}
-        Candidate::Counted => {}
+        Candidate::Whole(whole) => {
+            let (store, _) = whole.into_parts();
+            left_of_store(Some(store), next)
+        }
+        Candidate::Refused(refused) => left_of_refused(refused, next),
+        Candidate::Nobody => None,
+        Candidate::Counted => None,
     }
+}
+
+/// Its disk, if there is a store, of this incarnation.
+pub(crate) fn left_of_store(store: Option<Store<MemDisk>>, next: u64) -> Option<SlotDisk<MemDisk>>
+    requires runs { IfSome store (λ store. IsRunning (⟦<Store<MemDisk> as StoreLike>⟧.about store) (record { premise = ⟦<Store<MemDisk> as StoreLike>⟧.keeps_model; keeps = ⟦<Store<MemDisk> as StoreLike>⟧.keeps store })) }
+    ensures { IsStoreLeft ⟦<Store<MemDisk> as StoreLike>⟧.about ⟦<Store<MemDisk> as StoreLike>⟧.may_leave_now next store result }
+{
+    disks_mean_one();
+    let Some(store) = store else {
+        return None;
+    };
+    if store.incarnation() != next {
+        return None;
+    }
+    Some(SlotDisk {
+        slot: store.slot(),
+        disk: store.into_disk(),
+    })
+}
+
+/// The disk that refused, if it is known whose it is, and of this incarnation.
+fn left_of_refused(refused: Refused<MemDisk>, next: u64) -> Option<SlotDisk<MemDisk>>
+    ensures { IsRefusedLeft next refused.member refused.disk result }
+{
+    let (member, disk) = refused.into_parts();
+    let Some(member) = member else {
+        return None;
+    };
+    if member.incarnation.number() != next {
+        return None;
+    }
+    Some(SlotDisk {
+        slot: member.slot,
+        disk,
+    })
 }
 
 /// The disks of these stores, cut.

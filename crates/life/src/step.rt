@@ -77,7 +77,7 @@ pub enum ManagerAct {
     Rest,
     /// The disk is counted, if that is the next order, and it has the volume at the front that the tail holds.
     CountIn,
-    /// The joining under way is abandoned: a disk that was being given the volume stands outside from then on, any other is dropped.
+    /// The joining under way is abandoned: its disk stands outside from then on, unless it refused the calls by which its installation begins.
     Abandon,
     /// The next record is being written, if that is the next order: with the disk that was counted, if one was.
     BeginRecord,

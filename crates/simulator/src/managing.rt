@@ -36,6 +36,7 @@ impl Sim {
         managed.note();
         let is_stopped = life::has_met_stop(managed);
         self.stopped = is_stopped;
+        self.note_act(act, &answer)?;
         if let Some(kept) = &mut self.kept {
             let answer = if is_stopped { None } else { Some(&answer) };
             kept.add_deed(Deed::Manage(act), answer)?;

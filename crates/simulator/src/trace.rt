@@ -2,7 +2,7 @@
 use crate::manual::mistake_of;
 use crate::refusal::Refusal;
 use crate::sim::Sim;
-use life::{Act, Answer, Step};
+use life::{Act, Answer, ManagerAct, Step};
 use std::fmt;
 use std::io::Write;
 use world::Told;
@@ -86,6 +86,25 @@ fn name_of(act: Act) -> &'static str {
     }
 }
 
+/// What an act of the manager is called.
+fn name_of_act(act: ManagerAct) -> &'static str {
+    match act {
+        ManagerAct::Remove { .. } => "begin a removal",
+        ManagerAct::Join { .. } => "begin a joining",
+        ManagerAct::Forget { .. } => "forget a member",
+        ManagerAct::Attach { .. } => "attach a disk",
+        ManagerAct::Copy => "give the next block",
+        ManagerAct::Hold => "hold the front",
+        ManagerAct::Rest => "give a block again, or the end",
+        ManagerAct::CountIn => "count the disk",
+        ManagerAct::Abandon => "abandon the joining",
+        ManagerAct::BeginRecord => "begin the record",
+        ManagerAct::EndRecord => "write the record",
+        ManagerAct::CountOut => "count the slot out",
+        ManagerAct::Tell => "tell a member the record",
+    }
+}
+
 /// What a refusal of a step means.
 fn meaning_of(number: u16) -> &'static str {
     match number {
@@ -140,6 +159,15 @@ impl Sim {
         if let Some(notes) = &mut self.notes {
             let (step, became) = (Named(step), Became(answer));
             writeln!(notes, "  {step}: {became}")?;
+        }
+        Ok(())
+    }
+
+    /// Notes an act of the manager and what became of it, where steps are told.
+    pub(crate) fn note_act(&mut self, act: ManagerAct, answer: &Answer) -> Result<(), Refusal> {
+        if let Some(notes) = &mut self.notes {
+            let (name, became) = (name_of_act(act), Became(answer));
+            writeln!(notes, "  manager: {name}: {became}")?;
         }
         Ok(())
     }

@@ -1,8 +1,10 @@
-use Rattle.std.proofs.Common.{◌++◌, ap, subst, ◌∙◌}
+use Rattle.std.proofs.Common.{◌++◌, ap, arith, subst, ◌∙◌}
 use Rattle.std.specs.Option.{option_to_list}
 use Rattle.std.proofs.lemmas.List.{append_assoc}
 use Rattle.std.specs.List.{AllZip}
+use Rattle.configurations.specs.Record.{Record}
 use Rattle.disk_model.specs.declared.memory.MemDisk.{MemDisk}
+use Rattle.life.specs.Aside.{IsSetAside}
 use Rattle.life.specs.Begun.{IsCut}
 use Rattle.life.specs.Managed.{Managed}
 use Rattle.life.specs.Plays.{AreCut, IsCutAt, IsCutOutside}
@@ -19,8 +21,8 @@ returns c = subst (λ (w : Managed IsStore). AreCut about_of_store leaves_now di
   joiner_cut = subst (λ o. AllZip (IsCutAt about_of_store leaves_now disk_in c.args.cut) (option_to_list o) c.in_ok-cut_joiner.ensures.0) c.in_ok-stores.ensures.joiner c.in_ok-cut_joiner.ensures.2;
   members_cut = zip_mapped (IsCutAt about_of_store leaves_now disk_in c.args.cut) (λ m. m.node.store) c.managed.inside.world.chain.members c.in_ok-slots.slots.items
       (subst (λ l. AllZip (IsCutAt about_of_store leaves_now disk_in c.args.cut) l c.in_ok-slots.slots.items) c.in_ok-stores.ensures.members c.in_ok-slots.ensures);
-  aside = c.in_ok-outside.ensures.0;
-  set_aside = c.in_ok-outside.ensures.1;
-  outside_cut = subst (λ l. AllZip (IsCutOutside c.args.cut) l c.cut_outside-outside.result.items) c.in_ok-outside.ensures.2 c.cut_outside-outside.ensures;
+  aside = c.left_of-left.result;
+  set_aside = subst (λ n. IsSetAside about_of_store leaves_now n c.managed.inside.candidate c.left_of-left.result) (let e = ap (λ (r : Record). r.epoch) c.recorded.ensures in omega (arith, e, c.epoch.ensures, c.number-next.ensures.number)) c.left_of-left.ensures;
+  outside_cut = subst (λ l. AllZip (IsCutOutside c.args.cut) l c.cut_outside-outside.result.items) c.in_ok-outside.ensures c.cut_outside-outside.ensures;
   config_is = subst (λ (d : MemDisk). IsCut c.args.cut d c.cut_one-config.result) c.into_disk.ensures c.cut_one-config.ensures;
 })

@@ -106,7 +106,7 @@ returns-clause-lived c = λ export s fresh.
     subst (λ (l : List ℕ). RecoversFrom about_of_store keeps_volume leaves_now l disks config c.in_ok-next.next) c.deref-2.ensures.value c.in_ok-next.ensures.goes_on in
     let left = left_as end.world.chain config c.records_are_one.ensures (holds_one end one.w c.args.era.now.cut disks config one.shows holds c.in_ok-disks.ensures) from.recovers.recorded from.recovers.stands in
     let src = source_is c.args.era.now.returned.items disks from.recovers.recorded from.place from.chosen in
-    let o = source_is_owned end c.args.era.now.cut disks config c.in_ok-disks.ensures holds.none c.args.era.now.returned.items from.recovers.recorded from.place left.either src in
+    let o = source_is_owned end c.args.era.now.cut disks config c.in_ok-disks.ensures holds c.args.era.now.returned.items from.recovers.recorded from.place left.either src in
     let same : src.disk ≡ from.source = same_Some src.disk from.source (sym src.there ∙ from.there) in
     let (own, sizes, slot, incarnation) = owned_means end c.args.era.now.cut disks config c.in_ok-disks.ensures one.w one.shows holds from.place src.disk o in
     let meant : from.recovers.meaning ≡ own.meaning =
