@@ -11,4 +11,4 @@ mod recovering;
 mod returning;
 
 pub use recovering::{Recovered, Unrecovered, recover};
-pub use returning::Comeback;
+pub use returning::{Comeback, Ended};

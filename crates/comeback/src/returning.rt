@@ -19,13 +19,24 @@ use std::alloc::{AllocError, Global};
 use std::marker::Model;
 use world::{Management, World};
 
-/// A chain that comes back, without clients, and its manager. It has no `Drop`, since a world has none: `end` ends it.
+/// A chain that comes back, without clients, and its manager. It has no `Drop`, since a world has none: `into_disks` ends it, or `end`.
 pub struct Comeback<S: StoreLike, D: Disk> {
     alloc: Global,
     world: World<S>,
     management: Management<D>,
     /// Whether a disk couldn't be rebuilt: then nothing more is done.
     failed: bool,
+}
+
+/// What a chain that came back has.
+#[derive(Drop)]
+pub struct Ended<D: Disk> {
+    /// The stores of its members, in the chain's order.
+    pub stores: Vec<Store<D>>,
+    /// That of who joins, if somebody does.
+    pub joiner: Option<Store<D>>,
+    /// The configuration's disk.
+    pub config: D,
 }
 
 impl<S: StoreLike, D: Disk> Model for Comeback<S, D> {
@@ -122,15 +133,32 @@ impl<D: Disk + Drop> Comeback<Store<D>, D> {
         self.world.recorded()
     }
 
-    /// Ends it: the disks are dropped.
-    pub fn end(self) {
+    /// Ends it, and gives back what it has.
+    ///
+    /// Where memory runs out, all of it is dropped.
+    pub fn into_disks(self) -> Result<Ended<D>, AllocError>
+        ensures stores { IfOk result (λ ended. ended.stores.items ≡ map (λ m. m.node.store) self.world.chain.members) }
+        ensures joiner { IfOk result (λ ended. ended.joiner ≡ self.world.joiner) }
+        ensures config { IfOk result (λ ended. ended.config ≡ self.management.disk) }
+    {
         let Comeback {
             alloc: _,
             world,
-            management: _,
+            management,
             failed: _,
         } = self;
-        let _ = world.abandon();
+        let config = management.into_disk();
+        let (stores, joiner) = world.abandon()?;
+        Ok(Ended {
+            stores,
+            joiner,
+            config,
+        })
+    }
+
+    /// Ends it: the disks are dropped.
+    pub fn end(self) {
+        let _ = self.into_disks();
     }
 }
 

@@ -27,15 +27,6 @@ pub use command::command;
 use command::refused;
 pub use simulator::{Refusal, sim_on};
 
-#[cfg(test)]
-mod disk_tests;
-#[cfg(test)]
-mod serving_tests;
-#[cfg(test)]
-mod session_tests;
-#[cfg(test)]
-mod tests;
-
 fn main(rt: HostRuntime) -> ExitCode {
     let mut errors = rt.stderr();
     let status = match command_on(&rt, &mut errors) {
