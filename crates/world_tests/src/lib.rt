@@ -1,8 +1,10 @@
-//! Tests of what stands between a world and its programs: a disk that joins while writes go on. A crate with tests is proved twice, so these
-//! stand beside their crates and not in them.
+//! Tests of what stands between a world and its programs: a recovery that is broken off anywhere, and done again. A crate with tests is proved
+//! twice, so these stand beside their crates and not in them.
 #![tactic(auto)]
 
 #[cfg(test)]
-mod joining_tests;
+mod disks;
 #[cfg(test)]
-mod playing;
+mod recovering;
+#[cfg(test)]
+mod recovering_tests;
