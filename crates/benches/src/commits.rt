@@ -2,26 +2,23 @@
 //! commit under way, and how long it takes to open a store whose area is full.
 //!
 //! Untimed it commits a few blocks and prints the front that it finds; timed it commits many, and prints rates.
-ghost use Rattle.std.specs.Prelude.{◌+◌, ◌<◌, ◌≤◌, IfOk, IsTrue};
+ghost use Rattle.std.specs.Prelude.{◌≡◌, ◌+◌, ◌<◌, ◌≤◌, ◌^◌, IfOk, None, true};
 ghost use Rattle.gate_journal.specs.Batch.{AreImages};
 ghost use Rattle.local_store.specs.About.{IsOfVersionTwo};
 
-use anyhow::{Context, bail, ensure};
+use crate::report::{now, print_done, repeated, since};
+use anyhow::Context;
 use bytes::Bytes;
-use disk_model::{Disk, FileDisk};
+use disk_model::{Disk, DiskError, FileDisk, HalvedDisk};
 use gate_journal::{IMAGE_SIZE, Image, Slot};
 use home_blocks::{Version, disk_size};
-use local_store::{CommitWork, Journaled, LendingStore, Store, StoreLike};
+use local_store::{CommitWork, Journaled, LendingStore, Refusal, Store, StoreLike};
 use std::alloc::{AllocError, Global};
-use std::fs::{self, File, Files};
-use std::string::String;
 use std::sync::atomic::{AtomicBool, Ordering};
 use std::thread::{Threads, join};
-use std::time::{Clock, Duration, Instant};
+use std::time::Duration;
+use std::{env, fs, io};
 use volume::Geometry;
-
-/// The bytes of a piece that the file alone takes.
-const MEBIBYTE: usize = 1 << 20;
 
 /// The blocks of the greatest run that is brought home by one call.
 const RUN: u32 = 256;
@@ -32,64 +29,90 @@ const HEAD: u32 = 13;
 /// The bytes of an image in a batch.
 const IMAGE_RECORD: u32 = IMAGE_SIZE as u32 + 4;
 
-/// The bytes of a batch of 64 images.
-const SMALL_BATCH: usize = 13 + 64 * 4_100;
-
 /// The reads beside each commit of a few blocks, at least.
 const FEW_READS: u32 = 4;
 
 /// The most reads beside a commit, which is done long before them where it has a thread.
 const MOST_READS: u32 = 1 << 24;
 
-/// What a file takes alone: so many pieces of so many bytes, at most 1 MiB, each with a sync or two.
+/// What a file takes alone: so many pieces of so many bytes, each with a sync or two.
 #[derive(Clone, Copy)]
 struct Alone {
-    len: usize,
+    len: u32,
     pieces: u64,
     twice: bool,
 }
 
-/// What a store does: so many commits of so many blocks each, on a volume of so many, with room for so many commits in an area.
+/// 1 MiB at a time.
+const MEBIBYTES: Alone = Alone {
+    len: 1 << 20,
+    pieces: 128,
+    twice: false,
+};
+
+/// The bytes of a batch of 64 images at a time.
+const BATCHES: Alone = Alone {
+    len: HEAD + 64 * IMAGE_RECORD,
+    pieces: 1_024,
+    twice: true,
+};
+
+/// What a store does: so many commits of so many blocks each, on a volume of so many; and whether it brings their blocks home.
 #[derive(Clone, Copy)]
 struct Load {
     volume: u32,
     blocks: u32,
     commits: u32,
-    room: u32,
+    /// The bytes of an area.
+    area: u32,
+    brings_home: bool,
 }
 
-/// Commits of 1 MiB and of 64 blocks, and those that fill the greatest area.
-const TIMED: [Load; 3] = [
-    Load {
-        volume: 4_096,
-        blocks: 256,
-        commits: 128,
-        room: 16,
-    },
-    Load {
-        volume: 4_096,
-        blocks: 64,
-        commits: 1_024,
-        room: 64,
-    },
-    Load {
-        volume: 65_536,
-        blocks: 1_024,
-        commits: 64,
-        room: 64,
-    },
-];
-
-/// A few blocks, for each of the three.
-const FEW: Load = Load {
-    volume: 257,
-    blocks: 4,
-    commits: 2,
-    room: 2,
+/// Commits of 1 MiB, 16 of them in an area.
+const LARGE: Load = Load {
+    volume: 4_096,
+    blocks: 256,
+    commits: 128,
+    area: 16 * (HEAD + 256 * IMAGE_RECORD) + 1,
+    brings_home: true,
 };
 
+/// Commits of 64 blocks, 64 of them in an area.
+const SMALL: Load = Load {
+    volume: 4_096,
+    blocks: 64,
+    commits: 1_024,
+    area: 64 * (HEAD + 64 * IMAGE_RECORD) + 1,
+    brings_home: true,
+};
+
+/// Those that fill the greatest area.
+const FULL: Load = Load {
+    volume: 65_536,
+    blocks: 1_024,
+    commits: 64,
+    area: 64 * (HEAD + 1_024 * IMAGE_RECORD) + 1,
+    brings_home: false,
+};
+
+impl Load {
+    /// The load where it is timed, else one of a few blocks.
+    fn if_timed(self, timed: bool) -> Load {
+        if timed {
+            return self;
+        }
+        Load {
+            volume: 257,
+            blocks: 4,
+            commits: 2,
+            area: 2 * (HEAD + 4 * IMAGE_RECORD) + 1,
+            brings_home: self.brings_home,
+        }
+    }
+}
+
 /// What commits and the reads beside them came to.
-#[derive(Drop)]
+#[derive(Clone, Copy)]
 struct Beside {
     /// How many reads are made beside each commit, at least.
     least: u32,
@@ -99,199 +122,226 @@ struct Beside {
     longest: Duration,
 }
 
-/// Plays all in a folder that isn't there yet, and removes it.
-pub(crate) fn run<R: Files<File = File> + Threads + Clock + Print + AllocGlobal>(
-    rt: &R,
-    dir: &str,
+/// Plays all in a folder that isn't there yet, and removes it. Its name has this number.
+pub(crate) fn run<T: Threads>(
+    rt: &HostRuntime,
+    handle: &T,
+    id: u32,
     timed: bool,
 ) -> anyhow::Result<()> {
-    fs::create_dir(rt, dir)?;
-    let played = play(rt, dir, timed);
-    fs::remove_dir_all(rt, dir)?;
+    let dir = format!(in rt.alloc(); "/tmp/benches.{id}")?;
+    let played = play_in(rt, handle, dir.as_str(), timed);
+    drop(dir);
     played
+}
+
+/// Plays all in this folder, where the process stands then.
+fn play_in<T: Threads>(rt: &HostRuntime, handle: &T, dir: &str, timed: bool) -> anyhow::Result<()> {
+    fs::create_dir(rt, dir)?;
+    env::set_current_dir(rt, dir)?;
+    let played = play(rt, handle, timed);
+    let removed = fs::remove_dir_all(rt, dir).context("the folder isn't removed");
+    played.and(removed)
 }
 
 /// Plays all: the file alone, the stores that bring their blocks home, one that is read meanwhile, and one that is opened with a
 /// full area.
-fn play<R: Files<File = File> + Threads + Clock + Print + AllocGlobal>(
-    rt: &R,
-    dir: &str,
-    timed: bool,
-) -> anyhow::Result<()> {
-    let loads = if timed { TIMED } else { [FEW; 3] };
-    let pieces = if timed { [128, 1_024] } else { [1, 1] };
-    let mebibytes = path(rt, dir, "mebibytes")?;
-    file_alone(
-        rt,
-        mebibytes.as_str(),
-        Alone {
-            len: MEBIBYTE,
-            pieces: pieces[0],
-            twice: false,
-        },
-        timed,
-    )?;
-    let batches = path(rt, dir, "batches")?;
-    file_alone(
-        rt,
-        batches.as_str(),
-        Alone {
-            len: SMALL_BATCH,
-            pieces: pieces[1],
-            twice: true,
-        },
-        timed,
-    )?;
-    let (large, small) = (path(rt, dir, "large")?, path(rt, dir, "small")?);
-    commit_all(rt, large.as_str(), loads[0], true, timed)?;
-    commit_all(rt, small.as_str(), loads[1], true, timed)?;
-    let lending = path(rt, dir, "lending")?;
-    commit_beside_reads(rt, lending.as_str(), loads[1], timed)?;
-    let full = path(rt, dir, "full")?;
-    commit_all(rt, full.as_str(), loads[2], false, timed)?;
-    open_full(rt, full.as_str(), timed)
-}
-
-/// The path of a file in the folder.
-fn path<R: AllocGlobal>(rt: &R, dir: &str, name: &str) -> Result<String, AllocError> {
-    format!(in rt.alloc(); "{dir}/{name}")
+fn play<T: Threads>(rt: &HostRuntime, handle: &T, timed: bool) -> anyhow::Result<()> {
+    file_alone(rt, "mebibytes", MEBIBYTES, timed)?;
+    file_alone(rt, "batches", BATCHES, timed)?;
+    commit_all(rt, "large", LARGE, timed)?;
+    commit_all(rt, "small", SMALL, timed)?;
+    commit_beside_reads(rt, handle, "lending", SMALL, timed)?;
+    commit_all(rt, "full", FULL, timed)?;
+    open_again(rt, "full", timed)
 }
 
 /// Writes pieces into a file, each with a sync, or with one and another behind a byte of it, and prints how long it takes.
-fn file_alone<R: Files<File = File> + Clock + Print + AllocGlobal>(
-    rt: &R,
-    name: &str,
+fn file_alone(rt: &HostRuntime, name: &str, alone: Alone, timed: bool) -> anyhow::Result<()> {
+    let pieces = if timed { alone.pieces } else { 1 };
+    let mut disk = FileDisk::create(rt, name, 16 * u64::from(alone.len))?;
+    let took = write_alone(rt, &mut disk, alone, pieces);
+    drop(disk);
+    let (took, len) = (took?, alone.len);
+    let syncs = if alone.twice { 2 } else { 1 };
+    let done = format_args!("the file alone: {pieces} times {len} bytes with {syncs} syncs");
+    Ok(print_done(rt, done, took, timed)?)
+}
+
+/// Writes so many pieces: how long it takes.
+fn write_alone<D: Disk>(
+    rt: &HostRuntime,
+    disk: &mut D,
     alone: Alone,
-    timed: bool,
-) -> anyhow::Result<()>
-    requires { alone.len ≤ 1048576 }
-{
-    let Alone { len, pieces, twice } = alone;
-    let mut disk = FileDisk::create(rt, name, 16 * len as u64)?;
-    let bytes = vec![in rt.alloc(); 0xa5; len]?;
-    let start = Instant::now(rt)?;
+    pieces: u64,
+) -> Result<Duration, DiskError> {
+    let bytes = repeated(rt.alloc(), 0xa5, alone.len as usize)?;
+    let start = now(rt);
+    let written = write_pieces(disk, alone, pieces, &bytes);
+    let took = since(rt, start);
+    drop(bytes);
+    written?;
+    Ok(took)
+}
+
+/// Writes so many pieces, each of these bytes, at sixteen places in turn.
+fn write_pieces<D: Disk>(
+    disk: &mut D,
+    alone: Alone,
+    pieces: u64,
+    bytes: &[u8],
+) -> Result<(), DiskError> {
     for piece in 0..pieces {
-        let at = piece % 16 * len as u64;
-        ensure!(at + bytes.len() as u64 <= disk.len() && at < disk.len());
-        disk.write_at(at, &bytes)?;
-        disk.sync()?;
-        if twice {
-            disk.write_at(at, &[1])?;
-            disk.sync()?;
+        let at = piece % 16 * u64::from(alone.len);
+        write_synced(disk, at, bytes)?;
+        if alone.twice {
+            write_synced(disk, at, &[1])?;
         }
-    }
-    let took = start.elapsed(rt)?;
-    let syncs = if twice { 2 } else { 1 };
-    if timed {
-        let millis = took.as_millis();
-        println!(rt;
-            "the file alone: {pieces} times {len} bytes with {syncs} syncs in {millis} ms"
-        )?;
-    } else {
-        println!(rt; "the file alone: {pieces} times {len} bytes with {syncs} syncs")?;
     }
     Ok(())
 }
 
-/// Makes all commits on a new file, with their blocks brought home in runs, if asked to, and prints how long they take.
-fn commit_all<R: Files<File = File> + Clock + Print + AllocGlobal>(
-    rt: &R,
-    name: &str,
-    load: Load,
-    brings_home: bool,
-    timed: bool,
-) -> anyhow::Result<()> {
-    let mut store = new_store(rt, name, load)?;
-    let start = Instant::now(rt)?;
-    for commit in 0..load.commits {
-        make_room(&mut store, load.blocks)?;
-        commit_one(rt.alloc(), &mut store, load, commit)?;
-        if brings_home {
-            bring_home(&mut store, load.blocks)?;
-        }
+/// Writes bytes, and syncs. 102 where they don't lie within the disk.
+fn write_synced<D: Disk>(disk: &mut D, at: u64, bytes: &[u8]) -> Result<(), DiskError>
+    requires { at < 2 ^ 36 }
+{
+    if at + bytes.len() as u64 > disk.len() {
+        return Err(DiskError::WriteFault);
     }
-    let took = start.elapsed(rt)?;
-    report(rt, load, took, timed)
+    disk.write_at(at, bytes)?;
+    disk.sync()
+}
+
+/// Makes all commits on a new file, with their blocks brought home in runs, if they are, and prints how long they take.
+fn commit_all(rt: &HostRuntime, name: &str, load: Load, timed: bool) -> anyhow::Result<()> {
+    let load = load.if_timed(timed);
+    let mut store = new_store(rt, name, load)?;
+    let took = time_commits(rt, &mut store, load);
+    drop(store);
+    let (took, commits, blocks) = (took?, load.commits, load.blocks);
+    let done = format_args!("{commits} commits of {blocks} blocks");
+    Ok(print_done(rt, done, took, timed)?)
 }
 
 /// A new store on a new file.
-fn new_store<R: Files<File = File> + AllocGlobal>(
-    rt: &R,
-    name: &str,
-    load: Load,
-) -> anyhow::Result<Store<FileDisk>> {
-    let area = load.room.saturating_mul(HEAD.saturating_add(IMAGE_RECORD.saturating_mul(
-        load.blocks,
-    )));
-    let geometry = Geometry::new(load.volume, area.saturating_add(1), 4_096)?;
+fn new_store(rt: &HostRuntime, name: &str, load: Load) -> anyhow::Result<Store<FileDisk>> {
+    let geometry = Geometry::new(load.volume, load.area, 4_096)?;
     let disk = FileDisk::create(rt, name, disk_size(geometry))?;
-    let slot = Slot::new(0).context("there is no slot 0")?;
-    let Ok(store) = Store::format(rt.alloc(), disk, slot, 1, geometry) else {
-        bail!("the file isn't formatted")
-    };
-    Ok(store)
-}
-
-/// Whether whatever writes may be called: the disk is of version 2.
-fn of_version_two<S: StoreLike>(store: &S) -> bool
-    ensures { IsTrue result → IsOfVersionTwo (S.about store.now) }
-{
-    match store.version() {
-        Version::One => false,
-        Version::Two => true,
+    match Store::format(rt.alloc(), disk, Slot::new(0).unwrap(), 1, geometry) {
+        Ok(store) => Ok(store),
+        Err((refusal, disk)) => {
+            drop(disk);
+            Err(refusal.into())
+        }
     }
 }
 
+/// Whether a call that writes may be made: the disk is of version 2, and the log is there.
+fn is_ready<S: StoreLike>(store: &S) -> bool
+    ensures version { result ≡ true → IsOfVersionTwo (S.about store.now) }
+    ensures here { result ≡ true → (S.about store.now).lent ≡ None }
+{
+    match store.version() {
+        Version::One => false,
+        Version::Two => !store.is_lent(),
+    }
+}
+
+/// Makes all commits: how long they take.
+fn time_commits<S: StoreLike>(
+    rt: &HostRuntime,
+    store: &mut S,
+    load: Load,
+) -> Result<Duration, Refusal> {
+    let start = now(rt);
+    for commit in 0..load.commits {
+        commit_one(rt.alloc(), store, load, commit)?;
+        settle(store, load, commit)?;
+    }
+    Ok(since(rt, start))
+}
+
+/// Behind a commit: brings its blocks home, if the load does, and makes room for the next one, if there is one.
+fn settle<S: StoreLike>(store: &mut S, load: Load, commit: u32) -> Result<(), Refusal> {
+    if load.brings_home {
+        bring_home(store, load.blocks)?;
+    }
+    if commit.saturating_add(1) < load.commits {
+        return make_room(store, load.blocks);
+    }
+    Ok(())
+}
+
 /// Empties the area, where it has no room for so many blocks.
-fn make_room<S: StoreLike>(store: &mut S, blocks: u32) -> anyhow::Result<()> {
-    ensure!(of_version_two(store) && !store.is_lent());
+fn make_room<S: StoreLike>(store: &mut S, blocks: u32) -> Result<(), Refusal> {
+    if !is_ready(store) {
+        return Err(Refusal::OtherVersion);
+    }
     if store.left() < u64::from(blocks).saturating_mul(u64::from(IMAGE_RECORD)) {
-        store.checkpoint()?;
+        return store.checkpoint();
     }
     Ok(())
 }
 
 /// Commits blocks one behind the other, from where the commit before ended.
-fn commit_one(
+fn commit_one<S: StoreLike>(
     alloc: Global,
-    store: &mut Store<FileDisk>,
+    store: &mut S,
     load: Load,
     commit: u32,
-) -> anyhow::Result<()> {
+) -> Result<(), Refusal> {
     let images = next_images(alloc, load, commit)?;
-    ensure!(store.geometry().blocks == load.volume);
-    ensure!(of_version_two(store));
-    let _receipt = store.commit(alloc, u64::from(commit) + 1, &images)?;
+    let committed = commit_images(alloc, store, load, u64::from(commit) + 1, &images);
+    drop(images);
+    committed
+}
+
+/// Commits images of a volume of so many blocks.
+fn commit_images<S: StoreLike>(
+    alloc: Global,
+    store: &mut S,
+    load: Load,
+    front: u64,
+    images: &[Image],
+) -> Result<(), Refusal>
+    requires images { AreImages load.volume images.now }
+    requires limit { front < 2 ^ 63 }
+{
+    if !is_ready(store) || store.geometry().blocks != load.volume {
+        return Err(Refusal::OtherVersion);
+    }
+    let _receipt = store.commit(alloc, front, images)?;
     Ok(())
 }
 
 /// Brings the pending blocks home, which are so many at most, in runs.
-fn bring_home<S: StoreLike>(store: &mut S, most: u32) -> anyhow::Result<()> {
+fn bring_home<S: StoreLike>(store: &mut S, most: u32) -> Result<(), Refusal> {
     for _ in 0..most {
-        ensure!(of_version_two(store));
+        if !is_ready(store) {
+            return Err(Refusal::OtherVersion);
+        }
         if store.tick_run(RUN)?.is_none() {
-            return Ok(());
+            break;
         }
     }
     Ok(())
 }
 
 /// Makes all commits on a new file, each on a thread of its own while blocks are read, and prints how long both take.
-fn commit_beside_reads<R: Files<File = File> + Threads + Clock + Print + AllocGlobal>(
-    rt: &R,
+fn commit_beside_reads<T: Threads>(
+    rt: &HostRuntime,
+    handle: &T,
     name: &str,
     load: Load,
     timed: bool,
 ) -> anyhow::Result<()> {
+    let load = load.if_timed(timed);
     let mut store = LendingStore::of(new_store(rt, name, load)?);
-    let mut buffer = Vec::new(rt.alloc());
     let mut beside = Beside::new(if timed { 0 } else { FEW_READS });
-    for commit in 0..load.commits {
-        make_room(&mut store, load.blocks)?;
-        beside.commit_one(rt, &mut store, load, commit, &mut buffer)?;
-        bring_home(&mut store, load.blocks)?;
-    }
-    beside.report(rt, load, timed)
+    let committed = beside.commit_all(rt, handle, &mut store, load);
+    drop(store);
+    committed?;
+    Ok(beside.print(rt, load, timed)?)
 }
 
 impl Beside {
@@ -306,39 +356,69 @@ impl Beside {
         }
     }
 
-    /// Commits the next blocks, and reads until they are journaled.
-    fn commit_one<R: Threads + Clock + AllocGlobal>(
+    /// Makes all commits.
+    fn commit_all<T: Threads, D: HalvedDisk + Drop + Send>(
         &mut self,
-        rt: &R,
-        store: &mut LendingStore<FileDisk>,
+        rt: &HostRuntime,
+        handle: &T,
+        store: &mut LendingStore<D>,
+        load: Load,
+    ) -> Result<(), Refusal>
+    where
+        D::Log: Send,
+        D::Past: Send,
+    {
+        let mut buffer = Vec::new(rt.alloc());
+        let mut committed = Ok(());
+        for commit in 0..load.commits {
+            committed = self.commit_next(rt, handle, store, load, commit, &mut buffer);
+            if committed.is_err() {
+                break;
+            }
+        }
+        drop(buffer);
+        committed
+    }
+
+    /// Commits the next blocks, with blocks read meanwhile, and brings them home.
+    fn commit_next<T: Threads, D: HalvedDisk + Drop + Send>(
+        &mut self,
+        rt: &HostRuntime,
+        handle: &T,
+        store: &mut LendingStore<D>,
         load: Load,
         commit: u32,
         buffer: &mut Vec<u8>,
-    ) -> anyhow::Result<()> {
+    ) -> Result<(), Refusal>
+    where
+        D::Log: Send,
+        D::Past: Send,
+    {
         let images = next_images(rt.alloc(), load, commit)?;
-        ensure!(store.geometry().blocks == load.volume);
-        ensure!(of_version_two(store) && !store.is_lent());
-        let start = Instant::now(rt)?;
-        let work = store.lend_commit(rt.alloc(), u64::from(commit) + 1, &images)?;
-        let is_done = AtomicBool::new(false);
-        let done = self.journal(rt, store, work, buffer, &is_done)?;
-        ensure!(store.is_log_of(&done));
-        let _receipt = store.finish_commit(done)?;
-        self.committing = self.committing.saturating_add(start.elapsed(rt)?);
-        Ok(())
+        let start = now(rt);
+        let work = lend(rt.alloc(), store, load, u64::from(commit) + 1, &images);
+        drop(images);
+        self.journal(rt, handle, store, work?, buffer, &AtomicBool::new(false))?;
+        self.committing = self.committing.saturating_add(since(rt, start));
+        settle(store, load, commit)
     }
 
     /// Journals a commit on a thread of its own, and reads meanwhile.
-    fn journal<R: Threads + Clock>(
+    fn journal<T: Threads, D: HalvedDisk + Drop + Send>(
         &mut self,
-        rt: &R,
-        store: &mut LendingStore<FileDisk>,
-        work: CommitWork<FileDisk>,
+        rt: &HostRuntime,
+        handle: &T,
+        store: &mut LendingStore<D>,
+        work: CommitWork<D::Log>,
         buffer: &mut Vec<u8>,
         is_done: &AtomicBool,
-    ) -> anyhow::Result<Journaled<FileDisk>> {
+    ) -> Result<(), Refusal>
+    where
+        D::Log: Send,
+        D::Past: Send,
+    {
         let (done, read) = join(
-            rt,
+            handle,
             || {
                 let done = work.journal(buffer);
                 is_done.store(true, Ordering::SeqCst);
@@ -346,69 +426,110 @@ impl Beside {
             },
             || self.read_until(rt, store, is_done),
         );
-        read?;
-        Ok(done)
+        finish(store, done)?;
+        read
     }
 
     /// Reads blocks in turn until the commit is done.
-    fn read_until<R: Clock>(
+    fn read_until<D: HalvedDisk + Drop>(
         &mut self,
-        rt: &R,
-        store: &mut LendingStore<FileDisk>,
+        rt: &HostRuntime,
+        store: &mut LendingStore<D>,
         is_done: &AtomicBool,
-    ) -> anyhow::Result<()> {
+    ) -> Result<(), Refusal> {
         for read in 0..MOST_READS {
             if read >= self.least && is_done.load(Ordering::SeqCst) {
-                return Ok(());
+                break;
             }
             self.read_next(rt, store)?;
         }
-        bail!("a commit isn't done after {MOST_READS} reads")
-    }
-
-    /// Reads the next block.
-    fn read_next<R: Clock>(
-        &mut self,
-        rt: &R,
-        store: &mut LendingStore<FileDisk>,
-    ) -> anyhow::Result<()> {
-        let block = self.answered % store.geometry().blocks;
-        let mut bytes = [0; IMAGE_SIZE];
-        let start = Instant::now(rt)?;
-        store.read_block(block, &mut bytes)?;
-        let took = start.elapsed(rt)?;
-        self.answered = self.answered.saturating_add(1);
-        self.reading = self.reading.saturating_add(took);
-        self.longest = self.longest.max(took);
         Ok(())
     }
 
+    /// Reads the next block.
+    fn read_next<D: HalvedDisk + Drop>(
+        &mut self,
+        rt: &HostRuntime,
+        store: &mut LendingStore<D>,
+    ) -> Result<(), Refusal> {
+        let block = self.answered % store.geometry().blocks;
+        let mut bytes = [0; IMAGE_SIZE];
+        let start = now(rt);
+        store.read_block(block, &mut bytes)?;
+        self.note(since(rt, start));
+        Ok(())
+    }
+
+    /// A read has taken so long.
+    fn note(&mut self, took: Duration) {
+        self.answered = self.answered.saturating_add(1);
+        self.reading = self.reading.saturating_add(took);
+        self.longest = self.longest.max(took);
+    }
+
     /// Prints what was committed and read, and how fast.
-    fn report<R: Print>(&self, rt: &R, load: Load, timed: bool) -> anyhow::Result<()> {
+    fn print(self, rt: &HostRuntime, load: Load, timed: bool) -> io::Result<()> {
         let (commits, blocks) = (load.commits, load.blocks);
         if !timed {
-            println!(rt; "{commits} commits of {blocks} blocks beside reads")?;
-            return Ok(());
+            return println!(rt; "{commits} commits of {blocks} blocks beside reads");
         }
         let committing = self.committing.as_micros() / u128::from(commits).max(1);
-        let longest = self.longest.as_micros();
+        let (longest, answered) = (self.longest.as_micros(), self.answered);
+        let each = self.reading.as_nanos() / u128::from(answered).max(1);
+        let (micros, rest) = (each / 1_000, each % 1_000);
+        let a_second = 1_000_000_000 / each.max(1);
         println!(rt;
-            "{commits} commits of {blocks} blocks beside reads in {committing} us each, the longest read in {longest} us"
-        )?;
-        let answered = self.answered as usize;
-        crate::report::report(rt, "reads beside commits", answered, self.reading, timed)
+            "{commits} commits of {blocks} blocks beside reads in {committing} us each, the longest read in {longest} us\nreads beside commits: {answered} answered, {micros}.{rest:03} us each, {a_second} a second"
+        )
     }
 }
 
-/// The images of blocks one behind the other, from where the commit before ended.
-fn next_images(alloc: Global, load: Load, commit: u32) -> anyhow::Result<Vec<Image>>
+/// Lends out the log, with a commit of images of a volume of so many blocks.
+fn lend<D: HalvedDisk + Drop>(
+    alloc: Global,
+    store: &mut LendingStore<D>,
+    load: Load,
+    front: u64,
+    images: &[Image],
+) -> Result<CommitWork<D::Log>, Refusal>
+    requires images { AreImages load.volume images.now }
+    requires limit { front < 2 ^ 63 }
+{
+    let is_of_two = matches!(store.version(), Version::Two);
+    if !is_of_two || store.is_lent() || store.geometry().blocks != load.volume {
+        return Err(Refusal::OtherVersion);
+    }
+    store.lend_commit(alloc, front, images)
+}
+
+/// Takes the log back. 122 where it isn't the one that was lent.
+fn finish<D: HalvedDisk + Drop>(
+    store: &mut LendingStore<D>,
+    done: Journaled<D::Log>,
+) -> Result<(), Refusal> {
+    if !store.is_log_of(&done) {
+        drop(done);
+        return Err(Refusal::Broken);
+    }
+    let _receipt = store.finish_commit(done)?;
+    Ok(())
+}
+
+/// The images of blocks one behind the other, from where the commit before ended. 121 where the volume has too few.
+fn next_images(alloc: Global, load: Load, commit: u32) -> Result<Vec<Image>, Refusal>
     ensures { IfOk result (λ images. AreImages load.volume images.items) }
 {
-    ensure!(load.blocks > 0 && load.blocks <= load.volume);
+    if load.blocks == 0 || load.blocks > load.volume {
+        return Err(Refusal::Full);
+    }
     let places = load.volume / load.blocks;
-    ensure!(places > 0);
+    if places == 0 {
+        return Err(Refusal::Full);
+    }
     let first = (commit % places).saturating_mul(load.blocks);
-    ensure!(first <= load.volume - load.blocks);
+    if first > load.volume - load.blocks {
+        return Err(Refusal::Full);
+    }
     Ok(images_of(alloc, load.volume, first, load.blocks)?)
 }
 
@@ -427,36 +548,24 @@ fn images_of(alloc: Global, volume: u32, first: u32, count: u32) -> Result<Vec<I
     Ok(images)
 }
 
-/// Prints what was committed, and how fast.
-fn report<R: Print>(rt: &R, load: Load, took: Duration, timed: bool) -> anyhow::Result<()> {
-    let (commits, blocks) = (load.commits, load.blocks);
-    if timed {
-        let millis = took.as_millis();
-        println!(rt; "{commits} commits of {blocks} blocks in {millis} ms")?;
-    } else {
-        println!(rt; "{commits} commits of {blocks} blocks")?;
-    }
-    Ok(())
+/// Opens the file's store, and prints its front, and how long it took.
+fn open_again(rt: &HostRuntime, name: &str, timed: bool) -> anyhow::Result<()> {
+    let start = now(rt);
+    let store = opened(rt, name)?;
+    let took = since(rt, start);
+    let front = store.front();
+    drop(store);
+    Ok(print_done(rt, format_args!("opened at front {front}"), took, timed)?)
 }
 
-/// Opens the file's store, and prints its front, and how long it took.
-fn open_full<R: Files<File = File> + Clock + Print + AllocGlobal>(
-    rt: &R,
-    name: &str,
-    timed: bool,
-) -> anyhow::Result<()> {
-    let start = Instant::now(rt)?;
+/// The store on the file.
+fn opened(rt: &HostRuntime, name: &str) -> anyhow::Result<Store<FileDisk>> {
     let disk = FileDisk::open(rt, name)?;
-    let Ok(store) = Store::open(rt.alloc(), disk) else {
-        bail!("the file isn't opened")
-    };
-    let took = start.elapsed(rt)?;
-    let front = store.front();
-    if timed {
-        let millis = took.as_millis();
-        println!(rt; "opened at front {front} in {millis} ms")?;
-    } else {
-        println!(rt; "opened at front {front}")?;
+    match Store::open(rt.alloc(), disk) {
+        Ok(store) => Ok(store),
+        Err((refusal, disk)) => {
+            drop(disk);
+            Err(refusal.into())
+        }
     }
-    Ok(())
 }

@@ -5,9 +5,7 @@
 #![tactic(auto)]
 
 use anyhow::bail;
-use std::fs::{File, Files};
 use std::thread::Threads;
-use std::time::Clock;
 use std::{env, process};
 
 // No module may have a crate's name, so this one is in the plural: `boards`.
@@ -52,51 +50,79 @@ impl Bench {
         }
     }
 
-    /// Prints its name, and plays it.
-    fn play<R: Files<File = File> + Threads + Sync + Clock + Print + AllocGlobal>(
+    /// Prints its name, and plays it. The program has this number.
+    fn play<T: Threads + Sync>(
         self,
-        rt: &R,
-        dir: &str,
+        rt: &HostRuntime,
+        handle: &T,
+        id: u32,
         timed: bool,
     ) -> anyhow::Result<()> {
-        println!(rt; "{}", self.name())?;
+        rt.println(self.name())?;
         match self {
             Bench::Table => table::run(rt, timed),
             Bench::Journal => journal::run(rt, timed),
-            Bench::Board => boards::run(rt, timed),
+            Bench::Board => boards::run(rt, handle, timed),
             Bench::Wire => wire::run(rt, timed),
-            Bench::Commits => commits::run(rt, dir, timed),
+            Bench::Commits => commits::run(rt, handle, id, timed),
         }
     }
 }
 
 fn main(rt: HostRuntime) -> anyhow::Result<()> {
     let words: Vec<String> = env::args(&rt)?.skip(1).collect(rt.alloc())?;
-    for word in &words {
-        if !is_known(word) {
-            bail!(
-                "unknown word {word}; the words are table, journal, board, wire, commits and time"
-            );
-        }
-    }
-    let timed = has(&words, TIME);
-    let id = process::id(rt.process());
-    let dir = format!(in rt.alloc(); "/tmp/benches.{id}")?;
-    let plays_all = !BENCHES.iter().any(|bench| has(&words, bench.name()));
-    for bench in BENCHES {
-        if plays_all || has(&words, bench.name()) {
-            bench.play(&rt, dir.as_str(), timed)?;
+    let played = play_words(&rt, &rt, &words, process::id(rt.process()));
+    drop(words);
+    played
+}
+
+/// Plays the benches that the program's words name, or all.
+fn play_words<T: Threads + Sync>(
+    rt: &HostRuntime,
+    handle: &T,
+    words: &[String],
+    id: u32,
+) -> anyhow::Result<()> {
+    let plays_all = !names_any(words)?;
+    for bench in &BENCHES {
+        if plays_all || has(words, bench.name()) {
+            bench.play(rt, handle, id, has(words, TIME))?;
         }
     }
     Ok(())
 }
 
-/// Whether the program knows a word.
-fn is_known(word: &str) -> bool {
-    word == TIME || BENCHES.iter().any(|bench| word == bench.name())
+/// Whether the words name a bench. A word that the program doesn't know is an error.
+fn names_any(words: &[String]) -> anyhow::Result<bool> {
+    let mut found = false;
+    for word in words {
+        if is_bench(word.as_str()) {
+            found = true;
+        } else if word.as_str() != TIME {
+            bail!(
+                "unknown word {word}; the words are table, journal, board, wire, commits and time"
+            );
+        }
+    }
+    Ok(found)
+}
+
+/// Whether a word is a bench's name.
+fn is_bench(word: &str) -> bool {
+    for bench in &BENCHES {
+        if word == bench.name() {
+            return true;
+        }
+    }
+    false
 }
 
 /// Whether a word is among the program's words.
 fn has(words: &[String], name: &str) -> bool {
-    words.iter().any(|word| word.as_str() == name)
+    for word in words {
+        if word.as_str() == name {
+            return true;
+        }
+    }
+    false
 }

@@ -1,23 +1,42 @@
-//! What a bench of requests prints.
-use std::time::Duration;
+//! What several benches make, measure and print.
+//!
+//! A value that isn't plain is dropped by `drop`, and nothing fails while it lives: each way out of a function drops what lives there, and
+//! each of those drops is proved.
+ghost use Rattle.std.specs.Prelude.{◌≡◌, length, IfOk};
 
-/// Prints how many requests were answered, and how long each took.
-pub(crate) fn report<R: Print>(
-    rt: &R,
-    name: &str,
-    answered: usize,
+use bytes::Bytes;
+use std::alloc::{AllocError, Global};
+use std::fmt::Display;
+use std::io;
+use std::time::{Clock, Duration};
+
+/// A byte, so many times.
+pub(crate) fn repeated(alloc: Global, byte: u8, count: usize) -> Result<Bytes, AllocError>
+    ensures { IfOk result (λ bytes. length bytes ≡ count) }
+{
+    Ok(Bytes::from_vec(vec![in alloc; byte; count]?)?)
+}
+
+/// The time that the clock shows, counted from where it began; none, where it can't be read.
+pub(crate) fn now(rt: &HostRuntime) -> Duration {
+    rt.monotonic().unwrap_or(Duration::ZERO)
+}
+
+/// The time since the clock showed this.
+pub(crate) fn since(rt: &HostRuntime, start: Duration) -> Duration {
+    now(rt).saturating_sub(start)
+}
+
+/// Prints what was done, and how many milliseconds it took, where that was measured.
+pub(crate) fn print_done<D: Display + Drop>(
+    rt: &HostRuntime,
+    done: D,
     took: Duration,
     timed: bool,
-) -> anyhow::Result<()> {
-    if timed {
-        let each = took.as_nanos() / (answered as u128).max(1);
-        let (micros, rest) = (each / 1_000, each % 1_000);
-        let a_second = 1_000_000_000 / each.max(1);
-        println!(rt;
-            "{name}: {answered} answered, {micros}.{rest:03} us each, {a_second} a second"
-        )?;
-    } else {
-        println!(rt; "{name}: {answered} answered")?;
+) -> io::Result<()> {
+    if !timed {
+        return rt.println(done);
     }
-    Ok(())
+    let millis = took.as_millis();
+    println!(rt; "{done} in {millis} ms")
 }

@@ -5,11 +5,12 @@
 //! prints nanoseconds a call.
 ghost use Rattle.std.specs.Prelude.{◌≡◌, ◌<◌, length};
 
-use anyhow::Context;
+use crate::report::{now, repeated, since};
 use bytes::Bytes;
 use std::alloc::Global;
-use std::time::{Clock, Duration, Instant};
-use version_table::{Origin, Table};
+use std::io;
+use std::time::Duration;
+use version_table::{Origin, Refusal, Table};
 use volume::{BLOCK_SIZE, Write};
 
 /// The tables that take part in a round.
@@ -39,35 +40,65 @@ struct Times {
 }
 
 /// Plays rounds of each size, and prints what they came to.
-pub(crate) fn run<R: Clock + Print + AllocGlobal>(rt: &R, timed: bool) -> anyhow::Result<()> {
-    let ones = Bytes::from_vec(vec![in rt.alloc(); 1; 4_096]?)?;
-    for size in SIZES {
-        let mut tables = filled(rt.alloc(), &ones, size.saturating_sub(1))?;
-        if !timed {
-            let (_, written) = round(rt, &mut tables, &ones)?;
-            println!(rt; "{size} kept: {written} of {TABLES} blocks as written")?;
-            continue;
-        }
-        let all = rounds(rt, &mut tables, &ones)?;
-        let calls = TABLES * ROUNDS;
-        let (apply, value_at, forget_to) = (
-            (all.apply / calls).as_nanos(),
-            (all.value_at / calls).as_nanos(),
-            (all.forget_to / calls).as_nanos(),
-        );
-        println!(rt; "{size} kept: apply {apply}, value_at {value_at}, forget_to {forget_to} ns")?;
+pub(crate) fn run(rt: &HostRuntime, timed: bool) -> anyhow::Result<()> {
+    for size in &SIZES {
+        play(rt, *size, timed)?;
     }
     Ok(())
 }
 
-impl Times {
-    fn and(self, more: Times) -> Times {
-        Times {
-            apply: self.apply.saturating_add(more.apply),
-            value_at: self.value_at.saturating_add(more.value_at),
-            forget_to: self.forget_to.saturating_add(more.forget_to),
-        }
+/// Plays rounds of tables that keep so many writes when the last one is applied, and prints what they came to.
+fn play(rt: &HostRuntime, size: u64, timed: bool) -> anyhow::Result<()> {
+    let ones = repeated(rt.alloc(), 1, 4_096)?;
+    let mut tables = Vec::new(rt.alloc());
+    let mut times = Times {
+        apply: Duration::ZERO,
+        value_at: Duration::ZERO,
+        forget_to: Duration::ZERO,
+    };
+    let rounds = if timed { ROUNDS } else { 1 };
+    let written = play_rounds(rt, &mut tables, &ones, size, rounds, &mut times);
+    drop(tables);
+    drop(ones);
+    Ok(print(rt, size, written?, times, timed)?)
+}
+
+/// Fills new tables, and plays so many rounds: how many blocks were as written in the last one. The times are added up.
+fn play_rounds(
+    rt: &HostRuntime,
+    tables: &mut Vec<Table>,
+    ones: &Bytes,
+    size: u64,
+    rounds: u32,
+    times: &mut Times,
+) -> Result<u32, Refusal>
+    requires { length ones.now ≡ 4096 }
+{
+    add_tables(rt.alloc(), tables)?;
+    for _ in 1..size {
+        apply_to_all(tables, ones)?;
     }
+    let mut written = 0;
+    for _ in 0..rounds {
+        written = round(rt, tables, ones, times)?;
+    }
+    Ok(written)
+}
+
+/// Prints what the rounds came to.
+fn print(rt: &HostRuntime, size: u64, written: u32, times: Times, timed: bool) -> io::Result<()> {
+    if !timed {
+        return println!(rt; "{size} kept: {written} of {TABLES} blocks as written");
+    }
+    let apply = nanoseconds_a_call(times.apply);
+    let value_at = nanoseconds_a_call(times.value_at);
+    let forget_to = nanoseconds_a_call(times.forget_to);
+    println!(rt; "{size} kept: apply {apply}, value_at {value_at}, forget_to {forget_to} ns")
+}
+
+/// The nanoseconds of a call, where all rounds took so long.
+fn nanoseconds_a_call(all: Duration) -> u128 {
+    (all / (TABLES * ROUNDS)).as_nanos()
 }
 
 /// The block of the write with this number.
@@ -77,38 +108,30 @@ fn block_of(number: u64) -> u32
     (number % BLOCKS) as u32
 }
 
-/// Applies a block of ones as the next write.
-fn apply_next(table: &mut Table, ones: &Bytes) -> anyhow::Result<()>
+/// Applies a block of ones as the next write. 141 where no number is left.
+fn apply_next(table: &mut Table, ones: &Bytes) -> Result<(), Refusal>
     requires { length ones.now ≡ 4096 }
 {
-    let number = table.applied().checked_add(1).context("no number is left")?;
-    let write = Write::new(u64::from(block_of(number)) * BLOCK_SIZE, ones.clone()?);
-    Ok(table.apply(number, &write, ORIGIN)?)
+    let Some(number) = table.applied().checked_add(1) else {
+        return Err(Refusal::TableFull);
+    };
+    let bytes = ones.clone()?;
+    let write = Write::new(u64::from(block_of(number)) * BLOCK_SIZE, bytes);
+    let applied = table.apply(number, &write, ORIGIN);
+    drop(write);
+    applied
 }
 
-/// A table that keeps so many writes.
-fn filled_table(alloc: Global, ones: &Bytes, kept: u64) -> anyhow::Result<Table>
-    requires { length ones.now ≡ 4096 }
-{
-    let mut table = Table::new(alloc, 0);
-    for _ in 0..kept {
-        apply_next(&mut table, ones)?;
-    }
-    Ok(table)
-}
-
-/// The tables of a round.
-fn filled(alloc: Global, ones: &Bytes, kept: u64) -> anyhow::Result<Vec<Table>>
-    requires { length ones.now ≡ 4096 }
-{
-    let mut tables = Vec::new(alloc);
+/// Adds the tables of a round, which keep nothing.
+fn add_tables(alloc: Global, tables: &mut Vec<Table>) -> Result<(), Refusal> {
     for _ in 0..TABLES {
-        tables.push(filled_table(alloc, ones, kept)?)?;
+        tables.reserve(1)?;
+        tables.push_reserved(Table::new(alloc, 0));
     }
-    Ok(tables)
+    Ok(())
 }
 
-fn apply_to_all(tables: &mut [Table], ones: &Bytes) -> anyhow::Result<()>
+fn apply_to_all(tables: &mut [Table], ones: &Bytes) -> Result<(), Refusal>
     requires { length ones.now ≡ 4096 }
 {
     for table in tables.iter_mut() {
@@ -137,40 +160,23 @@ fn forget_first_of_all(tables: &mut [Table]) {
     }
 }
 
-/// One more write to each table, the block of it, and the first one forgotten: the times, and how many blocks were as
-/// written.
-fn round(rt: &impl Clock, tables: &mut [Table], ones: &Bytes) -> anyhow::Result<(Times, u32)>
+/// One more write to each table, the block of it, and the first one forgotten: how many blocks were as written. The times are added up.
+fn round(
+    rt: &HostRuntime,
+    tables: &mut [Table],
+    ones: &Bytes,
+    times: &mut Times,
+) -> Result<u32, Refusal>
     requires { length ones.now ≡ 4096 }
 {
-    let start = Instant::now(rt)?;
+    let start = now(rt);
     apply_to_all(tables, ones)?;
-    let apply = start.elapsed(rt)?;
-    let start = Instant::now(rt)?;
+    times.apply = times.apply.saturating_add(since(rt, start));
+    let start = now(rt);
     let written = written_blocks(tables);
-    let value_at = start.elapsed(rt)?;
-    let start = Instant::now(rt)?;
+    times.value_at = times.value_at.saturating_add(since(rt, start));
+    let start = now(rt);
     forget_first_of_all(tables);
-    let forget_to = start.elapsed(rt)?;
-    let times = Times {
-        apply,
-        value_at,
-        forget_to,
-    };
-    Ok((times, written))
-}
-
-/// The times of all rounds together.
-fn rounds(rt: &impl Clock, tables: &mut [Table], ones: &Bytes) -> anyhow::Result<Times>
-    requires { length ones.now ≡ 4096 }
-{
-    let mut all = Times {
-        apply: Duration::ZERO,
-        value_at: Duration::ZERO,
-        forget_to: Duration::ZERO,
-    };
-    for _ in 0..ROUNDS {
-        let (times, _) = round(rt, tables, ones)?;
-        all = all.and(times);
-    }
-    Ok(all)
+    times.forget_to = times.forget_to.saturating_add(since(rt, start));
+    Ok(written)
 }

@@ -3,175 +3,188 @@
 //! It feeds a session requests in pieces, answers each demand, the last one first, and takes the output. Untimed it plays
 //! each load once and prints the bytes that went out; timed it plays each load many times, and prints seconds a GiB of
 //! payload and nanoseconds a request.
-ghost use Rattle.std.specs.Prelude.{◌≡◌, IfOk, All};
+ghost use Rattle.std.specs.Prelude.{◌≡◌, All};
 ghost use Rattle.nbd_session.specs.Demand.{owed_by};
 
-use anyhow::ensure;
+use crate::report::{now, repeated, since};
 use board::Board;
 use bytes::Bytes;
 use flush_barrier::{ErrorCode, Reply, SessionId};
-use nbd_codec::constants::{REQUEST_MAGIC, REQUEST_READ, REQUEST_WRITE};
-use nbd_session::{Demand, Session};
-use std::alloc::Global;
-use std::time::{Clock, Duration, Instant};
+use nbd_session::{Demand, Refusal, Session};
+use std::alloc::{AllocError, Global};
+use std::io;
+use std::time::Duration;
 
 /// The bytes of the volume.
 const SIZE: u64 = 268_435_456;
 
 /// The longest payload.
-const MIB: usize = 1_048_576;
+const MIB: u32 = 1_048_576;
 
 /// The bytes of a block.
-const BLOCK: usize = 4_096;
-
-/// The payload that a timed load moves.
-const MOVED: usize = 1_073_741_824;
+const BLOCK: u32 = 4_096;
 
 const SESSION: SessionId = SessionId(1);
 
 /// Client flags without zeros, and GO.
 const HELLO: &[u8] = b"\0\0\0\x03IHAVEOPT\0\0\0\x07\0\0\0\x06\0\0\0\0\0\0";
 
+/// The magic, no flags, and the type of a READ.
+const READ: &[u8] = b"\x25\x60\x95\x13\0\0\0\0";
+
+/// The same of a WRITE.
+const WRITE: &[u8] = b"\x25\x60\x95\x13\0\0\0\x01";
+
 /// Requests that are sent again and again.
 #[derive(Clone, Copy)]
 struct Load {
     name: &'static str,
-    kind: u16,
+    /// The requests are WRITEs, and not READs.
+    has_payload: bool,
     /// The bytes of each request's range.
-    length: usize,
+    length: u32,
     /// How many requests are in flight at once.
-    at_once: usize,
+    at_once: u32,
     /// The most bytes that come in at once.
     piece: usize,
+    /// The rounds that are timed: all their requests move 1 GiB.
+    rounds: u32,
 }
 
 const LOADS: [Load; 7] = [
     Load {
         name: "WRITEs of 1 MiB in pieces of 64 KiB",
-        kind: REQUEST_WRITE,
+        has_payload: true,
         length: MIB,
         at_once: 1,
         piece: 65_536,
+        rounds: 1_024,
     },
     Load {
         name: "64 WRITEs of 4 KiB in one piece",
-        kind: REQUEST_WRITE,
+        has_payload: true,
         length: BLOCK,
         at_once: 64,
-        piece: MIB,
+        piece: 1_048_576,
+        rounds: 4_096,
     },
     Load {
         name: "READs of 1 MiB",
-        kind: REQUEST_READ,
+        has_payload: false,
         length: MIB,
         at_once: 1,
-        piece: MIB,
+        piece: 1_048_576,
+        rounds: 1_024,
     },
     Load {
         name: "READs of 4 KiB, 1 in flight",
-        kind: REQUEST_READ,
+        has_payload: false,
         length: BLOCK,
         at_once: 1,
-        piece: MIB,
+        piece: 1_048_576,
+        rounds: 262_144,
     },
     Load {
         name: "READs of 4 KiB, 4 in flight",
-        kind: REQUEST_READ,
+        has_payload: false,
         length: BLOCK,
         at_once: 4,
-        piece: MIB,
+        piece: 1_048_576,
+        rounds: 65_536,
     },
     Load {
         name: "READs of 4 KiB, 16 in flight",
-        kind: REQUEST_READ,
+        has_payload: false,
         length: BLOCK,
         at_once: 16,
-        piece: MIB,
+        piece: 1_048_576,
+        rounds: 16_384,
     },
     Load {
         name: "READs of 4 KiB, 64 in flight",
-        kind: REQUEST_READ,
+        has_payload: false,
         length: BLOCK,
         at_once: 64,
-        piece: MIB,
+        piece: 1_048_576,
+        rounds: 4_096,
     },
 ];
 
 /// Plays each load, and prints what it came to.
-pub(crate) fn run<R: Clock + Print + AllocGlobal>(rt: &R, timed: bool) -> anyhow::Result<()> {
-    let gauges = [0; 8];
-    let (board, _seats) = Board::new(rt.alloc(), 0, 1, gauges, 1)?;
-    for load in LOADS {
-        report(rt, rt.alloc(), &board, load, timed)?;
+pub(crate) fn run(rt: &HostRuntime, timed: bool) -> anyhow::Result<()> {
+    for load in &LOADS {
+        play(rt, *load, timed)?;
     }
     Ok(())
 }
 
-/// Plays a load and prints what it came to.
-fn report<R: Clock + Print>(
-    rt: &R,
-    alloc: Global,
-    board: &Board,
-    load: Load,
-    timed: bool,
-) -> anyhow::Result<()> {
-    let mut session = Session::new(alloc, board, SESSION, SIZE, MIB as u32, 0)?;
-    let answer = Bytes::from_vec(vec![in alloc; 7; load.length]?)?;
-    let greeted = round(&mut session, alloc, HELLO, HELLO.len(), &answer)?;
-    let text = text_of(alloc, load)?;
-    if timed {
-        return time_rounds(rt, &mut session, alloc, load, &text, &answer);
-    }
-    let out = round(&mut session, alloc, &text, load.piece, &answer)?;
-    let (name, all) = (load.name, greeted.saturating_add(out));
-    println!(rt; "{name}: {all} bytes out")?;
-    Ok(())
+/// Plays a load through a session of its own, and prints what it came to.
+fn play(rt: &HostRuntime, load: Load, timed: bool) -> anyhow::Result<()> {
+    let (board, seats) = Board::new(rt.alloc(), 0, 1, [0; 8], 1)?;
+    drop(seats);
+    let session = Session::new(rt.alloc(), &board, SESSION, SIZE, MIB, 0);
+    drop(board);
+    let mut session = session?;
+    let played = play_in(rt, &mut session, load, timed);
+    drop(session);
+    played
 }
 
-/// Plays a load many times, and prints how long it took.
-fn time_rounds<R: Clock + Print>(
-    rt: &R,
+/// Plays a load through the session, and prints what it came to.
+fn play_in(rt: &HostRuntime, session: &mut Session, load: Load, timed: bool) -> anyhow::Result<()> {
+    let sevens = repeated(rt.alloc(), 7, load.length as usize)?;
+    let mut text = Vec::new(rt.alloc());
+    let rounds = if timed { load.rounds } else { 1 };
+    let played = play_rounds(rt, session, load, &mut text, &sevens, rounds);
+    drop(text);
+    drop(sevens);
+    let (out, took) = played?;
+    Ok(print(rt, load, out, took, timed)?)
+}
+
+/// Plays so many rounds behind a greeting: how many bytes went out, and how long the rounds took.
+fn play_rounds(
+    rt: &HostRuntime,
     session: &mut Session,
-    alloc: Global,
     load: Load,
-    text: &[u8],
-    answer: &Bytes,
-) -> anyhow::Result<()> {
-    let requests = MOVED / load.length.max(1);
-    let rounds = requests / load.at_once.max(1);
-    let start = Instant::now(rt)?;
+    text: &mut Vec<u8>,
+    sevens: &Bytes,
+    rounds: u32,
+) -> Result<(usize, Duration), Refusal> {
+    write_requests(text, load, sevens)?;
+    let mut out = round(session, rt.alloc(), HELLO, HELLO.len(), sevens)?;
+    let start = now(rt);
     for _ in 0..rounds {
-        let _out = round(session, alloc, text, load.piece, answer)?;
+        out = out.saturating_add(round(session, rt.alloc(), text, load.piece, sevens)?);
     }
-    let took = start.elapsed(rt)?;
-    print_time(rt, load.name, requests, took)
+    Ok((out, since(rt, start)))
 }
 
-/// Prints the seconds of a GiB and the nanoseconds of a request.
-fn print_time<R: Print>(rt: &R, name: &str, requests: usize, took: Duration) -> anyhow::Result<()> {
-    let millis = took.as_millis();
-    let each = took.as_nanos() / (requests as u128).max(1);
+/// Prints what a load came to: bytes out, or the seconds of a GiB and the nanoseconds of a request.
+fn print(rt: &HostRuntime, load: Load, out: usize, took: Duration, timed: bool) -> io::Result<()> {
+    let name = load.name;
+    if !timed {
+        return println!(rt; "{name}: {out} bytes out");
+    }
+    let (millis, requests) = (took.as_millis(), load.rounds.saturating_mul(load.at_once));
+    let each = took.as_nanos() / u128::from(requests).max(1);
     let (seconds, rest) = (millis / 1_000, millis % 1_000);
-    println!(rt; "{name}: {seconds}.{rest:03} s a GiB, {each} ns a request")?;
-    Ok(())
+    println!(rt; "{name}: {seconds}.{rest:03} s a GiB, {each} ns a request")
 }
 
-/// The requests of one round, each at its own place.
-fn text_of(alloc: Global, load: Load) -> anyhow::Result<Vec<u8>> {
-    let mut text = Vec::new(alloc);
-    for cookie in 0..load.at_once as u64 {
-        let offset = cookie.saturating_mul(load.length as u64);
-        text.extend_from_slice(&REQUEST_MAGIC.to_be_bytes())?;
-        text.extend_from_slice(&0_u16.to_be_bytes())?;
-        text.extend_from_slice(&load.kind.to_be_bytes())?;
-        text.extend_from_slice(&cookie.to_be_bytes())?;
+/// Writes the requests of one round, each at its own place. A WRITE has these sevens.
+fn write_requests(text: &mut Vec<u8>, load: Load, sevens: &[u8]) -> Result<(), AllocError> {
+    for cookie in 0..load.at_once {
+        let offset = u64::from(cookie) * u64::from(load.length);
+        text.extend_from_slice(if load.has_payload { WRITE } else { READ })?;
+        text.extend_from_slice(&u64::from(cookie).to_be_bytes())?;
         text.extend_from_slice(&offset.to_be_bytes())?;
-        text.extend_from_slice(&(load.length.min(MIB) as u32).to_be_bytes())?;
-        if load.kind == REQUEST_WRITE {
-            text.extend_from_slice(&vec![in alloc; 7; load.length]?)?;
+        text.extend_from_slice(&load.length.to_be_bytes())?;
+        if load.has_payload {
+            text.extend_from_slice(sevens)?;
         }
     }
-    Ok(text)
+    Ok(())
 }
 
 /// Feeds the text in pieces, and answers the demands of each: how many bytes went out.
@@ -181,23 +194,20 @@ fn round(
     text: &[u8],
     piece: usize,
     answer: &Bytes,
-) -> anyhow::Result<usize> {
+) -> Result<usize, Refusal> {
     let mut out = 0_usize;
     for piece in text.chunks(piece.max(1)) {
         let demands = session.feed(piece)?;
-        answer_all(session, alloc, demands, answer)?;
+        if !answer_all(session, alloc, demands, answer) {
+            return Err(Refusal::Memory);
+        }
         out = out.saturating_add(session.output().len());
     }
     Ok(out)
 }
 
-/// Answers the demands, the last one first.
-fn answer_all(
-    session: &mut Session,
-    alloc: Global,
-    demands: Vec<Demand>,
-    answer: &Bytes,
-) -> anyhow::Result<()>
+/// Answers the demands, the last one first. False where there was no memory for a reply.
+fn answer_all(session: &mut Session, alloc: Global, demands: Vec<Demand>, answer: &Bytes) -> bool
     requires { All (λ demand. (owed_by demand).session ≡ session.old.id) demands.items }
     ensures { session.new.id ≡ session.old.id }
 {
@@ -207,8 +217,7 @@ fn answer_all(
         answered = session.done(reply_to(alloc, demand, answer)).is_ok() && answered;
     }
     demands.destroy_empty();
-    ensure!(answered, "there is no memory for a reply");
-    Ok(())
+    answered
 }
 
 /// The reply to a demand: READs are answered with these bytes, WRITEs as done.

@@ -1,6 +1,6 @@
 use Rattle.std.proofs.Common.{◌≡◌}
 use Rattle.disk_model.specs.Memory.{size_of}
-use Rattle.benches.proofs.journal.write_images.Given as goal
+use Rattle.benches.proofs.journal.write_batch.Given as goal
 
 -- the disk keeps its size
 abbrev pub invariant-loop-index : goal.invariant-loop-index
