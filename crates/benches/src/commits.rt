@@ -4,6 +4,7 @@
 //! Untimed it commits a few blocks and prints the front that it finds; timed it commits many, and prints rates.
 ghost use Rattle.std.specs.Prelude.{◌≡◌, ◌+◌, ◌<◌, ◌≤◌, ◌^◌, IfOk, None, true};
 ghost use Rattle.gate_journal.specs.Batch.{AreImages};
+ghost use Rattle.loans.specs.Rings.{IsOf};
 ghost use Rattle.local_store.specs.About.{IsOfVersionTwo};
 
 use crate::report::{now, print_done, repeated, since};
@@ -12,8 +13,10 @@ use bytes::Bytes;
 use disk_model::{Disk, DiskError, FileDisk, HalvedDisk};
 use gate_journal::{IMAGE_SIZE, Image, Slot};
 use home_blocks::{Version, disk_size};
-use local_store::{CommitWork, Journaled, LendingStore, Refusal, Store, StoreLike};
+use loans::{Rings, Sides};
+use local_store::{CommitWork, Journaled, LendingStore, Loan, Refusal, Store, StoreLike};
 use std::alloc::{AllocError, Global};
+use std::marker::Brand;
 use std::sync::atomic::{AtomicBool, Ordering};
 use std::thread::{Threads, join};
 use std::time::Duration;
@@ -28,6 +31,9 @@ const HEAD: u32 = 13;
 
 /// The bytes of an image in a batch.
 const IMAGE_RECORD: u32 = IMAGE_SIZE as u32 + 4;
+
+/// The number by which the two sides of a loan belong together.
+const LENDER: u8 = 0;
 
 /// The reads beside each commit of a few blocks, at least.
 const FEW_READS: u32 = 4;
@@ -336,12 +342,32 @@ fn commit_beside_reads<T: Threads>(
     timed: bool,
 ) -> anyhow::Result<()> {
     let load = load.if_timed(timed);
-    let mut store = LendingStore::of(new_store(rt, name, load)?);
+    let store = new_store(rt, name, load)?;
+    let sides = Sides::new(rt.alloc(), LENDER)?;
+    let beside = commit_lent::<_, _, Brand>(rt, handle, store, sides, load, timed)?;
+    Ok(beside.print(rt, load, timed)?)
+}
+
+/// Makes all commits of a store, by the names that were picked for its loans.
+fn commit_lent<T: Threads, D: HalvedDisk + Drop + Send, J: Rings + Send>(
+    rt: &HostRuntime,
+    handle: &T,
+    store: Store<D>,
+    sides: Sides<Loan<D::Log>>,
+    load: Load,
+    timed: bool,
+) -> Result<Beside, Refusal>
+where
+    D::Log: Send,
+    D::Past: Send,
+    requires { IsOf (J.ring sides.number) sides.lender.end }
+{
+    let mut store: LendingStore<D, J> = LendingStore::of(store, sides);
     let mut beside = Beside::new(if timed { 0 } else { FEW_READS });
     let committed = beside.commit_all(rt, handle, &mut store, load);
     drop(store);
     committed?;
-    Ok(beside.print(rt, load, timed)?)
+    Ok(beside)
 }
 
 impl Beside {
@@ -357,11 +383,11 @@ impl Beside {
     }
 
     /// Makes all commits.
-    fn commit_all<T: Threads, D: HalvedDisk + Drop + Send>(
+    fn commit_all<T: Threads, D: HalvedDisk + Drop + Send, J: Rings + Send>(
         &mut self,
         rt: &HostRuntime,
         handle: &T,
-        store: &mut LendingStore<D>,
+        store: &mut LendingStore<D, J>,
         load: Load,
     ) -> Result<(), Refusal>
     where
@@ -381,11 +407,11 @@ impl Beside {
     }
 
     /// Commits the next blocks, with blocks read meanwhile, and brings them home.
-    fn commit_next<T: Threads, D: HalvedDisk + Drop + Send>(
+    fn commit_next<T: Threads, D: HalvedDisk + Drop + Send, J: Rings + Send>(
         &mut self,
         rt: &HostRuntime,
         handle: &T,
-        store: &mut LendingStore<D>,
+        store: &mut LendingStore<D, J>,
         load: Load,
         commit: u32,
         buffer: &mut Vec<u8>,
@@ -404,12 +430,12 @@ impl Beside {
     }
 
     /// Journals a commit on a thread of its own, and reads meanwhile.
-    fn journal<T: Threads, D: HalvedDisk + Drop + Send>(
+    fn journal<T: Threads, D: HalvedDisk + Drop + Send, J: Rings + Send>(
         &mut self,
         rt: &HostRuntime,
         handle: &T,
-        store: &mut LendingStore<D>,
-        work: CommitWork<D::Log>,
+        store: &mut LendingStore<D, J>,
+        work: CommitWork<D::Log, J>,
         buffer: &mut Vec<u8>,
         is_done: &AtomicBool,
     ) -> Result<(), Refusal>
@@ -431,10 +457,10 @@ impl Beside {
     }
 
     /// Reads blocks in turn until the commit is done.
-    fn read_until<D: HalvedDisk + Drop>(
+    fn read_until<D: HalvedDisk + Drop, J: Rings>(
         &mut self,
         rt: &HostRuntime,
-        store: &mut LendingStore<D>,
+        store: &mut LendingStore<D, J>,
         is_done: &AtomicBool,
     ) -> Result<(), Refusal> {
         for read in 0..MOST_READS {
@@ -447,10 +473,10 @@ impl Beside {
     }
 
     /// Reads the next block.
-    fn read_next<D: HalvedDisk + Drop>(
+    fn read_next<D: HalvedDisk + Drop, J: Rings>(
         &mut self,
         rt: &HostRuntime,
-        store: &mut LendingStore<D>,
+        store: &mut LendingStore<D, J>,
     ) -> Result<(), Refusal> {
         let block = self.answered % store.geometry().blocks;
         let mut bytes = [0; IMAGE_SIZE];
@@ -485,13 +511,13 @@ impl Beside {
 }
 
 /// Lends out the log, with a commit of images of a volume of so many blocks.
-fn lend<D: HalvedDisk + Drop>(
+fn lend<D: HalvedDisk + Drop, J: Rings>(
     alloc: Global,
-    store: &mut LendingStore<D>,
+    store: &mut LendingStore<D, J>,
     load: Load,
     front: u64,
     images: &[Image],
-) -> Result<CommitWork<D::Log>, Refusal>
+) -> Result<CommitWork<D::Log, J>, Refusal>
     requires images { AreImages load.volume images.now }
     requires limit { front < 2 ^ 63 }
 {
@@ -503,11 +529,12 @@ fn lend<D: HalvedDisk + Drop>(
 }
 
 /// Takes the log back. 122 where it isn't the one that was lent.
-fn finish<D: HalvedDisk + Drop>(
-    store: &mut LendingStore<D>,
-    done: Journaled<D::Log>,
+fn finish<D: HalvedDisk + Drop, J: Rings>(
+    store: &mut LendingStore<D, J>,
+    done: Journaled<D::Log, J>,
 ) -> Result<(), Refusal> {
-    if !store.is_log_of(&done) {
+    let mut done = done;
+    if !store.is_log_of(&mut done) {
         drop(done);
         return Err(Refusal::Broken);
     }

@@ -17,9 +17,9 @@ use crate::chain::Chain;
 use crate::lone_board::LoneBoard;
 use crate::member::Member;
 use chain_core::{Out, Refusal, Served};
-use local_store::StoreLike;
+use local_store::NeverLends;
 
-impl<S: StoreLike + Drop> Member<S> {
+impl<S: NeverLends + Drop> Member<S> {
     /// Writes the next pending block of the store home, and gives its number.
     pub(crate) fn tick(&mut self) -> Result<(Vec<Served>, Option<u32>), Refusal>
         ensures done { IfOk result (λ r. HasCalled (λ old new out. HasTicked S.keeps_model S.about S.is_pending S.failures S.keeps old new out r.1) r.0.items self.old self.new) }
@@ -132,7 +132,7 @@ impl<S: StoreLike + Drop> Member<S> {
     }
 }
 
-impl<S: StoreLike + Drop> Chain<S> {
+impl<S: NeverLends + Drop> Chain<S> {
     /// The store of the member at a place writes its next pending block home, whose number is
     /// given; `None` where nothing is pending, or the member stopped.
     ///

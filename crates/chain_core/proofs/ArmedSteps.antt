@@ -37,7 +37,8 @@ module _ (about : About) (keeping : Keeping) (node : NodeState) (is : IsSound ab
     asked = is.asked;
     found = is.found;
     under_way = is.under_way;
-    running = λ still. let was = is.running still in record { whole = was.whole; version = was.version; here = was.here; keeps = λ premise. let (volume, keep, long) = was.keeps premise in (volume, kept volume keep, long) };
+    running = λ still. let was = is.running still in record { whole = was.whole; version = was.version; keeps = λ premise. let (volume, keep, long) = was.keeps premise in (volume, kept volume keep, long) };
+    lent = is.lent;
     resting = is.resting;
     journals = journals_by node.stopped refl;
   })

@@ -11,5 +11,6 @@ mod Ranges
 mod Settling
 mod Sound
 mod SoundCommits
+mod SoundLending
 mod SoundReads
 mod StoreReads

@@ -78,6 +78,7 @@ sound_placed about keeps node is place turned holds same = record {
   found = λ x here. absurd (cc);
   under_way = λ c here. let way = is.under_way c here in record { above = way.above; known = way.known; images = way.images; room = way.room };
   running = is.running;
+  lent = is.lent;
   resting = is.resting;
   journals = is.journals;
 }
@@ -142,6 +143,7 @@ module _ (about : About) (keeps : Keeping) (node : NodeState) (is : IsSound abou
     found = is.found;
     under_way = λ c here. let way = is.under_way c here in record { above = way.above; known = way.known; images = way.images; room = way.room };
     running = is.running;
+    lent = is.lent;
     resting = is.resting;
     journals = is.journals;
   }
@@ -163,6 +165,7 @@ module _ (about : About) (keeps : Keeping) (node : NodeState) (is : IsSound abou
     found = is.found;
     under_way = λ c here. let way = is.under_way c here in record { above = way.above; known = way.known; images = way.images; room = way.room };
     running = is.running;
+    lent = is.lent;
     resting = is.resting;
     journals = is.journals;
   }
@@ -184,6 +187,7 @@ module _ (about : About) (keeps : Keeping) (node : NodeState) (is : IsSound abou
     found = λ x here. let same : found ≡ x = cc here in subst (IsFoundBy (record node { found = Some found })) same (still found by);
     under_way = λ c here. let way = is.under_way c here in record { above = way.above; known = way.known; images = way.images; room = way.room };
     running = is.running;
+    lent = is.lent;
     resting = is.resting;
     journals = is.journals;
   }
@@ -209,6 +213,7 @@ module _ (about : About) (keeps : Keeping) (node : NodeState) (is : IsSound abou
     found = λ x here. absurd (cc);
     under_way = λ c here. let way = is.under_way c here in record { above = way.above; known = way.known; images = way.images; room = way.room };
     running = is.running;
+    lent = is.lent;
     resting = is.resting;
     journals = is.journals;
   }
@@ -239,6 +244,7 @@ module _ (about : About) (keeps : Keeping) (node : NodeState) (is : IsSound abou
         found = λ x here. absurd (cc);
         under_way = λ c here. let way = is.under_way c here in record { above = way.above; known = way.known; images = way.images; room = way.room };
         running = is.running;
+        lent = is.lent;
         resting = is.resting;
         journals = λ premise volume keep c here. let way = is.under_way c here in rw (upto_more n write origin c.front (omega (arith, way.known, is.ahead))) (is.journals premise volume keep c here);
       }
@@ -267,6 +273,7 @@ module _ (about : About) (keeps : Keeping) (node : NodeState) (is : IsSound abou
     found = λ x here. absurd (cc);
     under_way = λ c here. let way = is.under_way c here in record { above = way.above; known = omega (arith, way.known, above); images = way.images; room = way.room };
     running = is.running;
+    lent = is.lent;
     resting = is.resting;
     journals = is.journals;
   }

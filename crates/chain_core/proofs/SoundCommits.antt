@@ -52,7 +52,8 @@ module _ (about : About) (keeping : Keeping) (node : NodeState) (is : IsSound ab
     asked = is.asked;
     found = is.found;
     under_way = λ c here. let way = is.under_way c here in record { above = way.above; known = way.known; images = way.images; room = omega (arith, way.room) };
-    running = λ still. let was = is.running still in record { whole = was.whole; version = was.version; here = was.here; keeps = λ premise. let (volume, keep, long) = was.keeps premise in (volume, kept premise volume keep, long) };
+    running = λ still. let was = is.running still in record { whole = was.whole; version = was.version; keeps = λ premise. let (volume, keep, long) = was.keeps premise in (volume, kept premise volume keep, long) };
+    lent = is.lent;
     resting = is.resting;
     journals = λ premise volume keep.
         let (was, kept_was, long) = (is.running runs).keeps premise in
@@ -60,10 +61,10 @@ module _ (about : About) (keeping : Keeping) (node : NodeState) (is : IsSound ab
   })
 
   -- a commit begins, and no front is kept
-  pub sound_begun : node.stopped ≡ None → (commit : Commit) → IsUnderWay about node commit
+  pub sound_begun : node.stopped ≡ None → node.commit ≡ None → (commit : Commit) → IsUnderWay about node commit
       → (keeping.premise → (volume : List ℕ) → keeping.keeps volume → AreImagesOf volume (writes_upto node.table commit.front) commit.images)
       → IsSound about keeping (record node { commit = Some commit; found = None })
-  sound_begun runs commit way are = record {
+  sound_begun runs none commit way are = record {
     slot = is.slot;
     incarnation = is.incarnation;
     front = is.front;
@@ -78,6 +79,7 @@ module _ (about : About) (keeping : Keeping) (node : NodeState) (is : IsSound ab
     found = λ x none. absurd (cc);
     under_way = λ c here. subst (IsUnderWay about (record node { commit = Some commit; found = None })) (the_same c here) (record { above = way.above; known = way.known; images = way.images; room = way.room });
     running = is.running;
+    lent = λ still batch some. let same = is.lent still batch some in absurd (cc);
     resting = λ cause stopped. absurd (cc);
     journals = λ premise volume keep c here. subst (λ k. AreImagesOf volume (writes_upto node.table k.front) k.images) (the_same c here) (are premise volume keep);
   }
@@ -118,10 +120,10 @@ module _ (about : About) (keeping : Keeping) (node : NodeState) (is : IsSound ab
     way_applied = let way = is.under_way commit here in omega (arith, way.known, is.ahead)
 
     -- its store has the commit
-    pub sound_ended : (tells : About) (keeps : List ℕ → Type 0) → tells ≡ one_commit_more about commit.front commit.images
+    pub sound_ended : (tells : About) (keeps : List ℕ → Type 0) → about.lent ≡ None → tells ≡ one_commit_more about commit.front commit.images
         → (keeping.premise → (volume : List ℕ) → keeping.keeps volume → keeps (with_images volume commit.images))
         → IsSound tells (record { premise = keeping.premise; keeps = keeps }) (ended commit.front node)
-    sound_ended tells keeps same kept =
+    sound_ended tells keeps back same kept =
         let way = is.under_way commit here in
         let same_last : last_of (ended commit.front node) ≡ last_of node = omega (arith, length-drop (commit.front - durable_of node) node.table.kept, way.above, way.known, is.ahead) in
         subst (λ a. IsSound a (record { premise = keeping.premise; keeps = keeps }) (ended commit.front node)) (sym same) (record {
@@ -141,7 +143,6 @@ module _ (about : About) (keeping : Keeping) (node : NodeState) (is : IsSound ab
           running = λ still. let was = is.running still in record {
             whole = was.whole;
             version = was.version;
-            here = was.here;
             keeps = λ premise.
                 let (volume, keep, long) = was.keeps premise in (
                   with_images volume commit.images,
@@ -149,6 +150,7 @@ module _ (about : About) (keeping : Keeping) (node : NodeState) (is : IsSound ab
                   ap length (images_are volume premise keep long) ∙ length-writes volume (writes_upto node.table commit.front) (subst (λ m. All (Fits m) (writes_upto node.table commit.front)) (sym long) (upto_fits (size_of about) node.table commit.front is.inside)) ∙ long,
                 );
           };
+          lent = λ still batch some. absurd (cc);
           resting = λ cause stopped. refl;
           journals = λ premise volume keep c none. absurd (cc);
         })

@@ -31,7 +31,8 @@ module _ (about : About) (keeping : Keeping) (node : NodeState) (is : IsSound ab
     resting = is.resting;
     found = is.found;
     under_way = is.under_way;
-    running = λ still. let was = is.running still in record { whole = was.whole; version = was.version; here = was.here; keeps = λ here. let (volume, keep, long) = was.keeps here in (volume, kept here volume keep, long) };
+    running = λ still. let was = is.running still in record { whole = was.whole; version = was.version; keeps = λ here. let (volume, keep, long) = was.keeps here in (volume, kept here volume keep, long) };
+    lent = is.lent;
     journals = λ here volume keep.
         let (was, kept_was, long) = (is.running runs).keeps here in
         is.journals here volume (subst keeping.keeps (one here was volume (kept here was kept_was) keep) kept_was);

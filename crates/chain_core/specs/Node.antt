@@ -5,7 +5,7 @@ use Rattle.board.specs.Seats.{BoardId, FoundFront}
 use Rattle.configurations.specs.Record.{Record}
 use Rattle.flush_barrier.specs.Reply.{GivenReply}
 use Rattle.gate_journal.specs.declared.batch.TheConstants.{MAX_NUMBER}
-use Rattle.gate_journal.specs.Batch.{AreImages, images_size}
+use Rattle.gate_journal.specs.Batch.{AreImages, Batch, images_size}
 use Rattle.local_store.specs.About.{About, HasRoom, IsOfVersionTwo}
 use Rattle.version_table.specs.Held.{writes_upto}
 use Rattle.volume.specs.Writes.{Fits}
@@ -85,6 +85,16 @@ pub record IsRunning (about : About) (keeping : Keeping) : Type 0 where
   pub here : about.lent ≡ None
   pub keeps : keeping.premise → (volume : List ℕ) × keeping.keeps volume × (length volume ≡ size_of about)
 
+-- the same of a store whose log may be lent out
+pub record MayLend (about : About) (keeping : Keeping) : Type 0 where
+  pub whole : about.broken ≡ false
+  pub version : IsOfVersionTwo about
+  pub keeps : keeping.premise → (volume : List ℕ) × keeping.keeps volume × (length volume ≡ size_of about)
+
+-- the log is there, or lent for the commit under way
+abbrev pub IsLentFor : Option Batch → Option Commit → Type 0
+IsLentFor lent commit = ForSome lent (λ batch. commit ≡ Some (record { front = batch.front; images = batch.images }))
+
 -- what holds of every member, whose store tells this of itself and keeps such volumes
 pub record IsSound (about : About) (keeping : Keeping) (node : NodeState) : Type 0 where
   pub slot : about.slot ≡ node.place.slot
@@ -100,7 +110,8 @@ pub record IsSound (about : About) (keeping : Keeping) (node : NodeState) : Type
   pub asked : All (IsAskedInside (size_of about)) node.waiting
   pub found : ForSome node.found (IsFoundBy node)
   pub under_way : ForSome node.commit (IsUnderWay about node)
-  pub running : node.stopped ≡ None → IsRunning about keeping
+  pub running : node.stopped ≡ None → MayLend about keeping
+  pub lent : node.stopped ≡ None → IsLentFor about.lent node.commit
   pub resting : ForSome node.stopped (λ cause. node.commit ≡ None)
   pub journals : keeping.premise → (volume : List ℕ) → keeping.keeps volume → ForSome node.commit (λ commit. AreImagesOf volume (writes_upto node.table commit.front) commit.images)
 

@@ -25,8 +25,9 @@ use local_store::{Refusal as StoreRefusal, StoreLike};
 
 impl<S: StoreLike + Drop> Node<S> {
     /// Ends the commit under way: its front is the durable one, and the receipt says so. Where none is under way, nothing
-    /// changes. Where memory runs out or the disk refuses, the member stops, and there is no receipt.
+    /// changes. Where memory runs out or the disk refuses, the member stops, and there is no receipt. The log is there.
     pub fn end_commit(&mut self) -> (Out, Option<Synced>)
+        requires here { (S.about self.old.store).lent ≡ None }
         ensures idle { IfNone self.old.state.commit (IsStep self.old self.new result.0 (silent self.old.state) × (result.1 ≡ None)) }
         ensures ended { IfSome self.old.state.commit (λ commit. IfSome result.1 (HasEnded S.about self.old self.new result.0 commit)) }
         ensures stopped { IfSome self.old.state.commit (λ commit. IfNone result.1
@@ -214,11 +215,13 @@ impl<S: StoreLike + Drop> Node<S> {
         }
     }
 
-    /// Writes all pending blocks home, and empties the journal area. After it nothing is pending, unless the member stopped.
+    /// Writes all pending blocks home, and empties the journal area. After it nothing is pending, unless the member stopped. The
+    /// log is there.
     ///
     /// 154 `Stopped` once stopped; else 121 `Full` exactly where no number is left for another superblock: these change
     /// nothing. Where the disk refuses, the member stops.
     pub fn checkpoint(&mut self) -> Result<Out, Refusal>
+        requires here { (S.about self.old.store).lent ≡ None }
         ensures runs { OnOk result (self.old.state.stopped ≡ None) }
         ensures worked { IfOk result (λ out. HasWorked S.about (one_checkpoint_more (S.about self.old.store)) self.old self.new out
             ⊎ HasStoppedBy S.about S.failures (λ error. error ≢ ReadFault) self.old self.new out) }
@@ -253,7 +256,7 @@ impl<S: StoreLike + Drop> Node<S> {
 }
 
 /// Why a member stops whose store refused so.
-fn cause_of(refusal: StoreRefusal) -> Cause
+pub(crate) fn cause_of(refusal: StoreRefusal) -> Cause
     requires { IsCause refusal }
     ensures { result ≡ cause_of refusal }
 {

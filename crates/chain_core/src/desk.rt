@@ -1,6 +1,7 @@
 ghost use Rattle.std.specs.Prelude.{◌≡◌, ◌↔◌, ◌<◌, ◌≤◌, ◌+◌, ◌^◌, ◌++◌, [], ◌∷◌, List, All, Some, None, filter, length, map, not, vec_len, vec_capacity, IfErr, IfOk, IsTrue, OnErr, OnOk};
+ghost use Rattle.std.specs.List.{list_any};
 ghost use Rattle.chain_core.specs.Reads.{answered};
-ghost use Rattle.chain_steps.specs.Waiting.{IsOf, IsOfDue, asked_range, bound, is_due, is_outdated, is_read, learned, reply_to, waits_for};
+ghost use Rattle.chain_steps.specs.Waiting.{IsOf, IsOfDue, asked_range, asks_floor, asks_front, bound, is_due, is_outdated, is_read, learned, reply_to, waits_for};
 ghost use Rattle.chain_steps.specs.declared.waiting.Waiting.{Waiting as Token};
 ghost use Rattle.chain_steps.specs.declared.waiting.Waiting.TheVariants.{Flush, Read};
 ghost use Rattle.flush_barrier.specs.declared.error_code.ErrorCode.TheVariants.{Io};
@@ -158,6 +159,20 @@ impl Desk {
         while let Some(reply) = self.tokens.next_outdated(alloc, epoch, ErrorCode::Io) {
             served.push_reserved(Served::new(reply));
         }
+    }
+
+    /// Whether a token waits for a front to be looked up.
+    pub(crate) fn asks_front(&self) -> bool
+        ensures { result ≡ list_any asks_front self.now }
+    {
+        self.tokens.asks_front()
+    }
+
+    /// Whether a token waits for a floor.
+    pub(crate) fn asks_floor(&self) -> bool
+        ensures { result ≡ list_any asks_floor self.now }
+    {
+        self.tokens.asks_floor()
     }
 
     /// The ranges that the READs ask for, in the order in which they were taken: the first byte of each, and how many.

@@ -4,6 +4,8 @@ ghost use Rattle.board.specs.Seats.{IsAlone, IsRuled, stepped};
 ghost use Rattle.board.specs.Steps.{NeverBack};
 ghost use Rattle.board.specs.declared.view.Step.TheVariants.{Look, Raise};
 ghost use Rattle.chain_steps.specs.Node.{last_of};
+ghost use Rattle.std.specs.List.{list_any};
+ghost use Rattle.chain_steps.specs.Waiting.{asks_floor, asks_front};
 ghost use Rattle.chain_steps.specs.Steps.{answer_floor, raised, raised_front};
 ghost use Rattle.chain_core.specs.Node.{IsStepOrStop, Keeps};
 
@@ -74,6 +76,20 @@ impl<S: StoreLike + Drop> Node<S> {
             Found::Raised(front) => Some(front.number()),
             Found::Looked(_) => None,
         }
+    }
+
+    /// Whether a token waits at it for a front to be looked up: a READ, or a FLUSH that isn't bound yet.
+    pub fn asks_front(&self) -> bool
+        ensures { result ≡ list_any asks_front self.now.state.waiting }
+    {
+        self.desk.asks_front()
+    }
+
+    /// Whether a token waits at it for a floor: a write with FUA that has its number, or a FLUSH that is bound.
+    pub fn asks_floor(&self) -> bool
+        ensures { result ≡ list_any asks_floor self.now.state.waiting }
+    {
+        self.desk.asks_floor()
     }
 
     /// Answers the writes with FUA that the floor reaches, and then the FLUSHes. The floor is one of the member's board. Where

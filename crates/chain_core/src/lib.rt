@@ -16,6 +16,7 @@ mod desk;
 mod fronts;
 mod groups;
 mod holding;
+mod lending;
 mod node;
 mod out;
 mod reading;

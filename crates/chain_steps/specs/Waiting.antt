@@ -81,6 +81,20 @@ is_read (Fua ticket epoch token) = false
 is_read (Read offset len token) = true
 is_read (Flush token) = false
 
+-- it waits for a front to be looked up: a READ, or a FLUSH that isn't bound yet
+abbrev pub asks_front : Waiting → Bool
+asks_front (Plain ticket epoch number token) = false
+asks_front (Fua ticket epoch token) = false
+asks_front (Read offset len token) = true
+asks_front (Flush token) = not (is_some token.number)
+
+-- it waits for a floor: a write with FUA that has its number, or a FLUSH that is bound
+abbrev pub asks_floor : Waiting → Bool
+asks_floor (Plain ticket epoch number token) = false
+asks_floor (Fua ticket epoch token) = is_some token.number
+asks_floor (Read offset len token) = false
+asks_floor (Flush token) = is_some token.number
+
 -- which tokens are answered: as far as a commit is known, or as far as a floor reaches
 abbrev pub is_due : Due → Waiting → Bool
 is_due (dues.Committed known) w = is_committed known w

@@ -1,6 +1,7 @@
 ghost use Rattle.std.specs.Prelude.{◌≡◌, ◌<◌, ◌^◌, ◌++◌, [], ◌∷◌, Bool, true, List, Some, None, All, filter, find, length, map, option_map, position, IfErr, IfNone, IfOk, IfSome, OnErr, OnOk};
+ghost use Rattle.std.specs.List.{list_any};
 ghost use Rattle.chain_steps.specs.Tokens.{without_first};
-ghost use Rattle.chain_steps.specs.Waiting.{IsOf, IsOfDue, asked_range, bound, is_due, is_outdated, is_read, learned, reply_to, waits_for};
+ghost use Rattle.chain_steps.specs.Waiting.{IsOf, IsOfDue, asked_range, asks_floor, asks_front, bound, is_due, is_outdated, is_read, learned, reply_to, waits_for};
 ghost use Rattle.chain_steps.specs.declared.waiting.Waiting.{Waiting as Token};
 ghost use Rattle.chain_steps.specs.declared.waiting.Waiting.TheVariants.{Flush, Read};
 
@@ -156,6 +157,20 @@ impl Tokens {
     {
         let at = self.first_outdated(epoch)?;
         Some(self.take_out(at).refuse(alloc, code))
+    }
+
+    /// Whether one waits for a front to be looked up.
+    pub fn asks_front(&self) -> bool
+        ensures { result ≡ list_any asks_front self.now }
+    {
+        self.waiting.iter().any(|token| token.asks_front())
+    }
+
+    /// Whether one waits for a floor.
+    pub fn asks_floor(&self) -> bool
+        ensures { result ≡ list_any asks_floor self.now }
+    {
+        self.waiting.iter().any(|token| token.asks_floor())
     }
 
     /// How many READs wait.

@@ -79,7 +79,7 @@ pub enum Waiting {
 }
 
 impl Waiting {
-    ghost use Rattle.chain_steps.specs.Waiting.{IsOf, IsOfDue, bound, is_due, is_outdated, is_read, learned, reply_to, waits_for};
+    ghost use Rattle.chain_steps.specs.Waiting.{IsOf, IsOfDue, asks_floor, asks_front, bound, is_due, is_outdated, is_read, learned, reply_to, waits_for};
 
     /// The token of a write that was submitted under this ticket, in this epoch.
     pub(crate) fn submitted(token: WriteToken, ticket: u64, epoch: u64) -> Waiting
@@ -165,6 +165,28 @@ impl Waiting {
         ensures { result ≡ is_read self.now }
     {
         matches!(self, Waiting::Read { .. })
+    }
+
+    /// Whether it waits for a front to be looked up.
+    pub(crate) fn asks_front(&self) -> bool
+        ensures { result ≡ asks_front self.now }
+    {
+        match self {
+            Waiting::Read { .. } => true,
+            Waiting::Flush { token } => token.numbered().is_none(),
+            Waiting::Plain { .. } | Waiting::Fua { .. } => false,
+        }
+    }
+
+    /// Whether it waits for a floor.
+    pub(crate) fn asks_floor(&self) -> bool
+        ensures { result ≡ asks_floor self.now }
+    {
+        match self {
+            Waiting::Fua { token, .. } => token.numbered().is_some(),
+            Waiting::Flush { token } => token.numbered().is_some(),
+            Waiting::Plain { .. } | Waiting::Read { .. } => false,
+        }
     }
 
     /// The reply that what was asked is done.

@@ -215,6 +215,7 @@ fn commit_next(rt: &impl Abort, node: &mut Node<PlainStore>) -> Synced
         panic!(rt; "a commit that doesn't begin")
     };
     same(rt, begun.replies.len(), 0);
+    assert!(rt; !node.store().is_lent());
     let (ended, receipt) = node.end_commit();
     same(rt, ended.replies.len(), 0);
     receipt.expect(rt, "a receipt")

@@ -9,13 +9,13 @@ use crate::answer::{Answer, MEMORY};
 use crate::step::{Act, Step};
 use chain_core::Refusal;
 use flush_barrier::SessionId;
-use local_store::StoreLike;
+use local_store::NeverLends;
 use std::alloc::Global;
 use world::{Told, World};
 
 /// Plays one step: the call of the world that it names. Where there is no member at its place, no such session, or no such step now,
 /// it is skipped, and nothing changed.
-pub fn play<S: StoreLike + Drop>(alloc: Global, world: &mut World<S>, step: &Step) -> Answer
+pub fn play<S: NeverLends + Drop>(alloc: Global, world: &mut World<S>, step: &Step) -> Answer
     ensures does { Does S.keeps_model S.about S.keeps S.is_pending S.may_leave_now S.moment S.may_have_left_since S.failures step.now result world.old world.new }
     ensures one_volume { S.keeps_model → IsOfOneVolume S.about S.keeps S.may_leave_now (fed_by_step step.now result) (handed_by_step step.now result) world.old world.new }
 {
@@ -35,7 +35,7 @@ pub fn play<S: StoreLike + Drop>(alloc: Global, world: &mut World<S>, step: &Ste
 }
 
 /// A client begins its session.
-fn connect<S: StoreLike + Drop>(
+fn connect<S: NeverLends + Drop>(
     alloc: Global,
     world: &mut World<S>,
     session: SessionId,
@@ -55,7 +55,7 @@ fn connect<S: StoreLike + Drop>(
 }
 
 /// The client sends a piece.
-fn feed<S: StoreLike + Drop>(
+fn feed<S: NeverLends + Drop>(
     alloc: Global,
     world: &mut World<S>,
     session: SessionId,
@@ -74,7 +74,7 @@ fn feed<S: StoreLike + Drop>(
 }
 
 /// The client's input ends.
-fn end<S: StoreLike + Drop>(alloc: Global, world: &mut World<S>, session: SessionId) -> Answer
+fn end<S: NeverLends + Drop>(alloc: Global, world: &mut World<S>, session: SessionId) -> Answer
     ensures does { IsEnded session result world.old world.new }
     ensures one_volume { IsOfOneVolume S.about S.keeps S.may_leave_now no_one (handed_of result) world.old world.new }
 {
@@ -82,7 +82,7 @@ fn end<S: StoreLike + Drop>(alloc: Global, world: &mut World<S>, session: Sessio
 }
 
 /// What waits for the client goes out.
-fn hand_out<S: StoreLike + Drop>(world: &mut World<S>, session: SessionId) -> Answer
+fn hand_out<S: NeverLends + Drop>(world: &mut World<S>, session: SessionId) -> Answer
     ensures does { IsHandedOut session result world.old world.new }
     ensures one_volume { IsOfOneVolume S.about S.keeps S.may_leave_now no_one (handed_from session result) world.old world.new }
 {
@@ -93,7 +93,7 @@ fn hand_out<S: StoreLike + Drop>(world: &mut World<S>, session: SessionId) -> An
 }
 
 /// The member at a place acts.
-fn play_at<S: StoreLike + Drop>(alloc: Global, world: &mut World<S>, at: usize, act: Act) -> Answer
+fn play_at<S: NeverLends + Drop>(alloc: Global, world: &mut World<S>, at: usize, act: Act) -> Answer
     requires { at < length world.old.chain.members }
     ensures does { Acts S.keeps_model S.about S.keeps S.is_pending S.may_leave_now S.moment S.may_have_left_since S.failures act at result world.old world.new }
     ensures one_volume { S.keeps_model → IsOfOneVolume S.about S.keeps S.may_leave_now no_one (handed_of result) world.old world.new }
@@ -120,7 +120,7 @@ fn play_at<S: StoreLike + Drop>(alloc: Global, world: &mut World<S>, at: usize, 
 }
 
 /// It begins a commit of at most so many writes.
-fn begin_commits<S: StoreLike + Drop>(world: &mut World<S>, at: usize, most: u64) -> Answer
+fn begin_commits<S: NeverLends + Drop>(world: &mut World<S>, at: usize, most: u64) -> Answer
     requires { at < length world.old.chain.members }
     ensures does { BeginsSome S.keeps_model S.about S.keeps S.is_pending S.may_leave_now S.moment S.may_have_left_since S.failures at most result world.old world.new }
     ensures one_volume { S.keeps_model → IsOfOneVolume S.about S.keeps S.may_leave_now no_one (handed_of result) world.old world.new }
@@ -132,7 +132,7 @@ fn begin_commits<S: StoreLike + Drop>(world: &mut World<S>, at: usize, most: u64
 }
 
 /// Its store writes a block home.
-fn tick<S: StoreLike + Drop>(world: &mut World<S>, at: usize) -> Answer
+fn tick<S: NeverLends + Drop>(world: &mut World<S>, at: usize) -> Answer
     requires { at < length world.old.chain.members }
     ensures does { IsTicked S.keeps_model S.about S.keeps S.is_pending S.may_leave_now S.moment S.may_have_left_since S.failures at result world.old world.new }
     ensures one_volume { S.keeps_model → IsOfOneVolume S.about S.keeps S.may_leave_now no_one (handed_of result) world.old world.new }

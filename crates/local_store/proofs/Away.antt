@@ -2,7 +2,7 @@
 use Rattle.std.proofs.Common.{◌≡◌, ℕ, Bool, IsErrOf, true, ◌+◌, ◌<◌, ◌≤◌, List, [], ◌∷◌, ◌++◌, length, take, drop, refl, sym, ◌∙◌, ap, subst, inl, inr, ◌⊎◌, ⊎_elim, arith, false, max, Err, IsSome, MatchResult, Ok, Result, OnErr, OnOk, IsNone}
 use Rattle.std.specs.Prelude.{All, Option, Some, None, unwrap_or}
 use Rattle.std.specs.Option.{ForSome}
-use Rattle.std.proofs.lemmas.Bool.{both_ways, cases_lt}
+use Rattle.std.proofs.lemmas.Bool.{both_ways}
 use Rattle.std.proofs.lemmas.List.{drop_at, take_at}
 use Rattle.std.proofs.lemmas.Result.{on_ok_weaker}
 use Rattle.block_cache.specs.Cache.{Agrees}
@@ -22,9 +22,10 @@ use Rattle.home_blocks.specs.Home.{settled_leaves, still_settled_home}
 use Rattle.home_blocks.specs.Places.{border_of, disk_size_of, home_part, superblock_part}
 use Rattle.home_blocks.specs.Superblock.{Superblock}
 use Rattle.home_blocks.specs.declared.progress.Progress.TheVariants.{Whole}
+use Rattle.loans.specs.Sides.{last_of}
 use Rattle.local_store.specs.Kept.{parts_mean}
-use Rattle.local_store.specs.Lending.{Done, HoldsHome, IsDone, IsHomeKept}
-use Rattle.local_store.specs.Away.{IsKeptOver, IsLent, Keeps, LeftWith, batch_in, twin_of}
+use Rattle.local_store.specs.Lending.{Done, HoldsHome, IsDone, IsHomeKept, Lending}
+use Rattle.local_store.specs.Away.{IsKeptOver, IsLent, Keeps, LeftWith, batch_in, lending_in, twin_of}
 use Rattle.local_store.specs.KeptAway.{halves_mean_old, holds_below, inside_journal, journal_behind, left_either, left_more, over_means}
 use Rattle.local_store.specs.Meaning.{Means}
 use Rattle.local_store.specs.Overlay.{AllFitIn, with_batches, with_images}
@@ -49,17 +50,17 @@ for_it_of o x R log other is same has = for_it o x (λ l. R l other) is (subst (
 
 -- the log of a commit that is done is settled with its batch
 pub done_settles : {L : Type 0} {keeps_model : Type 0} {gives : L → List ℕ} {left : L → List ℕ → Type 0} {failures : L → ℕ} (done : Done L) (was log : L) (twin : journal.State) (batch : Batch) (batches : List Batch) (receipt : Receipt)
-    → IsDone keeps_model gives left failures done → keeps_model → done.was ≡ was → done.before ≡ twin → done.batch ≡ batch → done.log ≡ log → done.outcome ≡ Ok receipt → IsSettled twin batches (gives was) (left was)
+    → IsDone keeps_model gives left failures done → keeps_model → done.loan ≡ record { log = was; journal = twin; batch = batch } → done.log ≡ log → done.outcome ≡ Ok receipt → IsSettled twin batches (gives was) (left was)
     → IsSettled (appended twin batch.front batch.images) (batches ++ batch ∷ []) (gives log) (left log)
-done_settles {L} {gives = gives} {left} done was log twin batch batches receipt is keeps same_was same_twin same_batch same_log ok had =
-    let Now : journal.State → Batch → L → Type 0 = λ j b x. IsSettled (appended j b.front b.images) (batches ++ b ∷ []) (gives x) (left x) in
-    let begun = subst (λ (j : journal.State). IsSettled j batches (gives done.was) (left done.was)) (sym same_twin) (subst (λ (x : L). IsSettled twin batches (gives x) (left x)) (sym same_was) had) in
-    let now = subst (λ (o : Result Receipt JournalRefusal). OnOk o (Now done.before done.batch done.log)) ok (is.settled keeps batches begun) in
-    subst (Now twin batch) same_log (subst (λ (b : Batch). Now twin b done.log) same_batch (subst (λ (j : journal.State). Now j done.batch done.log) same_twin now))
+done_settles {L} {gives = gives} {left} done was log twin batch batches receipt is keeps same same_log ok had =
+    let Now : Lending L → L → Type 0 = λ l x. IsSettled (appended l.journal l.batch.front l.batch.images) (batches ++ l.batch ∷ []) (gives x) (left x) in
+    let begun = subst (λ (l : Lending L). IsSettled l.journal batches (gives l.log) (left l.log)) (sym same) had in
+    let now = subst (λ (o : Result Receipt JournalRefusal). OnOk o (Now done.loan done.log)) ok (is.settled keeps batches begun) in
+    subst (Now (record { log = was; journal = twin; batch = batch })) same_log (subst (λ (l : Lending L). Now l done.log) same now)
 
 -- and where memory ran out, as it was
 pub done_nothing : {L : Type 0} {keeps_model : Type 0} {gives : L → List ℕ} {left : L → List ℕ → Type 0} {failures : L → ℕ} (done : Done L) (was log : L) (twin : journal.State) (batches : List Batch)
-    → IsDone keeps_model gives left failures done → done.was ≡ was → done.log ≡ log → done.outcome ≡ Err variants.Memory → IsSettled twin batches (gives was) (left was) → IsSettled twin batches (gives log) (left log)
+    → IsDone keeps_model gives left failures done → done.loan.log ≡ was → done.log ≡ log → done.outcome ≡ Err variants.Memory → IsSettled twin batches (gives was) (left was) → IsSettled twin batches (gives log) (left log)
 done_nothing {L} {gives = gives} {left} done was log twin batches is same_was same_log memory had =
     subst (λ (x : L). IsSettled twin batches (gives x) (left x)) (sym same_was ∙ sym (is.unchanged memory) ∙ same_log) had
 
@@ -91,6 +92,12 @@ still_away {cut} {whole} {len} {batch} old new size now same as_long was = recor
 twin_still : {old new : State} → IsSameButForPending old new → twin_of old ≡ twin_of new
 twin_still {old} {new} same =
     ap (λ (j : journal.State). behind_border j (border_of (geometry_of old))) (sym same.journal) ∙ ap (λ (b : Superblock). behind_border new.journal (border_of b.geometry)) (sym same.superblock)
+
+-- what was lent is what it was
+pub still_lent : {P L : Type 0} (loans : List (Lending L)) (l : Lent P L) (old new : State) → IsSameButForPending old new → last_of loans ≡ Some (lending_in old l) → last_of loans ≡ Some (lending_in new l)
+still_lent loans l old new same was =
+    was ∙ ap (λ (b : Superblock). Some (record { log = l.was.value; journal = behind_border old.journal (border_of b.geometry); batch = batch_in l })) (sym same.superblock)
+    ∙ ap (λ (j : journal.State). Some (record { log = l.was.value; journal = behind_border j (border_of (geometry_of new)); batch = batch_in l })) (sym same.journal)
 
 -- what it keeps of the disk or of the home half, the store keeps
 over_still : {old new : State} {v : List ℕ} {batches : List Batch} {gives now : List ℕ} {left left_now left_before : List ℕ → Type 0} → IsSameButForPending old new → IsHomeKept new v batches now left_now

@@ -1,9 +1,9 @@
 -- Pending images in memory.
-use Rattle.std.proofs.Common.{◌≡◌, ℕ, ◌+◌, ◌<◌, List, [], ◌∷◌, ◌++◌, length, map, set, get_or, refl, sym, ◌∙◌, ap, subst, inl, inr, ⊎_elim}
-use Rattle.std.specs.Prelude.{All, Option, Some, None, IfSome, is_some, option_map}
+use Rattle.std.proofs.Common.{◌≡◌, ℕ, ◌+◌, List, [], ◌∷◌, ◌++◌, map, set, get_or, refl, sym, ◌∙◌, ap, inl, inr, ⊎_elim}
+use Rattle.std.specs.Prelude.{Option, Some, None, IfSome, is_some, option_map}
 use Rattle.std.proofs.Math.ListN.{get_or-map as get_or-map-any}
 use Rattle.flusher.specs.Plan.{IsFrom, IsLeast, IsNext, IsPending, IsRun, NonePending, behind}
-use Rattle.std.proofs.lemmas.List.{map-set, map_push, length-map, get_or-map}
+use Rattle.std.proofs.lemmas.List.{map-set}
 use Rattle.std.proofs.lemmas.List.Sums.{fold-append}
 use Rattle.gate_journal.specs.Image.{Image}
 use Rattle.local_store.specs.Pending.{with_pending}

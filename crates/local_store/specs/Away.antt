@@ -1,5 +1,5 @@
 -- A store whose log may be lent out: what it keeps, and what a stop may leave of it.
-use Rattle.std.specs.Prelude.{◌≡◌, ℕ, ◌+◌, ◌<◌, ◌≤◌, Option, None, Some, Result, IfOk, List, [], All, length, take, drop}
+use Rattle.std.specs.Prelude.{◌≡◌, ℕ, ◌+◌, ◌<◌, ◌≤◌, Option, None, Some, Result, IfOk, List, [], All, take, drop}
 use Rattle.disk_model.specs.Halves.{LeftBehind}
 use Rattle.disk_model.specs.Part.{inside}
 use Rattle.gate_journal.specs.Batch.{Batch, HoldsBatches, last_front}
@@ -9,7 +9,7 @@ use Rattle.gate_journal.specs.Receipt.{Receipt}
 use Rattle.gate_journal.specs.declared.batch.TheConstants.{MAX_NUMBER}
 use Rattle.gate_journal.specs.declared.refusal.Refusal.{Refusal}
 use Rattle.home_blocks.specs.Places.{border_of, disk_size_of}
-use Rattle.local_store.specs.Lending.{Done, IsHomeKept}
+use Rattle.local_store.specs.Lending.{Done, IsHomeKept, Lending}
 use Rattle.local_store.specs.Store.{State, IsStored, geometry_of}
 use Rattle.local_store.specs.declared.lent.Lent.{Lent}
 
@@ -47,11 +47,13 @@ pub record IsLogOf {P L : Type 0} (store : State) (lent : Lent P L) (log_size : 
   pub as_long : border_of (geometry_of store) + log_size ≡ lent.len
   pub receipt : IfOk outcome (λ receipt. receipt ≡ record { slot = store.home.superblock.slot; front = lent.front })
 
+-- what was lent
+abbrev pub lending_in : {P L : Type 0} → State → Lent P L → Lending L
+lending_in store lent = record { log = lent.was.value; journal = twin_of store; batch = batch_in lent }
+
 -- This is the commit that was lent, journaled or refused: of the log and the journal as they were, and of the batch.
-pub record IsCommitOf {P L : Type 0} (store : State) (lent : Lent P L) (done : Done L) : Type 0 where
-  pub was : done.was ≡ lent.was.value
-  pub before : done.before ≡ twin_of store
-  pub batch : done.batch ≡ batch_in lent
+abbrev pub IsCommitOf : {P L : Type 0} → State → Lent P L → Done L → Type 0
+IsCommitOf store lent done = done.loan ≡ lending_in store lent
 
 -- While its log is lent the store keeps this volume over these batches: its home half does, and whatever might have been
 -- left before had them in the journal.

@@ -1,12 +1,14 @@
 //! A store that may lend out the log half of its disk.
-ghost use Rattle.std.specs.Prelude.{◌≡◌, ◌≤◌, ℕ, List, IsNone};
+ghost use Rattle.std.specs.Prelude.{◌≡◌, ◌≤◌, ℕ, List, Some, IsNone, IsSome};
 ghost use Rattle.std.specs.Option.{ForSome};
 ghost use Rattle.home_blocks.specs.Places.{disk_size_of};
 ghost use Rattle.local_store.specs.About.{about_of};
-ghost use Rattle.local_store.specs.Away.{IsLent, batch_in};
+ghost use Rattle.loans.specs.Sides.{last_of};
+ghost use Rattle.local_store.specs.Away.{IsLent, batch_in, lending_in};
 ghost use Rattle.local_store.specs.Store.{geometry_of};
 
 use crate::contents::Contents;
+use crate::lending::Loan;
 use crate::lent::Lent;
 use crate::refusal::Refusal;
 use crate::store::Store;
@@ -15,40 +17,55 @@ use disk_model::HalvedDisk;
 use flusher::{Plan, Run};
 use gate_journal::{Image, Slot, Synced};
 use home_blocks::Version;
+use loans::{Borrower, Lender, Rings, Sides};
 use std::alloc::Global;
 use volume::Geometry;
 
 /// A store whose log may be journaled elsewhere while it goes on. While its log is lent out, the disk is its home half.
+///
+/// It shares a ring with the borrower of its loans, so that what is given back is known to be what it lent; the borrower's side is its own
+/// while the log is there, and goes out with the log.
 #[derive(Drop)]
-pub struct LendingStore<D: HalvedDisk> {
+pub struct LendingStore<D: HalvedDisk, J: Rings> {
     pub(crate) disk: D,
     pub(crate) contents: Contents,
     pub(crate) plan: Plan,
     pub(crate) lent: Option<Lent<D::Past, D::Log>>,
+    pub(crate) lender: Lender<Loan<D::Log>, J>,
+    pub(crate) borrower: Option<Borrower<Loan<D::Log>, J>>,
     ghost here: { IsNone lent → disk_size_of (geometry_of contents) ≤ D.size disk },
     ghost away: { ForSome lent (λ l. IsLent contents (D.size disk) (D.cut_at l.past) (D.whole l.past) l.len (batch_in l)) },
+    ghost remembers: { ForSome lent (λ l. last_of lender.loans ≡ Some (lending_in contents l)) },
+    ghost paired: { ForSome borrower (λ side. side.number ≡ lender.number) },
+    ghost kept: { IsNone lent → IsSome borrower },
 }
 
-impl<D: HalvedDisk + Drop> LendingStore<D> {
-    /// The store, which can lend out its log from then on.
-    pub fn of(store: Store<D>) -> LendingStore<D>
+impl<D: HalvedDisk + Drop, J: Rings> LendingStore<D, J> {
+    ghost use Rattle.loans.specs.Rings.{IsOf};
+
+    /// The store, which can lend out its log from then on, by the sides that the program named.
+    pub fn of(store: Store<D>, sides: Sides<Loan<D::Log>>) -> LendingStore<D, J>
+        requires { IsOf (J.ring sides.number) sides.lender.end }
         ensures disk { result.disk ≡ store.disk }
         ensures contents { result.contents ≡ store.contents }
         ensures plan { result.plan ≡ store.plan }
         ensures here { IsNone result.lent }
-        ensures about { ⟦<LendingStore<D> as StoreLike>⟧.about result ≡ ⟦<Store<D> as StoreLike>⟧.about store }
-        ensures kept { D.keeps_model → (volume : List ℕ) → ⟦<Store<D> as StoreLike>⟧.keeps store volume → ⟦<LendingStore<D> as StoreLike>⟧.keeps result volume }
+        ensures about { ⟦<LendingStore<D, J> as StoreLike>⟧.about result ≡ ⟦<Store<D> as StoreLike>⟧.about store }
+        ensures kept { D.keeps_model → (volume : List ℕ) → ⟦<Store<D> as StoreLike>⟧.keeps store volume → ⟦<LendingStore<D, J> as StoreLike>⟧.keeps result volume }
     {
         let Store {
             disk,
             contents,
             plan,
         } = store;
+        let (lender, borrower) = sides.named();
         LendingStore {
             disk,
             contents,
             plan,
             lent: None,
+            lender,
+            borrower: Some(borrower),
         }
     }
 
@@ -68,12 +85,14 @@ impl<D: HalvedDisk + Drop> LendingStore<D> {
             contents: _,
             plan: _,
             lent: _,
+            lender: _,
+            borrower: _,
         } = self;
         disk
     }
 }
 
-impl<D: HalvedDisk + Drop> StoreLike for LendingStore<D> {
+impl<D: HalvedDisk + Drop, J: Rings> StoreLike for LendingStore<D, J> {
     ghost use Rattle.std.specs.Prelude.{◌≡◌, ◌⊎◌, ◌+◌, ◌*◌, ◌<◌, ◌≤◌, ◌↔◌, ℕ, List, None, true, false, length, take, drop, is_some, Any, IfOk, IfErr, IfNone, IfSome, OnOk, OnErr, IsErrOf};
     ghost use Rattle.flusher.specs.Plan.{IsPending};
     ghost use Rattle.gate_journal.specs.Journal.{IsSettled};

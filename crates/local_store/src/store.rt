@@ -13,6 +13,7 @@ ghost use Rattle.local_store.specs.Refusal.{HasCause, IsCaused, IsNotOfDevice, I
 ghost use Rattle.local_store.specs.Store.{IsStored, geometry_of, meaning_in};
 
 use crate::contents::Contents;
+use crate::never_lends::NeverLends;
 use crate::refusal::Refusal;
 use crate::store_like::StoreLike;
 use disk_model::Disk;
@@ -241,4 +242,10 @@ impl<D: Disk + Drop> StoreLike for Store<D> {
     fn checkpoint(&mut self) -> Result<(), Refusal> {
         self.contents.checkpoint(&mut self.disk)
     }
+}
+
+impl<D: Disk + Drop> NeverLends for Store<D> {
+    ghost use Rattle.std.specs.Prelude.{refl};
+
+    ghost never_lends = { λ store. refl };
 }

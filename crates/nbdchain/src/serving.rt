@@ -21,7 +21,7 @@ use disk_model::{Disk, FileDisk};
 use folder::{FolderDisks, Opened, Refused, restart};
 use gate_journal::Slot;
 use home_blocks::superblocks_are_one;
-use local_store::{Store, StoreLike, disks_mean_one};
+use local_store::{NeverLends, Store, StoreLike, disks_mean_one};
 use log::{Log, info};
 use server::{listen, serve};
 use service::{HasError, Service};
@@ -331,7 +331,7 @@ where
         + Copy
         + Send
         + 'static,
-    S: StoreLike + HasError + Drop,
+    S: NeverLends + HasError + Drop,
 {
     let Serving {
         listener,

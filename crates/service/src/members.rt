@@ -11,7 +11,7 @@ ghost use Rattle.service.specs.Service.{Serves, waits_for};
 
 use crate::service::Service;
 use chain_core::Refusal;
-use local_store::StoreLike;
+use local_store::NeverLends;
 use std::mem;
 use world::Told;
 
@@ -39,7 +39,7 @@ const MANY_HOMES: u64 = 64;
 /// The slots of a board.
 const SLOTS: u32 = 8;
 
-impl<S: StoreLike + Drop> Service<S> {
+impl<S: NeverLends + Drop> Service<S> {
     /// Whether there is a member.
     pub(crate) fn has_member(&self) -> bool
         ensures some { result ≡ true → 0 < length self.now.world.chain.members }

@@ -14,13 +14,13 @@ use crate::members::{MANY_KNOWN, ONLY};
 use crate::service::Service;
 use chain_steps::Cause;
 use flush_barrier::SessionId;
-use local_store::StoreLike;
+use local_store::NeverLends;
 use server::{Output, Sessions, Stop};
 
 /// The number that is told of a member which stopped without a refusal.
 const STOPPED: u16 = 154;
 
-impl<S: StoreLike + HasError + Drop> Sessions for Service<S> {
+impl<S: NeverLends + HasError + Drop> Sessions for Service<S> {
     fn connect(&mut self, session: u64) -> bool
         ensures serves { Serves S.about S.keeps S.may_leave_now no_one no_one self.old self.new }
         ensures begins { result ≡ true → Receives self.old.world self.new.world (Begins (record { 0 = session }) 0) }
@@ -134,7 +134,7 @@ fn stop_of<S: HasError>(cause: Cause, store: &S) -> Stop
     }
 }
 
-impl<S: StoreLike + Drop> Service<S> {
+impl<S: NeverLends + Drop> Service<S> {
     /// What waits for a session of what steps put out.
     fn take_waiting(&mut self, id: SessionId) -> Option<Output>
         ensures kept { IfSome result (λ output. IsOfKept id output self.old self.new) }

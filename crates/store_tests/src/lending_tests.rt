@@ -4,6 +4,7 @@ ghost use Rattle.disk_model.specs.Memory.{size_of};
 ghost use Rattle.gate_journal.specs.Batch.{AreImages};
 ghost use Rattle.home_blocks.specs.Places.{disk_size_of};
 ghost use Rattle.local_store.specs.About.{IsOfVersionTwo};
+ghost use Rattle.loans.specs.Rings.{IsOf};
 ghost use Rattle.local_store.specs.Store.{geometry_of};
 
 use crate::comparing::{same, same_at};
@@ -13,8 +14,10 @@ use disk_model::{Cut, DiskError, Event, MemDisk};
 use flusher::Run;
 use gate_journal::{IMAGE_SIZE, Image, Slot};
 use home_blocks::{Version, disk_size};
-use local_store::{CommitWork, Installer, LendingStore, Refusal, Store, StoreLike};
+use loans::{Rings, Sides};
+use local_store::{CommitWork, Installer, LendingStore, Loan, Refusal, Store, StoreLike};
 use std::alloc::Global;
+use std::marker::Brand;
 use std::process::Abort;
 use volume::Geometry;
 
@@ -34,8 +37,19 @@ pub(crate) fn disk(rt: &impl Abort, alloc: Global, geometry: Geometry) -> MemDis
     new_disk(rt, alloc, disk_size(geometry))
 }
 
+// The sides of its loans.
+fn new_sides(rt: &impl Abort, alloc: Global) -> Sides<Loan<MemDisk>> {
+    Sides::new(alloc, 0).expect(rt, "memory")
+}
+
 // A store of slot 0 on a new disk, which lends; some device call from now on may fail.
-fn lending(rt: &impl Abort, alloc: Global, fails: Option<u64>) -> LendingStore<MemDisk>
+fn lending<J: Rings>(
+    rt: &impl Abort,
+    alloc: Global,
+    sides: Sides<Loan<MemDisk>>,
+    fails: Option<u64>,
+) -> LendingStore<MemDisk, J>
+    requires { IsOf (J.ring sides.number) sides.lender.end }
     ensures here { IsNone result.lent }
     ensures blocks { (geometry_of result.contents).blocks ≡ 8 }
 {
@@ -47,7 +61,7 @@ fn lending(rt: &impl Abort, alloc: Global, fails: Option<u64>) -> LendingStore<M
     if let Some(call) = fails {
         store.arm(Event::FailAt { call }).expect(rt, "memory");
     }
-    let store = LendingStore::of(store);
+    let store: LendingStore<MemDisk, J> = LendingStore::of(store, sides);
     assert!(rt; store.geometry().blocks == 8);
     store
 }
@@ -60,7 +74,7 @@ fn two(rt: &impl Abort, alloc: Global, byte: u8) -> [Image; 2]
 }
 
 // The byte of which the block consists.
-fn read(rt: &impl Abort, store: &mut LendingStore<MemDisk>, block: u32) -> u8 {
+fn read<S: StoreLike>(rt: &impl Abort, store: &mut S, block: u32) -> u8 {
     assert!(rt; block < store.geometry().blocks);
     let mut bytes = [0xee; IMAGE_SIZE];
     store.read_block(block, &mut bytes).expect(rt, "a block");
@@ -69,8 +83,8 @@ fn read(rt: &impl Abort, store: &mut LendingStore<MemDisk>, block: u32) -> u8 {
 }
 
 // The store's disk is of version 2.
-fn of_version_two(rt: &impl Abort, store: &LendingStore<MemDisk>)
-    ensures { IsOfVersionTwo (⟦<LendingStore<MemDisk> as StoreLike>⟧.about store.now) }
+fn of_version_two<S: StoreLike>(rt: &impl Abort, store: &S)
+    ensures { IsOfVersionTwo (S.about store.now) }
 {
     match store.version() {
         Version::Two => {}
@@ -79,7 +93,11 @@ fn of_version_two(rt: &impl Abort, store: &LendingStore<MemDisk>)
 }
 
 // Lends the log out, for the blocks 2 and 3 at front 1.
-fn lend(rt: &impl Abort, alloc: Global, store: &mut LendingStore<MemDisk>) -> CommitWork<MemDisk>
+fn lend<J: Rings>(
+    rt: &impl Abort,
+    alloc: Global,
+    store: &mut LendingStore<MemDisk, J>,
+) -> CommitWork<MemDisk, J>
     requires here { IsNone store.old.lent }
     requires blocks { (geometry_of store.old.contents).blocks ≡ 8 }
 {
@@ -93,65 +111,85 @@ fn lend(rt: &impl Abort, alloc: Global, store: &mut LendingStore<MemDisk>) -> Co
 // What a disk means that was cut: the front, and the byte of which block 3 consists.
 fn found(rt: &impl Abort, alloc: Global, mut disk: MemDisk) -> (u64, u8) {
     disk.cut(Cut::None);
-    let Ok(found) = Store::open(alloc, disk) else {
+    let Ok(mut found) = Store::open(alloc, disk) else {
         panic!(rt; "no store")
     };
-    let mut found = LendingStore::of(found);
     (found.front(), read(rt, &mut found, 3))
 }
 
 #[test]
 fn a_lent_commit_is_finished(rt: HostRuntime) {
-    let alloc = rt.alloc();
-    let mut store = lending(&rt, alloc, None);
-    same(&rt, (store.disk().calls(), store.is_lent()), (22, false));
-    let work = lend(&rt, alloc, &mut store);
-    same(&rt, (read(&rt, &mut store, 2), store.front()), (0, 0));
-    of_version_two(&rt, &store);
-    same(&rt, store.tick(), Ok(None));
-    let done = work.journal(&mut Vec::new(alloc));
-    assert!(rt; store.is_log_of(&done));
-    let receipt = store.finish_commit(done).expect(&rt, "a receipt");
-    same(&rt, (receipt.slot().number(), receipt.front()), (0, 1));
-    same(&rt, (store.is_lent(), store.front()), (false, 1));
-    same(&rt, store.disk().calls(), 27);
-    same(&rt, read(&rt, &mut store, 3), 7);
+    let sides = new_sides(&rt, rt.alloc());
+    finished::<Brand, _>(&rt, rt.alloc(), sides);
+}
+
+// A commit that is lent out is journaled while blocks are read, and finished.
+fn finished<J: Rings, R: Abort>(rt: &R, alloc: Global, sides: Sides<Loan<MemDisk>>)
+    requires { IsOf (J.ring sides.number) sides.lender.end }
+{
+    let mut store: LendingStore<MemDisk, J> = lending(rt, alloc, sides, None);
+    same(rt, (store.disk().calls(), store.is_lent()), (22, false));
+    let work = lend(rt, alloc, &mut store);
+    same(rt, (read(rt, &mut store, 2), store.front()), (0, 0));
+    of_version_two(rt, &store);
+    same(rt, store.tick(), Ok(None));
+    let mut done = work.journal(&mut Vec::new(alloc));
+    assert!(rt; store.is_log_of(&mut done));
+    let receipt = store.finish_commit(done).expect(rt, "a receipt");
+    same(rt, (receipt.slot().number(), receipt.front()), (0, 1));
+    same(rt, (store.is_lent(), store.front()), (false, 1));
+    same(rt, store.disk().calls(), 27);
+    same(rt, read(rt, &mut store, 3), 7);
     let run = Run { first: 2, count: 2 };
-    of_version_two(&rt, &store);
-    same(&rt, store.tick_run(8), Ok(Some(run)));
-    same(&rt, store.disk().calls(), 28);
-    same(&rt, found(&rt, alloc, store.into_disk()), (1, 7));
+    of_version_two(rt, &store);
+    same(rt, store.tick_run(8), Ok(Some(run)));
+    same(rt, store.disk().calls(), 28);
+    same(rt, found(rt, alloc, store.into_disk()), (1, 7));
 }
 
 #[test]
 fn a_log_is_taken_back(rt: HostRuntime) {
-    let alloc = rt.alloc();
-    let mut store = lending(&rt, alloc, None);
-    let work = lend(&rt, alloc, &mut store);
-    let done = work.journal(&mut Vec::new(alloc));
-    assert!(rt; store.is_log_of(&done));
+    let sides = new_sides(&rt, rt.alloc());
+    taken_back::<Brand, _>(&rt, rt.alloc(), sides);
+}
+
+// A log is taken back without its commit.
+fn taken_back<J: Rings, R: Abort>(rt: &R, alloc: Global, sides: Sides<Loan<MemDisk>>)
+    requires { IsOf (J.ring sides.number) sides.lender.end }
+{
+    let mut store: LendingStore<MemDisk, J> = lending(rt, alloc, sides, None);
+    let work = lend(rt, alloc, &mut store);
+    let mut done = work.journal(&mut Vec::new(alloc));
+    assert!(rt; store.is_log_of(&mut done));
     store.take_back(done);
     same(
-        &rt,
+        rt,
         (store.is_lent(), store.is_broken(), store.front()),
         (false, true, 0),
     );
-    of_version_two(&rt, &store);
-    same(&rt, store.tick(), Err(Refusal::Broken));
+    of_version_two(rt, &store);
+    same(rt, store.tick(), Err(Refusal::Broken));
 }
 
 // The second device call of the journaling fails.
 #[test]
 fn a_refused_journaling_breaks_the_store(rt: HostRuntime) {
-    let alloc = rt.alloc();
-    let mut store = lending(&rt, alloc, Some(2));
-    let work = lend(&rt, alloc, &mut store);
-    let done = work.journal(&mut Vec::new(alloc));
-    assert!(rt; store.is_log_of(&done));
+    let sides = new_sides(&rt, rt.alloc());
+    refused::<Brand, _>(&rt, rt.alloc(), sides);
+}
+
+// A journaling that the disk refuses breaks the store.
+fn refused<J: Rings, R: Abort>(rt: &R, alloc: Global, sides: Sides<Loan<MemDisk>>)
+    requires { IsOf (J.ring sides.number) sides.lender.end }
+{
+    let mut store: LendingStore<MemDisk, J> = lending(rt, alloc, sides, Some(2));
+    let work = lend(rt, alloc, &mut store);
+    let mut done = work.journal(&mut Vec::new(alloc));
+    assert!(rt; store.is_log_of(&mut done));
     let fault = Refusal::Device(DiskError::SyncFault);
-    same(&rt, store.finish_commit(done).err(), Some(fault));
+    same(rt, store.finish_commit(done).err(), Some(fault));
     same(
-        &rt,
+        rt,
         (store.is_lent(), store.is_broken(), store.front()),
         (false, true, 0),
     );

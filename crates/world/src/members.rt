@@ -15,9 +15,9 @@ use crate::told::Told;
 use crate::world::World;
 use chain_core::Refusal;
 use gate_journal::Slot;
-use local_store::StoreLike;
+use local_store::NeverLends;
 
-impl<S: StoreLike + Drop> World<S> {
+impl<S: NeverLends + Drop> World<S> {
     /// The member at a place takes the first write that comes from a slot by its submit link: as the head it gives the write the next
     /// number, and sends it on. `None` where no write is on the link. Where memory runs out, the member stops, and the write stays on
     /// its link; and so it does where the member refuses it.

@@ -32,10 +32,11 @@ invariant_of-self g c =
     let runs : c.self.inside.stopped ≡ None = grind (arith, c.if-is_some.false, c.is_some.ensures) in
     let about = g.S.StoreLike.about c.self.inside.store in
     let new = c.group_of.new.store in
+    let none : c.self.inside.commit ≡ None = grind (arith, c.if-is_some-2.false, c.is_some-2.ensures) in
     let group = rw c.in-Ok-Some.field-0-is at c.in-Ok-Some.ensures.group in
     let read = c.in-Ok-Some.ensures.only_read in
     let worked = sound_worked _ _ _ c.self.invariant runs about.used about.stores (g.S.StoreLike.about new) (g.S.StoreLike.keeps new) (le_refl about.used) read.tells read.kept (λ premise. g.met.S.StoreLike.keeps_one premise new) in
-    sound_begun _ _ _ worked runs c.in-Ok-Some.commit
+    sound_begun _ _ _ worked runs none c.in-Ok-Some.commit
     (record {
       above = group.above;
       known = omega (arith, group.upto, c.min.ensures, c.forgotten-durable.ensures, c.self.invariant.behind);

@@ -1,4 +1,4 @@
-use Rattle.std.proofs.Common.{◌≡◌, ◌⊎◌, ◌∙◌, ℕ, List, Err, Some, arith, ap, subst, sym}
+use Rattle.std.proofs.Common.{◌≡◌, ◌⊎◌, ◌∙◌, ℕ, List, Err, None, Some, arith, ap, subst, sym}
 use Rattle.std.specs.Prelude.{Any, IfSome, IsSomeAnd, ◌↔◌, fold}
 use Rattle.std.proofs.lemmas.Bool.{both_ways}
 use Rattle.disk_model.specs.Disk.{LeavesOnly}
@@ -33,8 +33,9 @@ forget_to-requires-clause-applied g c =
 pub invariant_of-self-in-Ok : goal.invariant_of-self-in-Ok
 invariant_of-self-in-Ok g c =
     let here : c.self.inside.commit ≡ Some (record { front = c.commit.inside.front; images = c.commit.inside.images.items }) = grind (arith, c.in-Some.is, c.in-Some.ensures.value, c.commit.view_is) in
+    let back : (g.S.StoreLike.about c.self.inside.store).lent ≡ None = subst (λ s. (g.S.StoreLike.about s.store).lent ≡ None) (sym c.self.view_is) c.requires.here in
     let images = c.deref.ensures.value in
-    rw (c.forget_to.ensures, c.take.ensures.after) (sound_ended _ _ _ c.self.invariant _ here (g.S.StoreLike.about c.commit-2.new.self) (g.S.StoreLike.keeps c.commit-2.new.self)
+    rw (c.forget_to.ensures, c.take.ensures.after) (sound_ended _ _ _ c.self.invariant _ here (g.S.StoreLike.about c.commit-2.new.self) (g.S.StoreLike.keeps c.commit-2.new.self) back
     (c.in-Ok.ensures.ok ∙ ap (λ (l : List Image). one_commit_more (g.S.StoreLike.about c.self.inside.store) c.commit.inside.front l) images)
     (λ premise volume keep. subst (λ (l : List Image). g.S.StoreLike.keeps c.commit-2.new.self (with_images volume l)) images (c.in-Ok.ensures.kept premise volume keep)))
 

@@ -1,7 +1,5 @@
-use Rattle.std.proofs.Common.{◌≡◌, ◌⊎◌, ◌+◌, ◌<◌, ℕ, List, Option, ◌∙◌, ap, arith, inl, inr, length, refl, subst, sym}
+use Rattle.std.proofs.Common.{◌≡◌, ◌⊎◌, ◌+◌, ◌<◌, ℕ, List, Option, ◌∙◌, ap, length, subst, sym}
 use Rattle.std.specs.Prelude.{All, Any, ◌↔◌}
-use Rattle.std.proofs.lemmas.Bool.{cases_lt}
-use Rattle.std.proofs.lemmas.List.{length-map}
 use Rattle.flusher.specs.Plan.{IsPending}
 use Rattle.gate_journal.specs.Journal as journal
 use Rattle.local_store.specs.Pending.{with_pending}

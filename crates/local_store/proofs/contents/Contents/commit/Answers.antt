@@ -1,6 +1,5 @@
-use Rattle.std.proofs.Common.{◌≡◌, ◌⊎◌, ◌<◌, ◌++◌, ◌∷◌, [], List, ℕ, ◌∙◌, ap, subst, sym, Option, length, get_or}
+use Rattle.std.proofs.Common.{◌≡◌, ◌⊎◌, ◌<◌, ◌++◌, ◌∷◌, [], List, ℕ, ◌∙◌, ap, subst, sym, Option, length}
 use Rattle.std.specs.Prelude.{All, Any, ◌↔◌}
-use Rattle.std.proofs.lemmas.List.{get_or-map, length-map}
 use Rattle.disk_model.specs.Disk.{LeavesOnly}
 use Rattle.flusher.specs.Plan.{IsPending}
 use Rattle.gate_journal.specs.Journal as journal

@@ -9,7 +9,7 @@ use Rattle.gate_journal.specs.Journal as journal
 use Rattle.gate_journal.specs.Journal.{IsSettled, behind_border}
 use Rattle.gate_journal.specs.Refusal as journals
 use Rattle.home_blocks.specs.Places.{border_of}
-use Rattle.local_store.specs.Away.{Keeps, batch_of, twin_of}
+use Rattle.local_store.specs.Away.{Keeps}
 use Rattle.local_store.specs.Lending.{HoldsHome, IsHomeKept}
 use Rattle.local_store.specs.Meaning.{Means}
 use Rattle.local_store.specs.Overlay.{with_images}
@@ -28,15 +28,9 @@ returns-clause-kept g c = λ keeps v kept.
     let done = c.journal-done.result in
     let same = c.lend_commit.ensures.same in
     let batch = c.in_ok-work.ensures.batch in
-    let wrote : record { front = work.front; images = work.images.items } ≡ batch_of lent.lent = (λ i. record { front = c.in_ok-work.ensures.front i; images = c.in_ok-work.ensures.images i }) ∙ sym batch in
-    let twin : work.journal ≡ twin_of lent.contents = c.in_ok-work.ensures.journal ∙ ap (λ (t : State). twin_of t) (sym same) in
     let Kept : Batch → Type 0 = λ x. Keeps back.lent (λ l. g.D.HalvedDisk.left_before l.past (g.D.HalvedDisk.until l.past)) (λ l j bs. IsSettled j bs (g.D.Log.Disk.gives l.was.value) (g.D.Log.Disk.may_leave_now l.was.value)) back.contents (with_images v x.images) (g.D.Disk.gives back.disk) (g.D.Disk.may_leave_now back.disk) in
     subst (λ (x : Batch). OnOk c.finish_commit.result (Kept x)) batch
-    (c.finish_commit.ensures.kept keeps v (c.lend_commit.ensures.kept keeps v kept) (λ l is. record {
-      was = c.journal-done.ensures.was ∙ sym (subst (λ (o : Option (Lent g.row.D-Past.Denot g.row.D-Log.Denot)). IfSome o (λ x. x.was.value ≡ work.log)) is c.in_ok-work.ensures.was);
-      before = c.journal-done.ensures.before ∙ twin;
-      batch = c.journal-done.ensures.batch ∙ wrote ∙ ap batch_of is;
-    }))
+    (c.finish_commit.ensures.kept keeps v (c.lend_commit.ensures.kept keeps v kept))
 
 pub returns-clause-cause : goal.returns-clause-cause
 returns-clause-cause g c =
@@ -70,9 +64,8 @@ returns-clause-any_moment g c = λ keeps v kept.
     let some = some_of lent.lent c.in_ok-work.ensures.lent in
     let Logged : journal.State → Batch → List ℕ → Type 0 = λ j b x. HoldsOldOrNew j.blocks j.before was.batches b (inside j.part x) in
     let twin = behind_border s.contents.journal border in
-    let wrote : record { front = work.front; images = work.images.items } ≡ batch = λ i. record { front = c.in_ok-work.ensures.front i; images = c.in_ok-work.ensures.images i } in
-    let log_run = subst (λ (j : journal.State). LeavesOnly g.D.Log.Disk.moment g.D.Log.Disk.may_have_left_since work.log done.log (Logged j batch)) c.in_ok-work.ensures.journal
-    (subst (λ (b : Batch). LeavesOnly g.D.Log.Disk.moment g.D.Log.Disk.may_have_left_since work.log done.log (Logged work.journal b)) wrote (c.journal-done.ensures.any_moment (g.met.D.HalvedDisk.log_keeps keeps) was.batches log.0)) in
+    let log_run = subst (λ (j : journal.State). LeavesOnly g.D.Log.Disk.moment g.D.Log.Disk.may_have_left_since work.loan.log done.log (Logged j batch)) c.in_ok-work.ensures.journal
+    (subst (λ (b : Batch). LeavesOnly g.D.Log.Disk.moment g.D.Log.Disk.may_have_left_since work.loan.log done.log (Logged work.loan.journal b)) c.in_ok-work.ensures.wrote (c.journal-done.ensures.any_moment (g.met.D.HalvedDisk.log_keeps keeps) was.batches log.0)) in
     let home_run = home_at_rest {moment = d.moment} {left_since = d.may_have_left_since} lent.disk (subst (λ (t : State). IsHomeKept t v was.batches (d.gives lent.disk) (d.may_leave_now lent.disk)) same (log.1 some.0 some.1).home) (g.met.D.Disk.only_now keeps lent.disk) in
     let past = subst (λ (o : Option (Lent g.row.D-Past.Denot g.row.D-Log.Denot)). IfSome o (λ l. IsPast (g.D.HalvedDisk.until l.past) (d.moment s.disk) (g.D.HalvedDisk.left_before l.past) (d.may_have_left_since s.disk))) some.1 (c.in_ok-work.ensures.past keeps) in
     let run = rejoined border (HoldsHome s.contents v was.batches) (Logged twin batch) back.disk

@@ -1,4 +1,4 @@
-use Rattle.std.proofs.Common.{◌≤◌, ◌<◌, ℕ, List, ◌∙◌, ap, length, refl, subst, sym}
+use Rattle.std.proofs.Common.{◌≡◌, ◌≤◌, ◌<◌, ℕ, List, ◌∙◌, ap, refl, subst, sym}
 use Rattle.std.specs.Prelude.{All, Some}
 use Rattle.std.proofs.Math.Nat.{le_refl}
 use Rattle.std.proofs.lemmas.Bool.{both_ways}
@@ -10,7 +10,8 @@ use Rattle.gate_journal.specs.Journal.{IsSettled}
 use Rattle.gate_journal.specs.Image.{Image}
 use Rattle.home_blocks.specs.Places.{disk_size_of}
 use Rattle.local_store.specs.About.{about_of}
-use Rattle.local_store.specs.Away.{IsKeptOver, IsLent, batch_in, twin_of}
+use Rattle.loans.specs.Sides.{last_of}
+use Rattle.local_store.specs.Away.{IsKeptOver, IsLent, batch_in, lending_in, twin_of}
 use Rattle.local_store.specs.Kept.{stored_means}
 use Rattle.local_store.specs.Meaning.{Means}
 use Rattle.local_store.specs.Store.{geometry_of, meaning_in}
@@ -33,6 +34,7 @@ invariant_of-self-2 g c =
     let s = c.args.self.now in
     let border = c.border-border.ensures in
     let staged = c.in_ok-staged.ensures in
+    let log = c.in-Ok.lent.0 in
     record {
       here = λ here. absurd (both_ways _ here refl);
       away = for_some _ (λ l. IsLent s.contents (g.D.Disk.size c.lend_log.new.self) (g.D.HalvedDisk.cut_at l.past) (g.D.HalvedDisk.whole l.past) l.len (batch_in l)) (record {
@@ -44,6 +46,12 @@ invariant_of-self-2 g c =
         limit = c.requires.limit;
         fits = subst (journal.Fits s.contents.journal) (sym staged) c.in_ok-size.ensures.fits;
       });
+      remembers = for_some _ (λ l. last_of c.lend.new.self.loans ≡ Some (lending_in s.contents l)) (c.lend.ensures.lent
+          ∙ ap (λ (j : journal.State). Some (record { log = log; journal = j; batch = record { front = c.args.front; images = c.in_ok-images.images.items } })) c.twin.ensures.twin
+          ∙ ap (λ (i : List Image). Some (record { log = log; journal = twin_of s.contents; batch = record { front = c.args.front; images = i } })) (c.in_ok-images.ensures ∙ sym staged)
+          ∙ ap (λ (x : g.row.D-Log.Denot). Some (record { log = x; journal = twin_of s.contents; batch = record { front = c.args.front; images = c.in_ok-staged.staged.items } })) (sym c.of.ensures));
+      paired = λ side none. absurd (cc);
+      kept = λ here. absurd (both_ways _ here refl);
     }
 
 pub returns-clause-log : goal.returns-clause-log
@@ -57,7 +65,7 @@ returns-clause-log g c = λ keeps v was.
     let halves = subst (λ (n : ℕ). AreHalves n (g.D.Disk.gives s.disk) (g.D.Disk.gives home) (g.D.Log.Disk.gives log) (g.D.Disk.may_leave_now s.disk) (g.D.Disk.may_leave_now home) (g.D.Log.Disk.may_leave_now log)) border (c.in-Ok.ensures.halves keeps) in
     let long = g.met.D.Disk.gives_size keeps home ∙ size in
     let before = c.in-Ok.ensures.past keeps in (
-      subst (λ (j : journal.State). IsSettled j was.batches (g.D.Log.Disk.gives log) (g.D.Log.Disk.may_leave_now log)) (sym c.twin-journal.ensures.twin) (lent_settled s.contents v halves long (g.met.D.Disk.leaves_gives keeps home) was),
+      subst (λ (j : journal.State). IsSettled j was.batches (g.D.Log.Disk.gives log) (g.D.Log.Disk.may_leave_now log)) (sym c.twin.ensures.twin) (lent_settled s.contents v halves long (g.met.D.Disk.leaves_gives keeps home) was),
       for_some _ (λ l. IsKeptOver s.contents v was.batches (g.D.Disk.gives home) (g.D.Disk.may_leave_now home) (g.D.HalvedDisk.left_before l.past (g.D.HalvedDisk.until l.past)))
           (lent_over s.contents v halves long (λ a left. g.met.D.Disk.leaves_size keeps home a left ∙ size) (g.met.D.Log.Disk.leaves_gives (g.met.D.HalvedDisk.log_keeps keeps) log)
           (g.D.HalvedDisk.left_before past (g.D.HalvedDisk.until past))

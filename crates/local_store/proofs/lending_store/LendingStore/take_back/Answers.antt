@@ -5,6 +5,8 @@ use Rattle.gate_journal.specs.Receipt.{Receipt}
 use Rattle.gate_journal.specs.declared.refusal.Refusal.{Refusal as JournalRefusal}
 use Rattle.local_store.specs.About.{about_of}
 use Rattle.local_store.specs.Away.{lent_batch}
+use Rattle.loans.specs.Sides.{Side}
+use Rattle.local_store.specs.Lending.{Lending}
 use Rattle.local_store.specs.Store.{State}
 use Rattle.local_store.specs.declared.lent.Lent.{Lent}
 use Rattle.local_store.proofs.Away.{for_it_of}
@@ -20,4 +22,4 @@ returns-clause-time g c = λ keeps.
     let s = c.args.self.now in
     for_it_of s.lent c.in-Some.lent (λ l x. Rejoins (g.D.HalvedDisk.until l.past) (g.D.Disk.moment c.return_log.new.self) (g.D.HalvedDisk.left_before l.past) (g.D.Disk.may_have_left_since c.return_log.new.self) (g.D.HalvedDisk.cut_at l.past)
     (g.D.Disk.may_have_left_since s.disk 0) (g.D.Log.Disk.may_have_left_since x 0)) c.taken-log.result.0 c.args.done.log
-    (sym c.in-Some.ensures.value) (ap (λ (p : g.row.D-Log.Denot × Result Receipt JournalRefusal). p.0) c.taken-log.ensures.parts) (c.return_log.ensures.time keeps)
+    (sym c.in-Some.ensures.value) (ap (λ (p : g.row.D-Log.Denot × Result Receipt JournalRefusal × Side (Lending g.row.D-Log.Denot)). p.0) c.taken-log.ensures.parts) (c.return_log.ensures.time keeps)

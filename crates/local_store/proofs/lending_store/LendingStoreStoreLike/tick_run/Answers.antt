@@ -1,6 +1,6 @@
 use Rattle.std.proofs.Common.{refl}
 use Rattle.gate_journal.specs.Journal.{IsSettled}
-use Rattle.local_store.proofs.Away.{has_border, keeps_still, leaves_still, still_away, still_here}
+use Rattle.local_store.proofs.Away.{has_border, keeps_still, leaves_still, still_away, still_here, still_lent}
 use Rattle.local_store.proofs.lending_store.LendingStoreStoreLike.tick_run.Goals as goal
 
 pub tick_run-requires-clause-on_disk : goal.tick_run-requires-clause-on_disk
@@ -11,6 +11,9 @@ invariant_of-self-clause-here g c = let s = c.args.self.now in still_here _ s.co
 
 pub invariant_of-self-clause-away : goal.invariant_of-self-clause-away
 invariant_of-self-clause-away g c = let s = c.args.self.now in λ l is. still_away s.contents c.tick_run.new.self (g.D.Disk.size s.disk) (g.D.Disk.size c.tick_run.new.disk) c.tick_run.ensures.same c.tick_run.ensures.size (s.away l is)
+
+pub invariant_of-self-clause-remembers : goal.invariant_of-self-clause-remembers
+invariant_of-self-clause-remembers g c = let s = c.args.self.now in λ l is. still_lent s.lender.loans l s.contents c.tick_run.new.self c.tick_run.ensures.same (s.remembers l is)
 
 pub returns-clause-kept : goal.returns-clause-kept
 returns-clause-kept g c = λ keeps v kept.

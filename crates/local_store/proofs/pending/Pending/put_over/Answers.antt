@@ -1,4 +1,4 @@
-use Rattle.std.proofs.Common.{◌≡◌, ◌+◌, ◌-◌, ◌*◌, ◌∙◌, List, ℕ, ap, arith, drop, length, length-drop, length-take, subst, sym}
+use Rattle.std.proofs.Common.{◌≡◌, ◌+◌, ◌-◌, ◌*◌, ◌∙◌, List, ℕ, arith, length, subst, sym}
 use Rattle.local_store.proofs.Runs.{IsOverTo, over_home, over_pending, part_is_patched}
 use Rattle.local_store.proofs.pending.Pending.put_over.Goals as goal
 use Rattle.local_store.proofs.pending.Pending.put_over.Goals.{in-Some, in_default}

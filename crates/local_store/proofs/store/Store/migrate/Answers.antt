@@ -1,4 +1,4 @@
-use Rattle.std.proofs.Common.{◌≡◌, ◌≤◌, ℕ, Result, Ok, Err, arith}
+use Rattle.std.proofs.Common.{◌≤◌, ℕ, Result, Ok, Err, arith}
 use Rattle.std.specs.Prelude.{IfErr}
 use Rattle.local_store.specs.Refusal.{IsCaused, IsNotOfDevice}
 use Rattle.local_store.specs.declared.refusal.Refusal.{Refusal}
