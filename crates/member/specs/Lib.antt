@@ -1,0 +1,3 @@
+pub mod Boxes
+pub mod Due
+pub mod Posted
