@@ -1,0 +1,6 @@
+-- A write that was interrupted changed nothing.
+use Rattle.std.specs.Io.KnownBytes.{Keeps}
+use Rattle.sockets.proofs.transfer.write_some.Given as goal
+
+abbrev pub invariant-loop : goal.invariant-loop
+invariant-loop g l = Keeps (g.W.Write.contents l.initial.stream) (g.W.Write.contents l.stream)
