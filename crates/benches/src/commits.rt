@@ -443,24 +443,40 @@ impl Beside {
         D::Log: Send,
         D::Past: Send,
     {
-        let (done, read) = join(
-            handle,
-            || {
-                let done = work.journal(buffer);
-                is_done.store(true, Ordering::SeqCst);
-                done
-            },
-            || self.read_until(rt, store, is_done),
-        );
+        let (done, read) = self.read_beside(rt, handle, store, work, buffer, is_done);
         finish(store, done)?;
         read
     }
 
-    /// Reads blocks in turn until the commit is done.
-    fn read_until<D: HalvedDisk + Drop, J: Rings>(
+    /// Does a job on a thread of its own, and reads meanwhile.
+    fn read_beside<T: Threads, S: StoreLike, W: Job + Drop + Send>(
         &mut self,
         rt: &HostRuntime,
-        store: &mut LendingStore<D, J>,
+        handle: &T,
+        store: &mut S,
+        work: W,
+        buffer: &mut Vec<u8>,
+        is_done: &AtomicBool,
+    ) -> (W::Done, Result<(), Refusal>)
+    where
+        W::Done: Drop + Send,
+    {
+        join(
+            handle,
+            || {
+                let done = work.run(buffer);
+                is_done.store(true, Ordering::SeqCst);
+                done
+            },
+            || self.read_until(rt, store, is_done),
+        )
+    }
+
+    /// Reads blocks in turn until the commit is done.
+    fn read_until<S: StoreLike>(
+        &mut self,
+        rt: &HostRuntime,
+        store: &mut S,
         is_done: &AtomicBool,
     ) -> Result<(), Refusal> {
         for read in 0..MOST_READS {
@@ -473,11 +489,7 @@ impl Beside {
     }
 
     /// Reads the next block.
-    fn read_next<D: HalvedDisk + Drop, J: Rings>(
-        &mut self,
-        rt: &HostRuntime,
-        store: &mut LendingStore<D, J>,
-    ) -> Result<(), Refusal> {
+    fn read_next<S: StoreLike>(&mut self, rt: &HostRuntime, store: &mut S) -> Result<(), Refusal> {
         let block = self.answered % store.geometry().blocks;
         let mut bytes = [0; IMAGE_SIZE];
         let start = now(rt);
@@ -507,6 +519,22 @@ impl Beside {
         println!(rt;
             "{commits} commits of {blocks} blocks beside reads in {committing} us each, the longest read in {longest} us\nreads beside commits: {answered} answered, {micros}.{rest:03} us each, {a_second} a second"
         )
+    }
+}
+
+/// What a thread of its own is given to do.
+trait Job {
+    type Done;
+
+    /// Does it, with a buffer to use.
+    fn run(self, buffer: &mut Vec<u8>) -> Self::Done;
+}
+
+impl<L: Disk + Drop, J: Rings> Job for CommitWork<L, J> {
+    type Done = Journaled<L, J>;
+
+    fn run(self, buffer: &mut Vec<u8>) -> Journaled<L, J> {
+        self.journal(buffer)
     }
 }
 

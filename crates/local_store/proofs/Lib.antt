@@ -16,3 +16,4 @@ mod Pends
 mod Slices
 mod Sound
 mod Stored
+pub mod Sends

@@ -4,4 +4,4 @@ use Rattle.store_tests.proofs.lending_tests.a_lent_commit_is_finished.Given as g
 
 -- the ring that the two sides share
 abbrev pub ghosts-finished : goal.ghosts-finished
-ghosts-finished a = record { ring = λ number. Some (ring_of a.sides.lender.end) }
+ghosts-finished g a = record { ring = λ number. Some (ring_of a.sides.lender.end) }

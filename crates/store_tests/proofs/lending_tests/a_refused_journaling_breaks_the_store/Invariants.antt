@@ -4,4 +4,4 @@ use Rattle.store_tests.proofs.lending_tests.a_refused_journaling_breaks_the_stor
 
 -- the ring that the two sides share
 abbrev pub ghosts-refused : goal.ghosts-refused
-ghosts-refused a = record { ring = λ number. Some (ring_of a.sides.lender.end) }
+ghosts-refused g a = record { ring = λ number. Some (ring_of a.sides.lender.end) }
