@@ -36,6 +36,13 @@ lent_send P L past log = search (sendable, crosses, image.the_send) depth 20
 module _ (D J L P : RattleType) (h : HalvedDisk.Ghosts D.Denot L.Denot P.Denot) (d : Disk.Ghosts D.Denot) (l : Disk.Ghosts L.Denot) (g : Rings.Ghosts J.Denot)
     (disk : IsSend D) (brand : IsSend J) (log : IsSend L) (past : IsSend P) where
   pub store_send : IsSend (LendingStore.the_row D J L P h d l g)
-  store_send = declared_send (LendingStore.the_type D J L P h d l g)
-      (search (sendable, disk) depth 20, (search (sendable, contents.the_send) depth 20, (search (sendable, plan.the_send) depth 20,
-        (search (sendable, lent_send) depth 20, (search (sendable, lender_send) depth 20, (search (sendable, borrower_send) depth 20, tt))))))
+  store_send = declared_send (LendingStore.the_type D J L P h d l g) (
+    search (sendable, disk) depth 20,
+    (
+      search (sendable, contents.the_send) depth 20,
+      (
+        search (sendable, plan.the_send) depth 20,
+        (search (sendable, lent_send) depth 20, (search (sendable, lender_send) depth 20, (search (sendable, borrower_send) depth 20, tt))),
+      ),
+    ),
+  )

@@ -64,9 +64,28 @@ found_send : IsSend Found.the_row
 found_send = search (sendable, crosses) depth 20
 
 node_inside : (S : RattleType) (g : StoreLike.Ghosts S.Denot) → IsSend S → IsSend (in_node.the_row S g)
-node_inside S g s = declared_send (in_node.the_type S g)
-    (search (sendable, crosses), (name_send, (search (sendable, place.the_send), (search sendable, (search (sendable, cause.the_send) depth 20, (search sendable, (search sendable,
-      (search (sendable, s), (table_send, (search sendable, (search sendable, (desk_send, (search (sendable, found_send) depth 20, (search (sendable, commit.the_send) depth 20, tt))))))))))))))
+node_inside S g s = declared_send (in_node.the_type S g) (
+  search (sendable, crosses),
+  (
+    name_send,
+    (
+      search (sendable, place.the_send),
+      (
+        search sendable,
+        (
+          search (sendable, cause.the_send) depth 20,
+          (
+            search sendable,
+            (
+              search sendable,
+              (search (sendable, s), (table_send, (search sendable, (search sendable, (desk_send, (search (sendable, found_send) depth 20, (search (sendable, commit.the_send) depth 20, tt))))))),
+            ),
+          ),
+        ),
+      ),
+    ),
+  ),
+)
 
 pub node_send : (S : RattleType) (g : StoreLike.Ghosts S.Denot) → IsSend S → IsSend (Node.the_row S g)
 node_send S g s = search (sendable, node_inside S g s)
