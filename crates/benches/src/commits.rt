@@ -362,7 +362,8 @@ where
     D::Past: Send,
     requires { IsOf (J.ring sides.number) sides.lender.end }
 {
-    let mut store: LendingStore<D, J> = LendingStore::of(store, sides);
+    let (lender, borrower) = sides.named();
+    let mut store: LendingStore<D, J> = LendingStore::of(store, lender, borrower);
     let mut beside = Beside::new(if timed { 0 } else { FEW_READS });
     let committed = beside.commit_all(rt, handle, &mut store, load);
     drop(store);

@@ -1,12 +1,17 @@
 -- What holds of a member holds as its log is lent out, and as it is back.
-use Rattle.std.proofs.Common.{◌≡◌, ℕ, List, refl, subst, sym}
-use Rattle.std.specs.Prelude.{IsSome, None, Option, Some, true}
+use Rattle.std.proofs.Common.{◌≡◌, ◌∙◌, ℕ, Err, List, Ok, ap, refl, subst, sym}
+use Rattle.std.specs.Prelude.{IsSome, MatchResult, None, Option, Result, Some, true}
 use Rattle.gate_journal.specs.Batch.{Batch}
+use Rattle.gate_journal.specs.Receipt.{Receipt}
+use Rattle.gate_journal.specs.declared.refusal.Refusal.{Refusal as JournalRefusal}
 use Rattle.local_store.specs.About.{About}
 use Rattle.local_store.specs.Away.{batch_of, lent_batch}
+use Rattle.local_store.specs.Refusal.{by_journal}
 use Rattle.local_store.specs.declared.lent.Lent.{Lent}
+use Rattle.local_store.specs.declared.refusal.Refusal.{Refusal}
 use Rattle.chain_steps.specs.Node.{Commit, NodeState}
 use Rattle.chain_steps.specs.declared.cause.Cause.{Cause}
+use Rattle.chain_core.specs.Commits.{cause_of}
 use Rattle.chain_core.specs.Node.{IsLentFor, IsSound, Keeping}
 
 -- the commit under way is the one that was lent
@@ -90,3 +95,17 @@ module _ (about : About) (keeping : Keeping) (node : NodeState) (is : IsSound ab
     resting = is.resting;
     journals = λ premise volume keep c here. let none = is.resting cause stopped in absurd (cc);
   })
+
+-- where the store hands a receipt on, the journal gave it
+pub told_done : (outcome : Result Receipt JournalRefusal) (result : Result Receipt Refusal) (receipt : Receipt) (given : Option Receipt) (X : JournalRefusal → Type 0)
+    → MatchResult outcome (λ r. result ≡ Ok r) (λ refusal. result ≡ Err (by_journal refusal)) → result ≡ Ok receipt → given ≡ Some receipt
+    → MatchResult outcome (λ r. given ≡ Some r) (λ refusal. (given ≡ None) × X refusal)
+told_done (Ok r) result receipt given X told is gives = cc
+told_done (Err refusal) result receipt given X told is gives = absurd (cc)
+
+-- where it is refused, the journal was refused so
+pub told_refused : (outcome : Result Receipt JournalRefusal) (result : Result Receipt Refusal) (refusal : Refusal) (given : Option Receipt) (stopped : Option Cause)
+    → MatchResult outcome (λ r. result ≡ Ok r) (λ r. result ≡ Err (by_journal r)) → result ≡ Err refusal → given ≡ None → stopped ≡ Some (cause_of refusal)
+    → MatchResult outcome (λ r. given ≡ Some r) (λ r. (given ≡ None) × (stopped ≡ Some (cause_of (by_journal r))))
+told_refused (Ok r) result refusal given stopped told is none by = absurd (cc)
+told_refused (Err r) result refusal given stopped told is none by = let same : refusal ≡ by_journal r = cc in (none, by ∙ ap (λ e. Some (cause_of e)) same)

@@ -1,11 +1,13 @@
 //! A commit that is lent out: it is journaled on its own, while the member goes on.
-ghost use Rattle.std.specs.Prelude.{◌≡◌, ◌≢◌, ◌⊎◌, ◌↔◌, ℕ, ◌<◌, List, Any, None, Some, IfErr, IfNone, IfOk, IfSome, IsNone, IsSome, OnErr, OnOk, max, true};
+ghost use Rattle.std.specs.Prelude.{◌≡◌, ◌≢◌, ◌⊎◌, ◌↔◌, ℕ, ◌<◌, List, Any, None, Some, IfErr, IfNone, IfOk, IfSome, IsNone, IsSome, MatchResult, OnErr, OnOk, max, true};
 ghost use Rattle.disk_model.specs.declared.error.DiskError.{DiskError};
 ghost use Rattle.disk_model.specs.declared.error.DiskError.TheVariants.{Memory, ReadFault};
 ghost use Rattle.local_store.specs.About.{one_commit_more};
 ghost use Rattle.local_store.specs.Away.{IsLogOf};
+ghost use Rattle.local_store.specs.Refusal.{by_journal};
 ghost use Rattle.chain_steps.specs.Steps.{silent, volume_at};
 ghost use Rattle.chain_steps.specs.declared.cause.Cause.TheVariants as causes;
+ghost use Rattle.chain_core.specs.Commits.{cause_of};
 ghost use Rattle.chain_core.specs.Node.{IsStep};
 ghost use Rattle.chain_core.specs.Lending.{CanLend, HasFinished, HasHalted, HasLent, HasTakenBack};
 
@@ -23,6 +25,7 @@ impl<D: HalvedDisk + Drop, J: Rings> Node<LendingStore<D, J>> {
     pub fn lend_commit(&mut self) -> (Out, Option<CommitWork<D::Log, J>>)
         ensures idle { ¬ CanLend ⟦<LendingStore<D, J> as StoreLike>⟧.about self.old → IsStep self.old self.new result.0 (silent self.old.state) × (result.1 ≡ None) }
         ensures lent { IfSome result.1 (λ work. HasLent ⟦<LendingStore<D, J> as StoreLike>⟧.about self.old self.new result.0 work.loan) }
+        ensures side { IfSome result.1 (λ work. work.side ≡ self.new.store.lender) }
         ensures memory { CanLend ⟦<LendingStore<D, J> as StoreLike>⟧.about self.old → IfNone result.1 (HasHalted ⟦<LendingStore<D, J> as StoreLike>⟧.about (⟦<LendingStore<D, J> as StoreLike>⟧.about self.old.store) causes.Memory self.old self.new result.0) }
         ensures kept { D.keeps_model → (volume : List ℕ) → ⟦<LendingStore<D, J> as StoreLike>⟧.keeps self.old.store volume → ⟦<LendingStore<D, J> as StoreLike>⟧.keeps self.new.store volume }
         ensures still { (b : ℕ) → ⟦<LendingStore<D, J> as StoreLike>⟧.is_pending self.new.store b ↔ ⟦<LendingStore<D, J> as StoreLike>⟧.is_pending self.old.store b }
@@ -67,6 +70,8 @@ impl<D: HalvedDisk + Drop, J: Rings> Node<LendingStore<D, J>> {
             HasHalted ⟦<LendingStore<D, J> as StoreLike>⟧.about (record (⟦<LendingStore<D, J> as StoreLike>⟧.about self.old.store) { lent = None }) causes.Memory self.old self.new r.0
             ⊎ ((error : DiskError) × (error ≢ ReadFault) × (error ≢ Memory → D.Log.failures done.loan.log < D.failures self.new.store.disk)
             × HasHalted ⟦<LendingStore<D, J> as StoreLike>⟧.about (record (⟦<LendingStore<D, J> as StoreLike>⟧.about self.old.store) { broken = true; lent = None }) (causes.Device error) self.old self.new r.0))) }
+        // Of a member that runs, what came of the commit is what the journal told of it.
+        ensures answer { self.old.state.stopped ≡ None → IfOk result (λ r. MatchResult done.outcome (λ receipt. r.1 ≡ Some receipt) (λ refusal. (r.1 ≡ None) × (self.new.state.stopped ≡ Some (cause_of (by_journal refusal))))) }
         ensures kept { D.keeps_model → (volume : List ℕ) → ⟦<LendingStore<D, J> as StoreLike>⟧.keeps self.old.store volume
             → IfOk result (λ r. IfSome r.1 (λ receipt. ⟦<LendingStore<D, J> as StoreLike>⟧.keeps self.new.store (volume_at volume self.old.state receipt.front))) }
         ensures failures { OnOk result (D.failures self.new.store.disk ≡ max (D.failures self.old.store.disk) (D.Log.failures done.log)) }

@@ -1,7 +1,7 @@
 ghost use Rattle.std.specs.Prelude.{◌≡◌};
 
 use chain_steps::Sent;
-use flush_barrier::Reply;
+use flush_barrier::{Reply, SessionId};
 use std::marker::Model;
 
 /// A reply that a member gave. Only a member's calls make it.
@@ -24,6 +24,13 @@ impl Served {
         ensures { result ≡ reply }
     {
         Served { reply }
+    }
+
+    /// The session that it is for.
+    pub fn session(&self) -> SessionId
+        ensures { result ≡ self.now.session }
+    {
+        self.reply.session()
     }
 
     /// The reply, for its session.

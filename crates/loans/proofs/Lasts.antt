@@ -1,7 +1,7 @@
 -- The last of a list.
-use Rattle.std.proofs.Common.{◌≡◌, ◌≤◌, List, [], ◌∷◌, ◌++◌, length, ap, arith, refl, subst, sym}
+use Rattle.std.proofs.Common.{◌≡◌, ◌≤◌, ℕ, List, [], ◌∷◌, ◌++◌, length, ap, arith, refl, subst, sym}
 use Rattle.std.specs.Prelude.{Some}
-use Rattle.loans.specs.Sides.{last_of}
+use Rattle.loans.specs.Sides.{Side, last_of}
 
 none_ends : {A : Type 0} (ys : List A) (y : A) → ¬ ([] ≡ ys ++ y ∷ [])
 none_ends [] y same = absurd (cc)
@@ -24,3 +24,15 @@ pub ends_with : {A : Type 0} (xs : List A) (x : A) → last_of (xs ++ x ∷ []) 
 ends_with [] x = refl
 ends_with (y ∷ []) x = refl
 ends_with (y ∷ z ∷ zs) x = ends_with (z ∷ zs) x
+
+-- what is left over is it alone, where that is one
+pub just_one : {A : Type 0} (known rest : List A) (x : A) → known ≡ x ∷ rest → length known ≤ 1 → known ≡ x ∷ []
+just_one known [] x is one = is
+just_one known (z ∷ rest) x is one = absurd (omega (arith, ap length is, one))
+
+abbrev side_of : {T : Type 0} → ℕ → List T → Side T
+side_of n xs = record { number = n; loans = xs }
+
+-- two sides of one number that remember the same
+pub one_side : {T : Type 0} (n m : ℕ) (xs ys : List T) → n ≡ m → xs ≡ ys → side_of n xs ≡ side_of m ys
+one_side n m xs ys numbers loans = cc

@@ -1,4 +1,4 @@
-ghost use Rattle.std.specs.Prelude.{◌≡◌, ◌↔◌, IsTrue, Some};
+ghost use Rattle.std.specs.Prelude.{◌≡◌, ◌++◌, ◌∷◌, ◌↔◌, [], IsTrue, Some};
 ghost use Rattle.loans.specs.Sides.{last_of};
 
 use crate::borrower::Borrower;
@@ -37,12 +37,13 @@ impl<T, J: Rings> Lender<T, J> {
         self.number
     }
 
-    /// Both sides remember this loan as the last one.
+    /// Both sides remember this loan as the last one, and all else alike too, whatever lay between them before.
     pub fn lend(&mut self, borrower: &mut Borrower<T, J>, loan: &T)
         requires { borrower.old.number ≡ self.old.number }
         ensures numbers { (self.new.number ≡ self.old.number) × (borrower.new.number ≡ borrower.old.number) }
-        ensures lent { last_of self.new.loans ≡ Some loan.now }
-        ensures borrowed { last_of borrower.new.loans ≡ Some loan.now }
+        ensures lent { self.new.loans ≡ self.old.loans ++ loan.now ∷ [] }
+        ensures last { last_of self.new.loans ≡ Some loan.now }
+        ensures agree { borrower.new ≡ self.new }
     {
         self.end.slots_beside(&mut borrower.end);
         if borrower.end.slots_beside(&mut self.end) > 0 {

@@ -50,7 +50,7 @@ impl<D: HalvedDisk + Drop, J: Rings> LendingStore<D, J> {
         ensures size { IfOk result (λ work. border_of (geometry_of self.old.contents) + D.Log.size work.loan.log ≡ D.size self.old.disk) }
         ensures lent { OnOk result (IsSome self.new.lent) }
         ensures was { IfOk result (λ work. IfSome self.new.lent (λ l. work.loan ≡ lending_in self.new.contents l)) }
-        ensures paired { IfOk result (λ work. work.side.number ≡ self.new.lender.number) }
+        ensures side { IfOk result (λ work. work.side ≡ self.new.lender) }
         ensures batch { OnOk result (batch_of self.new.lent ≡ record { front = front; images = images.now }) }
         ensures same { self.new.contents ≡ self.old.contents }
 

@@ -17,7 +17,7 @@ use disk_model::HalvedDisk;
 use flusher::{Plan, Run};
 use gate_journal::{Image, Slot, Synced};
 use home_blocks::Version;
-use loans::{Borrower, Lender, Rings, Sides};
+use loans::{Borrower, Lender, Rings};
 use std::alloc::Global;
 use volume::Geometry;
 
@@ -41,15 +41,18 @@ pub struct LendingStore<D: HalvedDisk, J: Rings> {
 }
 
 impl<D: HalvedDisk + Drop, J: Rings> LendingStore<D, J> {
-    ghost use Rattle.loans.specs.Rings.{IsOf};
-
-    /// The store, which can lend out its log from then on, by the sides that the program named.
-    pub fn of(store: Store<D>, sides: Sides<Loan<D::Log>>) -> LendingStore<D, J>
-        requires { IsOf (J.ring sides.number) sides.lender.end }
+    /// The store, which can lend out its log from then on, by the two sides of one number.
+    pub fn of(
+        store: Store<D>,
+        lender: Lender<Loan<D::Log>, J>,
+        borrower: Borrower<Loan<D::Log>, J>,
+    ) -> LendingStore<D, J>
+        requires { borrower.number ≡ lender.number }
         ensures disk { result.disk ≡ store.disk }
         ensures contents { result.contents ≡ store.contents }
         ensures plan { result.plan ≡ store.plan }
         ensures here { IsNone result.lent }
+        ensures lender { result.lender ≡ lender }
         ensures about { ⟦<LendingStore<D, J> as StoreLike>⟧.about result ≡ ⟦<Store<D> as StoreLike>⟧.about store }
         ensures kept { D.keeps_model → (volume : List ℕ) → ⟦<Store<D> as StoreLike>⟧.keeps store volume → ⟦<LendingStore<D, J> as StoreLike>⟧.keeps result volume }
     {
@@ -58,7 +61,6 @@ impl<D: HalvedDisk + Drop, J: Rings> LendingStore<D, J> {
             contents,
             plan,
         } = store;
-        let (lender, borrower) = sides.named();
         LendingStore {
             disk,
             contents,
@@ -76,19 +78,29 @@ impl<D: HalvedDisk + Drop, J: Rings> LendingStore<D, J> {
         &self.disk
     }
 
-    /// The disk, as the store leaves it; its home half, while the log is lent.
-    pub fn into_disk(self) -> D
-        ensures { result ≡ self.disk }
+    /// The disk, as the store leaves it, and the two sides of its loans, for another store; while the log is lent, the home half, and the
+    /// borrower's side is out with the log.
+    pub fn into_parts(
+        self,
+    ) -> (
+        D,
+        Lender<Loan<D::Log>, J>,
+        Option<Borrower<Loan<D::Log>, J>>,
+    )
+        ensures disk { result.0 ≡ self.disk }
+        ensures lender { result.1 ≡ self.lender }
+        ensures here { IsNone self.lent → IsSome result.2 }
+        ensures paired { ForSome result.2 (λ side. side.number ≡ self.lender.number) }
     {
         let LendingStore {
             disk,
             contents: _,
             plan: _,
             lent: _,
-            lender: _,
-            borrower: _,
+            lender,
+            borrower,
         } = self;
-        disk
+        (disk, lender, borrower)
     }
 }
 

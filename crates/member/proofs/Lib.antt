@@ -1,2 +1,3 @@
 mod Agreeing
+mod Refused
 pub mod Sends

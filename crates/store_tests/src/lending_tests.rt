@@ -14,7 +14,7 @@ use disk_model::{Cut, DiskError, Event, MemDisk};
 use flusher::Run;
 use gate_journal::{IMAGE_SIZE, Image, Slot};
 use home_blocks::{Version, disk_size};
-use loans::{Rings, Sides};
+use loans::{Borrower, Lender, Rings, Sides};
 use local_store::{CommitWork, Installer, LendingStore, Loan, Refusal, Store, StoreLike};
 use std::alloc::Global;
 use std::marker::Brand;
@@ -53,6 +53,22 @@ fn lending<J: Rings>(
     ensures here { IsNone result.lent }
     ensures blocks { (geometry_of result.contents).blocks ≡ 8 }
 {
+    let (lender, borrower) = sides.named();
+    over(rt, alloc, lender, borrower, fails)
+}
+
+// The same by these sides.
+fn over<J: Rings>(
+    rt: &impl Abort,
+    alloc: Global,
+    lender: Lender<Loan<MemDisk>, J>,
+    borrower: Borrower<Loan<MemDisk>, J>,
+    fails: Option<u64>,
+) -> LendingStore<MemDisk, J>
+    requires { borrower.number ≡ lender.number }
+    ensures here { IsNone result.lent }
+    ensures blocks { (geometry_of result.contents).blocks ≡ 8 }
+{
     let geometry = sizes(rt);
     let slot = Slot::new(0).expect(rt, "a slot");
     let Ok(mut store) = Store::format(alloc, disk(rt, alloc, geometry), slot, 1, geometry) else {
@@ -61,7 +77,7 @@ fn lending<J: Rings>(
     if let Some(call) = fails {
         store.arm(Event::FailAt { call }).expect(rt, "memory");
     }
-    let store: LendingStore<MemDisk, J> = LendingStore::of(store, sides);
+    let store: LendingStore<MemDisk, J> = LendingStore::of(store, lender, borrower);
     assert!(rt; store.geometry().blocks == 8);
     store
 }
@@ -144,7 +160,17 @@ fn finished<J: Rings, R: Abort>(rt: &R, alloc: Global, sides: Sides<Loan<MemDisk
     of_version_two(rt, &store);
     same(rt, store.tick_run(8), Ok(Some(run)));
     same(rt, store.disk().calls(), 28);
-    same(rt, found(rt, alloc, store.into_disk()), (1, 7));
+    let (disk, lender, borrower) = store.into_parts();
+    same(rt, found(rt, alloc, disk), (1, 7));
+
+    // Another store lends by the same sides.
+    let borrower = borrower.expect(rt, "a borrower");
+    let mut other = over(rt, alloc, lender, borrower, None);
+    let work = lend(rt, alloc, &mut other);
+    let mut done = work.journal(&mut Vec::new(alloc));
+    assert!(rt; other.is_log_of(&mut done));
+    let receipt = other.finish_commit(done).expect(rt, "a receipt");
+    same(rt, (receipt.slot().number(), receipt.front()), (0, 1));
 }
 
 #[test]

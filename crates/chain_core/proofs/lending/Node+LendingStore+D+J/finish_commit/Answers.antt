@@ -1,18 +1,19 @@
-use Rattle.std.proofs.Common.{◌≡◌, ◌∙◌, ℕ, List, None, ap, arith, refl, subst, sym}
-use Rattle.std.specs.Prelude.{IsTrue, Option, fold}
+use Rattle.std.proofs.Common.{◌≡◌, ◌∙◌, ℕ, Err, List, None, Ok, Some, ap, arith, refl, subst, sym}
+use Rattle.std.specs.Prelude.{IsTrue, MatchResult, Option, fold}
 use Rattle.gate_journal.specs.Journal.{IsSettled}
 use Rattle.gate_journal.specs.Receipt.{Receipt}
 use Rattle.local_store.specs.About.{About, about_of, one_commit_more}
 use Rattle.local_store.specs.Away.{Keeps, batch_of, lent_batch}
 use Rattle.local_store.specs.KeptAway.{one_either, size_either}
 use Rattle.local_store.specs.Overlay.{with_images}
+use Rattle.local_store.specs.Refusal.{by_journal}
 use Rattle.local_store.specs.declared.lent.Lent.{Lent}
 use Rattle.version_table.specs.Held.{writes_upto}
 use Rattle.volume.specs.Writes.{patched}
 use Rattle.chain_steps.specs.Steps.{volume_at}
 use Rattle.chain_core.proofs.ArmedSteps.{sound_armed}
 use Rattle.chain_core.proofs.SoundCommits.{images_are, sound_ended, way_applied}
-use Rattle.chain_core.proofs.SoundLending.{lent_commit, sound_home}
+use Rattle.chain_core.proofs.SoundLending.{lent_commit, sound_home, told_done, told_refused}
 use Rattle.chain_core.proofs.lending.Node+LendingStore+D+J.finish_commit.Goals as goal
 
 pub invariant_of-self : goal.invariant_of-self
@@ -73,3 +74,17 @@ returns-in-Ok-clause-kept g c = λ premise v.
     subst (λ n. Kept (fold patched v (writes_upto c.self.inside.table n))) (sym front)
     (subst Kept (images_are _ _ _ c.self.invariant _ here v premise keep (size_either s.lent before (λ l j bs. IsSettled j bs (g.D.Log.Disk.gives l.was.value) (g.D.Log.Disk.may_leave_now l.was.value)) s.contents v (g.D.Disk.gives s.disk) (g.D.Disk.may_leave_now s.disk) keep))
     (subst (λ (o : Option (Lent g.row.D-Past.Denot g.row.D-Log.Denot)). Kept (with_images v (batch_of o).images)) c.is_log_of.ensures.away (c.in-Ok.ensures.kept premise v (c.is_log_of.ensures.kept v keep)))))
+
+pub returns-in-Ok-clause-answer : goal.returns-in-Ok-clause-answer
+returns-in-Ok-clause-answer g c = λ still.
+    let runs : c.self.inside.stopped ≡ None = grind (arith, c.if-is_some.false, c.is_some.ensures) in
+    let whole = ap (λ s. s.broken) c.is_log_of.ensures.contents ∙ (c.self.invariant.running runs).whole in
+    let told = subst (λ d. MatchResult d.outcome (λ receipt. c.finish_commit.result ≡ Ok receipt) (λ refusal. c.finish_commit.result ≡ Err (by_journal refusal))) c.is_log_of.ensures.done (c.finish_commit.ensures.answer whole) in
+    told_done _ c.finish_commit.result c.in-Ok.receipt _ _ told c.in-Ok.is refl
+
+pub returns-in-Err-clause-answer : goal.returns-in-Err-clause-answer
+returns-in-Err-clause-answer g c = λ still.
+    let runs : c.self.inside.stopped ≡ None = grind (arith, c.if-is_some.false, c.is_some.ensures) in
+    let whole = ap (λ s. s.broken) c.is_log_of.ensures.contents ∙ (c.self.invariant.running runs).whole in
+    let told = subst (λ d. MatchResult d.outcome (λ receipt. c.finish_commit.result ≡ Ok receipt) (λ refusal. c.finish_commit.result ≡ Err (by_journal refusal))) c.is_log_of.ensures.done (c.finish_commit.ensures.answer whole) in
+    told_refused _ c.finish_commit.result c.in-Err.refusal _ _ told c.in-Err.is refl (ap (λ n. n.state.stopped) c.stop_by.ensures.step.node ∙ ap Some c.cause_of-cause.ensures)

@@ -46,7 +46,7 @@ invariant_of-self-2 g c =
         limit = c.requires.limit;
         fits = subst (journal.Fits s.contents.journal) (sym staged) c.in_ok-size.ensures.fits;
       });
-      remembers = for_some _ (λ l. last_of c.lend.new.self.loans ≡ Some (lending_in s.contents l)) (c.lend.ensures.lent
+      remembers = for_some _ (λ l. last_of c.lend.new.self.loans ≡ Some (lending_in s.contents l)) (c.lend.ensures.last
           ∙ ap (λ (j : journal.State). Some (record { log = log; journal = j; batch = record { front = c.args.front; images = c.in_ok-images.images.items } })) c.twin.ensures.twin
           ∙ ap (λ (i : List Image). Some (record { log = log; journal = twin_of s.contents; batch = record { front = c.args.front; images = i } })) (c.in_ok-images.ensures ∙ sym staged)
           ∙ ap (λ (x : g.row.D-Log.Denot). Some (record { log = x; journal = twin_of s.contents; batch = record { front = c.args.front; images = c.in_ok-staged.staged.items } })) (sym c.of.ensures));

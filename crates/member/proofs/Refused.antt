@@ -1,0 +1,7 @@
+-- What holds anyway holds where a call was refused.
+use Rattle.std.proofs.Common.{Err, Ok}
+use Rattle.std.specs.Prelude.{OnErr, Result}
+
+pub on_err : {T E P : Type 0} (r : Result T E) → P → OnErr r P
+on_err (Ok x) p = tt
+on_err (Err e) p = p
