@@ -1,0 +1,3 @@
+mod Asks
+mod Orders
+pub mod Sends

@@ -1,0 +1,4 @@
+pub mod Carried
+pub mod Gives
+pub mod Refusal
+pub mod Volume

@@ -1,0 +1,51 @@
+ghost use Rattle.std.specs.Prelude.{◌≡◌};
+
+use board::Board;
+use gate_journal::Slot;
+
+/// Some of the eight slots.
+#[derive(Clone, Copy, Debug, PartialEq, Eq, Drop)]
+pub(crate) struct Places {
+    held: [bool; Board::SLOTS],
+}
+
+impl Places {
+    /// None.
+    pub(crate) fn none() -> Places {
+        Places {
+            held: [false; Board::SLOTS],
+        }
+    }
+
+    /// One alone.
+    pub(crate) fn only(slot: Slot) -> Places {
+        let mut places = Places::none();
+        places.add(slot);
+        places
+    }
+
+    /// One more.
+    pub(crate) fn add(&mut self, slot: Slot) {
+        self.held[usize::from(slot.number())] = true;
+    }
+
+    /// Those of others too.
+    pub(crate) fn join(&mut self, others: Places) {
+        for number in 0..Slot::COUNT {
+            if others.held[usize::from(number)] {
+                self.held[usize::from(number)] = true;
+            }
+        }
+    }
+
+    /// Takes out the least.
+    pub(crate) fn take(&mut self) -> Option<Slot> {
+        for number in 0..Slot::COUNT {
+            if self.held[usize::from(number)] {
+                self.held[usize::from(number)] = false;
+                return Slot::new(number);
+            }
+        }
+        None
+    }
+}

@@ -1,0 +1,9 @@
+-- What contracts see of the replies in a mailbox.
+use Rattle.std.specs.Prelude.{List, Option}
+use Rattle.flush_barrier.specs.Reply.{GivenReply}
+use Rattle.flush_barrier.specs.declared.session_id.SessionId.{SessionId}
+
+-- which session holds the box, if any does, and the replies that wait for it, the oldest first
+pub record Held : Type 0 where
+  pub holder : Option SessionId
+  pub replies : List GivenReply
