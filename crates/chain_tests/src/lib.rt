@@ -7,6 +7,8 @@ mod board_tests;
 #[cfg(test)]
 mod chain_core_tests;
 #[cfg(test)]
+mod cluster_tests;
+#[cfg(test)]
 mod comparing;
 #[cfg(test)]
 mod flush_barrier_tests;

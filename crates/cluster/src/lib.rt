@@ -21,5 +21,5 @@ pub use committing::Work;
 pub use exported::Volume;
 pub use passing::Delivered;
 pub use refusal::Refusal;
-pub use running::Clients;
+pub use running::{Crew, start_all};
 pub use seated::Seated;
