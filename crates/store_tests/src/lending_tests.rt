@@ -162,14 +162,24 @@ fn finished<J: Rings, R: Abort>(rt: &R, alloc: Global, sides: Sides<Loan<MemDisk
     same(rt, store.disk().calls(), 28);
     let (disk, lender, borrower) = store.into_parts();
     same(rt, found(rt, alloc, disk), (1, 7));
-
-    // Another store lends by the same sides.
     let borrower = borrower.expect(rt, "a borrower");
-    let mut other = over(rt, alloc, lender, borrower, None);
-    let work = lend(rt, alloc, &mut other);
+    lends_again(rt, alloc, lender, borrower);
+}
+
+// Another store lends by the same sides.
+fn lends_again<J: Rings, R: Abort>(
+    rt: &R,
+    alloc: Global,
+    lender: Lender<Loan<MemDisk>, J>,
+    borrower: Borrower<Loan<MemDisk>, J>,
+)
+    requires { borrower.number ≡ lender.number }
+{
+    let mut store = over(rt, alloc, lender, borrower, None);
+    let work = lend(rt, alloc, &mut store);
     let mut done = work.journal(&mut Vec::new(alloc));
-    assert!(rt; other.is_log_of(&mut done));
-    let receipt = other.finish_commit(done).expect(rt, "a receipt");
+    assert!(rt; store.is_log_of(&mut done));
+    let receipt = store.finish_commit(done).expect(rt, "a receipt");
     same(rt, (receipt.slot().number(), receipt.front()), (0, 1));
 }
 
