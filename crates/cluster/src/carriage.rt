@@ -84,8 +84,9 @@ impl Carriage {
         None
     }
 
-    /// Whether a message waits that its member takes later.
+    /// Whether a message waits that its member takes later, or may wait, since a thread carries just now.
     pub(crate) fn is_stuck<R: Wait>(&self, rt: &R) -> bool {
-        self.state.lock(rt).stuck
+        let state = self.state.lock(rt);
+        state.stuck || state.ways.is_none()
     }
 }
