@@ -1,3 +1,5 @@
 mod Asks
+mod Copies
+mod Lent
 mod Orders
 pub mod Sends

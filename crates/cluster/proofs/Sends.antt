@@ -14,6 +14,7 @@ use Rattle.local_store.proofs.Sends.{store_send}
 use Rattle.member.specs.declared.agreed.Agreed as Agreed
 use Rattle.member.specs.contracts.member.Member as Member
 use Rattle.member.proofs.Sends.{member_send}
+use Rattle.member_copy.proofs.member_copy.MemberCopy.TheSendSync as member_copy
 use Rattle.mail.proofs.mail_room.MailRoom.TheSendSync as mail_room
 use Rattle.mail.proofs.bell.Bell.TheSendSync as bell
 use Rattle.cluster.proofs.carriage.Carriage.TheSendSync as carriage
@@ -27,7 +28,7 @@ module _ (D J L P : RattleType) (h : HalvedDisk.Ghosts D.Denot L.Denot P.Denot) 
   member_in = member_send (LendingStore.the_row D J L P h d l g) J (store_like.ghosts D J L P h store_like.no_dict d store_like.no_dict l store_like.no_dict g store_like.no_dict store_like.no_dict store_like.no_dict store_like.no_dict) a g (store_send D J L P h d l g disk brand log past) brand
 
   seated_send : IsSend (Seated.the_row D J L P h d l a g)
-  seated_send = declared_send (Seated.the_type D J L P h d l a g) (search (sendable, member_in) depth 20, (search (sendable, crosses, seat.the_send) depth 20, tt))
+  seated_send = declared_send (Seated.the_type D J L P h d l a g) (search (sendable, member_in) depth 20, (search (sendable, crosses, seat.the_send) depth 20, (search (sendable, crosses, member_copy.the_send) depth 20, tt)))
 
   slot_sync : IsSync (Slot.the_row D J L P h d l a g)
   slot_sync = declared_sync (Slot.the_type D J L P h d l a g)
@@ -38,6 +39,6 @@ module _ (D J L P : RattleType) (h : HalvedDisk.Ghosts D.Denot L.Denot P.Denot) 
     search (sendable, crosses) depth 20,
     (
       search (sendable, crosses, board.the_sync) depth 20,
-      (search (sendable, crosses) depth 20, (search (sendable, crosses, slot_sync) depth 20, (search (sendable, crosses, mail_room.the_sync) depth 20, tt))),
+      (search (sendable, crosses) depth 20, (search (sendable, crosses, slot_sync) depth 20, (search (sendable, crosses, mail_room.the_sync) depth 20, (search (sendable, crosses, bell.the_sync) depth 20, tt)))),
     ),
   )

@@ -1,4 +1,6 @@
 pub mod Carried
+pub mod Commits
+pub mod Copies
 pub mod Gives
+pub mod Pace
 pub mod Refusal
-pub mod Volume

@@ -1,14 +1,15 @@
 //! Requests of clients.
-ghost use Rattle.std.specs.Prelude.{◌≡◌, ◌<◌, ◌≤◌, ◌+◌, ◌++◌, List, ℕ, None, Some, length, IfErr, IfOk, OnErr, OnOk};
+ghost use Rattle.std.specs.Prelude.{◌≡◌, ◌<◌, ◌≤◌, ◌+◌, ◌++◌, None, Some, length, IfErr, OnOk};
 ghost use Rattle.gate_journal.specs.declared.batch.TheConstants.{MAX_NUMBER};
 ghost use Rattle.version_table.specs.Held.{IsClean};
 ghost use Rattle.volume.specs.Writes.{Fits};
-ghost use Rattle.chain_steps.specs.Steps.{flush, read_asked, read_at_once, submit};
+ghost use Rattle.chain_steps.specs.Steps.{flush, read_asked, read_at_once, stop, submit};
 ghost use Rattle.chain_steps.specs.Waiting.{board_of};
-ghost use Rattle.chain_core.specs.Node.{IsStep, turned_away};
-ghost use Rattle.chain_core.specs.Reads.{IsStepOver};
+ghost use Rattle.chain_steps.specs.declared.cause.Cause.TheVariants as causes;
+ghost use Rattle.chain_core.specs.Node.{IsRefusedBy, IsStep, turned_away};
+ghost use Rattle.chain_core.specs.Reads.{HasOnlyRead, IsReadRefused, IsStepOver};
 ghost use Rattle.member.specs.Posted.{HasAnswered, HasPosted};
-ghost use Rattle.cluster.specs.Gives.{AsksFront, HasGiven};
+ghost use Rattle.cluster.specs.Gives.{AsksFront, GoesOn, HasAsked, HasGiven, HasLookedIfAsked, HasRefused};
 
 use crate::seated::Seated;
 use board::Board;
@@ -16,6 +17,7 @@ use chain_core::{Refusal, Refused};
 use chain_steps::WriteToken;
 use disk_model::HalvedDisk;
 use flush_barrier::{OwedFlush, OwedRead};
+use local_store::{LendingStore, StoreLike};
 use mail::Given;
 use member::Agreed;
 use std::alloc::Global;
@@ -37,6 +39,8 @@ impl<D: HalvedDisk + Drop, J: Agreed> Seated<D, J> {
         ensures submitted { OnOk result (HasGiven (λ old new replies. HasPosted (λ old new out. IsStep old new out (submit token write old.state)) old new replies) self.old.member self.new.member given.old.replies given.new.replies) }
         ensures away { OnOk result (turned_away self.old.member.node.state ≡ None) }
         ensures back { IfErr result (λ r. r.0 ≡ token) }
+        ensures refused { IfErr result (λ r. HasRefused (λ replies. IsRefusedBy (MAX_NUMBER < self.old.member.node.state.ticket) (stop causes.LastTicket self.old.member.node.state) self.old.member.node self.new.member.node replies r.1) given.old.replies given.new.replies) }
+        ensures unsent { IfErr result (λ r. self.new.member.outbox ≡ self.old.member.outbox) }
         ensures seat { self.new.seat ≡ self.old.seat }
         ensures room { given.old.room ≤ given.new.room + 1 }
     {
@@ -65,8 +69,17 @@ impl<D: HalvedDisk + Drop, J: Agreed> Seated<D, J> {
         requires within { offset + length ≤ J.size }
         requires of_board { J.board ≡ Some token.board }
         ensures away { OnOk result (turned_away self.old.member.node.state ≡ None) }
+        ensures at_once { IsClean self.old.member.node.state.table offset length self.old.member.node.state.known
+            → OnOk result (HasAsked (HasAnswered (λ old new out. IsStepOver ⟦<LendingStore<D, J> as StoreLike>⟧.keeps_model (⟦<LendingStore<D, J> as StoreLike>⟧.keeps old.store) new.state out (λ volume. read_at_once volume offset length token old.state)))
+            (HasLookedIfAsked (HasAnswered (GoesOn ⟦<LendingStore<D, J> as StoreLike>⟧.keeps_model ⟦<LendingStore<D, J> as StoreLike>⟧.about ⟦<LendingStore<D, J> as StoreLike>⟧.failures ⟦<LendingStore<D, J> as StoreLike>⟧.keeps ⟦<LendingStore<D, J> as StoreLike>⟧.moment ⟦<LendingStore<D, J> as StoreLike>⟧.may_have_left_since)) board.now self.old.seat.number) self.old.member self.new.member given.old.replies given.new.replies) }
+        ensures waits { ¬ IsClean self.old.member.node.state.table offset length self.old.member.node.state.known
+            → OnOk result (HasAsked (HasAnswered (λ old new out. IsStep old new out (read_asked offset length token old.state)))
+            (HasLookedIfAsked (HasAnswered (GoesOn ⟦<LendingStore<D, J> as StoreLike>⟧.keeps_model ⟦<LendingStore<D, J> as StoreLike>⟧.about ⟦<LendingStore<D, J> as StoreLike>⟧.failures ⟦<LendingStore<D, J> as StoreLike>⟧.keeps ⟦<LendingStore<D, J> as StoreLike>⟧.moment ⟦<LendingStore<D, J> as StoreLike>⟧.may_have_left_since)) board.now self.old.seat.number) self.old.member self.new.member given.old.replies given.new.replies) }
         ensures answered { OnOk result (AsksFront self.new.member → ⊥) }
         ensures back { IfErr result (λ r. r.0 ≡ token) }
+        ensures refused { IfErr result (λ r. HasRefused (λ replies. IsReadRefused ⟦<LendingStore<D, J> as StoreLike>⟧.about ⟦<LendingStore<D, J> as StoreLike>⟧.failures (HasOnlyRead ⟦<LendingStore<D, J> as StoreLike>⟧.keeps_model ⟦<LendingStore<D, J> as StoreLike>⟧.about ⟦<LendingStore<D, J> as StoreLike>⟧.failures ⟦<LendingStore<D, J> as StoreLike>⟧.keeps ⟦<LendingStore<D, J> as StoreLike>⟧.moment ⟦<LendingStore<D, J> as StoreLike>⟧.may_have_left_since self.old.member.node.store self.new.member.node.store)
+            (IsClean self.old.member.node.state.table offset length self.old.member.node.state.known) self.old.member.node self.new.member.node replies r.1) given.old.replies given.new.replies) }
+        ensures unsent { IfErr result (λ r. self.new.member.outbox ≡ self.old.member.outbox) }
         ensures room { given.old.room ≤ given.new.room + 2 }
     {
         match self.member.read(token, offset, length) {
@@ -89,8 +102,12 @@ impl<D: HalvedDisk + Drop, J: Agreed> Seated<D, J> {
         requires board { J.board ≡ Some board.now }
         requires of_board { J.board ≡ Some token.board }
         ensures away { OnOk result (turned_away self.old.member.node.state ≡ None) }
+        ensures taken { OnOk result (HasAsked (HasAnswered (λ old new out. IsStep old new out (flush token old.state)))
+            (HasLookedIfAsked (HasAnswered (GoesOn ⟦<LendingStore<D, J> as StoreLike>⟧.keeps_model ⟦<LendingStore<D, J> as StoreLike>⟧.about ⟦<LendingStore<D, J> as StoreLike>⟧.failures ⟦<LendingStore<D, J> as StoreLike>⟧.keeps ⟦<LendingStore<D, J> as StoreLike>⟧.moment ⟦<LendingStore<D, J> as StoreLike>⟧.may_have_left_since)) board.now self.old.seat.number) self.old.member self.new.member given.old.replies given.new.replies) }
         ensures bound { OnOk result (AsksFront self.new.member → ⊥) }
         ensures back { IfErr result (λ r. r.0 ≡ token) }
+        ensures refused { IfErr result (λ r. HasRefused (λ replies. IsRefusedBy ⊥ (flush token self.old.member.node.state) self.old.member.node self.new.member.node replies r.1) given.old.replies given.new.replies) }
+        ensures unsent { IfErr result (λ r. self.new.member.outbox ≡ self.old.member.outbox) }
         ensures room { given.old.room ≤ given.new.room + 2 }
     {
         match self.member.flush(token) {
@@ -105,6 +122,7 @@ impl<D: HalvedDisk + Drop, J: Agreed> Seated<D, J> {
     pub(crate) fn answer_front(&mut self, alloc: Global, given: &mut Given, board: &Board)
         requires room { 1 ≤ given.old.room }
         requires board { J.board ≡ Some board.now }
+        ensures looked { HasLookedIfAsked (HasAnswered (GoesOn ⟦<LendingStore<D, J> as StoreLike>⟧.keeps_model ⟦<LendingStore<D, J> as StoreLike>⟧.about ⟦<LendingStore<D, J> as StoreLike>⟧.failures ⟦<LendingStore<D, J> as StoreLike>⟧.keeps ⟦<LendingStore<D, J> as StoreLike>⟧.moment ⟦<LendingStore<D, J> as StoreLike>⟧.may_have_left_since)) board.now self.old.seat.number self.old.member self.new.member given.old.replies given.new.replies }
         ensures answered { AsksFront self.new.member → ⊥ }
         ensures room { given.old.room ≤ given.new.room + 1 }
     {

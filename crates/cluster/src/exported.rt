@@ -1,48 +1,19 @@
-//! What the threads of sessions ask of.
+//! The chain, as the threads of sessions ask of it.
 ghost use Rattle.std.specs.Prelude.{◌≡◌, IfSome, Some};
 ghost use Rattle.nbd_session.specs.Demand.{IsAskedInside, asked_by, owed_by};
-ghost use Rattle.cluster.specs.Volume.{IsRefusalOf};
+ghost use Rattle.export.specs.Volume.{IsRefusalOf};
 
 use crate::cluster::Cluster;
 use board::Board;
 use chain_steps::WriteToken;
 use disk_model::HalvedDisk;
+use export::Volume;
 use flush_barrier::Reply;
 use gate_journal::Slot as Place;
 use mail::MailRoom;
 use member::Agreed;
 use nbd_session::Demand;
 use std::sync::Wait;
-
-/// The volume of a chain, as the threads of sessions see it.
-pub trait Volume {
-    ghost use Rattle.std.specs.Prelude.{ℕ, Option};
-    ghost use Rattle.board.specs.Seats.{BoardId};
-
-    /// The board of its chain.
-    ghost board: { Option BoardId };
-
-    /// How many bytes it has.
-    ghost size: { ℕ };
-
-    /// Takes a demand at a member. Its reply comes by the session's mailbox; `Some` is the reply that refuses it at once: with 12 where
-    /// there is no memory for it, else with 5.
-    fn send<R: Wait>(&self, rt: &R, place: Place, demand: Demand) -> Option<Reply>
-        requires of_board { board ≡ Some (owed_by demand).board }
-        requires inside { IsAskedInside size (asked_by demand) }
-        ensures { IfSome result (IsRefusalOf (owed_by demand)) };
-
-    /// The mail of its sessions.
-    fn mail(&self) -> &MailRoom;
-
-    /// Its board.
-    fn board(&self) -> &Board
-        ensures { board ≡ Some result.now };
-
-    /// How many bytes it has.
-    fn size(&self) -> u64
-        ensures { result ≡ size };
-}
 
 impl<D: HalvedDisk + Drop, J: Agreed> Volume for Cluster<D, J> {
     ghost board = { J.board };

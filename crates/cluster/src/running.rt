@@ -25,6 +25,7 @@ impl<D: HalvedDisk + Drop, J: Agreed> Crew for Cluster<D, J> {
         for slot in &self.slots {
             slot.bell.close(rt);
         }
+        self.changes.close(rt);
     }
 }
 

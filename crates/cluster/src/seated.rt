@@ -1,14 +1,16 @@
 //! A member at its slot.
-ghost use Rattle.std.specs.Prelude.{◌≡◌, ◌≢◌, [], Some};
+ghost use Rattle.std.specs.Prelude.{◌≡◌, ◌≢◌, [], None, Some};
 ghost use Rattle.mail.specs.Given.{flat};
 ghost use Rattle.member.specs.Posted.{box_of, with_box};
 ghost use Rattle.cluster.specs.Carried.{order_of};
+ghost use Rattle.cluster.specs.Copies.{IsOfSize};
 
 use crate::carried::Carried;
 use board::Seat;
 use disk_model::HalvedDisk;
 use local_store::LendingStore;
 use member::{Agreed, Member, Route};
+use member_copy::MemberCopy;
 use std::alloc::Global;
 use std::collections::VecDeque;
 
@@ -17,7 +19,10 @@ use std::collections::VecDeque;
 pub struct Seated<D: HalvedDisk + Drop, J: Agreed> {
     pub(crate) member: Member<LendingStore<D, J>, J>,
     pub(crate) seat: Seat,
+    // what a joiner was given of its volume, while one is
+    pub(crate) copy: Option<MemberCopy>,
     ghost of_board: { J.board ≡ Some seat.board },
+    ghost of_size: { IsOfSize J.size copy },
 }
 
 impl<D: HalvedDisk + Drop, J: Agreed> Seated<D, J> {
@@ -26,8 +31,13 @@ impl<D: HalvedDisk + Drop, J: Agreed> Seated<D, J> {
         requires { J.board ≡ Some seat.board }
         ensures member { result.member ≡ member }
         ensures seat { result.seat ≡ seat }
+        ensures copy { result.copy ≡ None }
     {
-        Seated { member, seat }
+        Seated {
+            member,
+            seat,
+            copy: None,
+        }
     }
 
     /// Its member, to be asked.
@@ -35,6 +45,13 @@ impl<D: HalvedDisk + Drop, J: Agreed> Seated<D, J> {
         ensures { result.now ≡ self.now.member }
     {
         &self.member
+    }
+
+    /// Its store, to be asked.
+    pub(crate) fn store(&self) -> &LendingStore<D, J>
+        ensures { result.now ≡ self.now.member.node.store }
+    {
+        self.member.node().store()
     }
 
     /// Takes up what the member has sent by a way, where nothing from before is left to be carried.
@@ -56,7 +73,11 @@ impl<D: HalvedDisk + Drop, J: Agreed> Seated<D, J> {
         ensures store { result.0 ≡ self.member.node.store }
         ensures seat { result.1 ≡ self.seat }
     {
-        let Seated { member, seat } = self;
+        let Seated {
+            member,
+            seat,
+            copy: _,
+        } = self;
         (member.abandon(), seat)
     }
 }

@@ -41,6 +41,11 @@ impl Bell {
         self.rung.notify_all();
     }
 
+    /// Whether it is closed.
+    pub fn is_closed<R: Wait>(&self, rt: &R) -> bool {
+        self.rings.lock(rt).closed
+    }
+
     /// What a thread remembers before it looks.
     pub fn count<R: Wait>(&self, rt: &R) -> u64 {
         self.rings.lock(rt).count

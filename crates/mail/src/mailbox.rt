@@ -22,7 +22,7 @@ impl Mailbox {
         }
     }
 
-    /// Rings as a reply comes; it is closed where one is lost.
+    /// Rings as a reply comes that no thread attends to, or is lost.
     pub fn bell(&self) -> &Bell {
         &self.bell
     }
@@ -32,14 +32,18 @@ impl Mailbox {
         self.letters.lock(rt).hold(alloc, holder);
     }
 
-    /// Puts a reply in, if it is for the holder, and rings. Where there is no memory for it, the reply is lost: the bell is closed, and
-    /// the session is to be ended.
+    /// Puts a reply in, if it is for the holder, and rings, unless a thread of the holder's attends. Where there is no memory for it, the
+    /// reply is lost: `has_all` is false from then on, and the session is to be ended.
     pub fn put<R: Wait>(&self, rt: &R, served: Served) {
         let put = self.letters.lock(rt).put(served);
-        match put {
-            Ok(()) => self.bell.ring(rt),
-            Err(_) => self.bell.close(rt),
+        if put.unwrap_or(true) {
+            self.bell.ring(rt);
         }
+    }
+
+    /// A thread of the session's attends from now on: it wants no bell, and takes what comes by `take_or_leave`.
+    pub fn attend<R: Wait>(&self, rt: &R, session: SessionId) {
+        self.letters.lock(rt).attend(session);
     }
 
     /// Takes out all that waits for the session, the oldest first; it doesn't wait for more.
@@ -47,5 +51,17 @@ impl Mailbox {
         ensures { All (λ reply. reply.session ≡ session) result.items }
     {
         self.letters.lock(rt).take(alloc, session)
+    }
+
+    /// The same for the thread that attends. Where nothing waits, it attends no longer: the bell rings for what comes from then on.
+    pub fn take_or_leave<R: Wait>(&self, rt: &R, alloc: Global, session: SessionId) -> Vec<Served>
+        ensures { All (λ reply. reply.session ≡ session) result.items }
+    {
+        self.letters.lock(rt).take_or_leave(alloc, session)
+    }
+
+    /// Whether the session holds the box, and no reply to it was lost.
+    pub fn has_all<R: Wait>(&self, rt: &R, session: SessionId) -> bool {
+        self.letters.lock(rt).has_all(session)
     }
 }

@@ -1,5 +1,5 @@
 //! Commits, and what the store does beside them.
-ghost use Rattle.std.specs.Prelude.{◌≡◌, ◌≢◌, ◌⊎◌, ◌↔◌, ◌<◌, ℕ, List, None, Some, true, IfErr, IfNone, IfOk, IfSome, IsErrOf, OnErr, OnOk};
+ghost use Rattle.std.specs.Prelude.{◌≡◌, ◌≢◌, ◌⊎◌, ◌↔◌, ◌<◌, ℕ, List, None, Some, true, IfErr, IfNone, IfOk, IfSome, IsErrOf, IsOk, OnErr, OnOk};
 ghost use Rattle.disk_model.specs.Disk.{LeavesOnly};
 ghost use Rattle.disk_model.specs.Error.{MayTell};
 ghost use Rattle.disk_model.specs.declared.error.DiskError.TheVariants.{ReadFault, WriteFault};
@@ -85,7 +85,7 @@ impl<S: StoreLike + Drop, J: Agreed> Member<S, J> {
     /// 154 `Stopped` once stopped; else 121 `Full` exactly where no number is left for another superblock: these change
     /// nothing. Where the disk refuses, the member stops.
     pub fn checkpoint(&mut self) -> Result<Option<Vec<Served>>, Refusal>
-        ensures lent { (S.about self.old.node.store).lent ≢ None → IfOk result (λ done. done ≡ None) × OnOk result (self.new ≡ self.old) }
+        ensures lent { (S.about self.old.node.store).lent ≢ None → IsOk result × IfOk result (λ done. done ≡ None) × (self.new ≡ self.old) }
         ensures home { (S.about self.old.node.store).lent ≡ None → IfOk result (λ done. IfNone done ⊥) }
         ensures worked { IfOk result (λ done. IfSome done (λ replies. HasAnswered (λ old new out. HasWorked S.about (one_checkpoint_more (S.about old.store)) old new out
             ⊎ HasStoppedBy S.about S.failures (λ error. error ≢ ReadFault) old new out) self.old self.new replies.items)) }

@@ -1,5 +1,5 @@
 //! What a manager has it do.
-ghost use Rattle.std.specs.Prelude.{◌≡◌, ◌⊎◌, ◌<◌, List, ℕ, None, IfErr, IfOk, OnOk};
+ghost use Rattle.std.specs.Prelude.{◌≡◌, ◌⊎◌, ◌<◌, List, ℕ, None, IfErr, IfOk, OnOk, length};
 ghost use Rattle.disk_model.specs.Disk.{LeavesOnly};
 ghost use Rattle.local_store.specs.About.{meaning_with};
 ghost use Rattle.local_store.specs.Meaning.{Means};
@@ -68,6 +68,7 @@ impl<S: StoreLike + Drop, J: Agreed> Member<S, J> {
         requires runs { self.old.node.state.stopped ≡ None }
         requires block { block < (S.about self.old.node.store).geometry.blocks }
         ensures read { S.keeps_model → (volume : List ℕ) → S.keeps self.old.node.store volume → IfOk result (λ bytes. bytes ≡ held_block volume self.old.node.state block) }
+        ensures whole { IfOk result (λ bytes. length bytes ≡ 4096) }
         ensures state { OnOk result (self.new.node.state ≡ self.old.node.state) }
         ensures only_read { OnOk result (HasOnlyRead S.keeps_model S.about S.failures S.keeps S.moment S.may_have_left_since self.old.node.store self.new.node.store) }
         ensures stops { IfErr result (λ replies. HasAnswered (λ old new out. (HasOnlyRead S.keeps_model S.about S.failures S.keeps S.moment S.may_have_left_since old.store new.store

@@ -1,4 +1,5 @@
 ghost use Rattle.std.specs.Prelude.{◌≡◌, [], map};
+ghost use Rattle.chain_core.specs.Node.{IsSound};
 ghost use Rattle.member.specs.Posted.{IsAgreed, box_of, none_sent, with_box};
 
 use crate::agreed::Agreed;
@@ -47,6 +48,13 @@ impl<S: StoreLike + Drop, J: Agreed> Member<S, J> {
         ensures agreed { IsAgreed S.about J.board J.size self.now.node }
     {
         &self.node
+    }
+
+    /// Does nothing: its clause is what holds of every member.
+    pub fn sound(&self)
+        ensures { IsSound (S.about self.now.node.store) (record { premise = S.keeps_model; keeps = S.keeps self.now.node.store }) self.now.node.state }
+    {
+        self.node.sound();
     }
 
     /// Takes out what it has sent by a way, the oldest first. The list is empty before.

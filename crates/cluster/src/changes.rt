@@ -1,0 +1,92 @@
+//! What the chain's manager asks of its members.
+use crate::cluster::Cluster;
+use crate::seated::Seated;
+use chain_steps::Cause;
+use configurations::Record;
+use disk_model::HalvedDisk;
+use gate_journal::Slot as Place;
+use local_store::StoreLike;
+use mail::{Bell, Given};
+use member::Agreed;
+use std::mem;
+use std::sync::Wait;
+
+impl<D: HalvedDisk + Drop, J: Agreed> Cluster<D, J> {
+    /// Rings as a member is seen to have stopped, and is closed with the crew.
+    pub fn changes(&self) -> &Bell {
+        &self.changes
+    }
+
+    /// Why the member there has stopped, if one sits there, and it has.
+    pub fn cause<R: Wait>(&self, rt: &R, place: Place) -> Option<Cause> {
+        match &*self.at(place).seated.lock(rt) {
+            Some(seated) => seated.member().node().stopped(),
+            None => None,
+        }
+    }
+
+    /// Tells the member there its chain's next record, and carries what it sends then, and what waits elsewhere for one that was told. False
+    /// where no member sits there, or it doesn't take the record.
+    pub fn tell<R: Wait>(&self, rt: &R, place: Place, chain: Record) -> bool {
+        let mut given = Given::new(self.alloc);
+        let told = self.tell_under(rt, place, &mut given, chain);
+        self.mail.post(rt, given);
+        self.carry(rt, place);
+        self.carry_stuck(rt);
+        told
+    }
+
+    fn tell_under<R: Wait>(&self, rt: &R, place: Place, given: &mut Given, chain: Record) -> bool {
+        if !given.make_room(3) {
+            return false;
+        }
+        let slot = self.at(place);
+        let Some(seated) = &mut *slot.seated.lock(rt) else {
+            return false;
+        };
+        let told = seated.told(given, chain).is_ok();
+        seated.raise(given, &self.board);
+        self.settle(rt, slot, seated, given);
+        told
+    }
+
+    /// A slot is counted no longer: floors may have risen.
+    pub fn let_floors_rise<R: Wait>(&self, rt: &R) {
+        self.tell_floors(rt);
+    }
+
+    /// Stops the member there, if one sits there.
+    pub fn stop<R: Wait>(&self, rt: &R, place: Place) {
+        let mut given = Given::new(self.alloc);
+        self.stop_under(rt, place, &mut given);
+        self.mail.post(rt, given);
+    }
+
+    fn stop_under<R: Wait>(&self, rt: &R, place: Place, given: &mut Given) {
+        if !given.make_room(1) {
+            return;
+        }
+        if let Some(seated) = &mut *self.at(place).seated.lock(rt) {
+            seated.stop(given);
+        }
+    }
+
+    /// Seats a member, for the one that sat there.
+    pub fn put_in<R: Wait>(
+        &self,
+        rt: &R,
+        place: Place,
+        seated: Seated<D, J>,
+    ) -> Option<Seated<D, J>> {
+        mem::replace(&mut *self.at(place).seated.lock(rt), Some(seated))
+    }
+
+    /// Takes the member there out, if it has stopped and its log isn't on its way.
+    pub fn take_out<R: Wait>(&self, rt: &R, place: Place) -> Option<Seated<D, J>> {
+        let mut there = self.at(place).seated.lock(rt);
+        match &*there {
+            Some(seated) if seated.has_stopped() && !seated.store().is_lent() => there.take(),
+            _ => None,
+        }
+    }
+}

@@ -1,0 +1,136 @@
+//! How messages go.
+use crate::carried::Carried;
+use crate::cluster::Cluster;
+use crate::passing::Delivered;
+use crate::places::Places;
+use disk_model::HalvedDisk;
+use gate_journal::Slot as Place;
+use mail::Given;
+use member::{Agreed, Route};
+use std::sync::Wait;
+
+impl<D: HalvedDisk + Drop, J: Agreed> Cluster<D, J> {
+    /// Carries what the member at this slot has sent, and what the members that this reaches send by it.
+    pub(crate) fn carry<R: Wait>(&self, rt: &R, from: Place) {
+        let mut due = Places::only(from);
+        for _ in rt.forever() {
+            let Some(next) = due.take() else {
+                break;
+            };
+            let reached = self.carry_from(rt, next);
+            due.join(reached);
+        }
+    }
+
+    /// Carries on what waits at any slot for a member that takes it later.
+    pub(crate) fn carry_stuck<R: Wait>(&self, rt: &R) {
+        for number in 0..Place::COUNT {
+            if let Some(from) = Place::new(number)
+                && self.at(from).carriage.is_stuck(rt)
+            {
+                self.carry(rt, from);
+            }
+        }
+    }
+
+    /// Carries what the member at this slot has sent: whom it reached.
+    fn carry_from<R: Wait>(&self, rt: &R, from: Place) -> Places {
+        let slot = self.at(from);
+        let mut reached = Places::none();
+        let Some(mut ways) = slot.carriage.enter(rt) else {
+            return reached;
+        };
+        for _ in rt.forever() {
+            for route in [Route::On, Route::Back, Route::ToHead] {
+                self.carry_way(rt, from, route, ways.by(route), &mut reached);
+            }
+            match slot.carriage.leave(rt, ways) {
+                Some(again) => ways = again,
+                None => break,
+            }
+        }
+        reached
+    }
+
+    /// Carries what the member has sent by a way, until nothing is left, or a member takes a message later.
+    fn carry_way<R: Wait>(
+        &self,
+        rt: &R,
+        from: Place,
+        route: Route,
+        carried: &mut Carried,
+        reached: &mut Places,
+    ) {
+        for _ in rt.forever() {
+            self.fetch(rt, from, route, carried);
+            if carried.is_empty() {
+                break;
+            }
+            self.carry_by(rt, from, carried, reached);
+            if !carried.is_empty() {
+                break;
+            }
+        }
+    }
+
+    /// Takes up what the member has sent by a way, where nothing from before is left.
+    fn fetch<R: Wait>(&self, rt: &R, from: Place, route: Route, carried: &mut Carried) {
+        if let Some(seated) = &mut *self.at(from).seated.lock(rt) {
+            seated.fetch(self.alloc, route, carried);
+        }
+    }
+
+    /// Delivers what is carried, in order, until a member takes a message later.
+    fn carry_by<R: Wait>(&self, rt: &R, from: Place, carried: &mut Carried, reached: &mut Places) {
+        for _ in rt.forever() {
+            let Some(to) = carried.next().map(|sent| sent.to) else {
+                break;
+            };
+            reached.add(to);
+            if self.deliver(rt, from, to, carried) {
+                break;
+            }
+        }
+    }
+
+    /// Delivers what is carried to a slot, under one lock, and lets its tail raise the front. Whether a message is left there.
+    fn deliver<R: Wait>(&self, rt: &R, from: Place, to: Place, carried: &mut Carried) -> bool {
+        let mut given = Given::new(self.alloc);
+        let left = self.deliver_under(rt, from, to, carried, &mut given);
+        self.mail.post(rt, given);
+        left
+    }
+
+    fn deliver_under<R: Wait>(
+        &self,
+        rt: &R,
+        from: Place,
+        to: Place,
+        carried: &mut Carried,
+        given: &mut Given,
+    ) -> bool {
+        let slot = self.at(to);
+        let mut guard = slot.seated.lock(rt);
+        let Some(seated) = &mut *guard else {
+            carried.skip(self.alloc, to);
+            return false;
+        };
+        let mut left = false;
+        for _ in rt.forever() {
+            if !given.make_room(3) {
+                return true;
+            }
+            match seated.deliver_next(self.alloc, given, from, to, carried) {
+                Delivered::Taken | Delivered::Lost => {}
+                Delivered::KeptBack => {
+                    left = true;
+                    break;
+                }
+                Delivered::Elsewhere => break,
+            }
+        }
+        seated.raise(given, &self.board);
+        self.settle(rt, slot, seated, given);
+        left
+    }
+}

@@ -1,0 +1,3 @@
+mod Turns
+mod Standing
+mod Writing

@@ -1,0 +1,3 @@
+pub mod Management
+pub mod Orders
+pub mod Recording

@@ -1,0 +1,2 @@
+pub mod MemberCopy
+pub mod Noting
