@@ -35,7 +35,7 @@ const WRITES: u64 = 100;
 const SIZE: u64 = 32_768;
 
 // The slot with this number, below 8.
-fn slot(rt: &impl Abort, number: u8) -> Slot {
+pub(crate) fn slot(rt: &impl Abort, number: u8) -> Slot {
     Slot::new(number).expect(rt, "a slot")
 }
 
@@ -61,13 +61,13 @@ fn sides<L: Disk>(rt: &impl Abort, alloc: Global, number: u8) -> Sides<Loan<L>>
 }
 
 // What a member is made of: a disk, and the sides of its loans.
-struct Parts<D: HalvedDisk> {
+pub(crate) struct Parts<D: HalvedDisk> {
     disk: D,
     sides: Sides<Loan<D::Log>>,
 }
 
 // The last of the seats.
-fn take_seat(rt: &impl Abort, board: &Board, seats: &mut Vec<Seat>) -> Seat
+pub(crate) fn take_seat(rt: &impl Abort, board: &Board, seats: &mut Vec<Seat>) -> Seat
     requires { All (IsNewSeat board.now) seats.old.items }
     ensures rest { All (IsNewSeat board.now) seats.new.items }
     ensures seat { result.board ≡ board.now }
@@ -76,18 +76,19 @@ fn take_seat(rt: &impl Abort, board: &Board, seats: &mut Vec<Seat>) -> Seat
 }
 
 // The sizes of the volume.
-fn sizes(rt: &impl Abort) -> Geometry {
+pub(crate) fn sizes(rt: &impl Abort) -> Geometry {
     Geometry::new(8, 8_214, 4_096).expect(rt, "a geometry")
 }
 
 // The member at a slot, over a disk that is formatted for it.
-fn seated<D: HalvedDisk + Drop, J: Agreed>(
+pub(crate) fn seated<D: HalvedDisk + Drop, J: Agreed>(
     rt: &impl Abort,
     alloc: Global,
     board: &Board,
     seat: Seat,
     number: u8,
     parts: Parts<D>,
+    chain: Record,
 ) -> Seated<D, J>
     requires ring { IsOf (J.ring parts.sides.number) parts.sides.lender.end }
     requires board { J.board ≡ Some board.now }
@@ -103,12 +104,12 @@ fn seated<D: HalvedDisk + Drop, J: Agreed>(
     };
     let (lender, borrower) = sides.named();
     let store: LendingStore<D, J> = LendingStore::of(store, lender, borrower);
-    let node = Node::new(alloc, board, three(rt, alloc), store);
+    let node = Node::new(alloc, board, chain, store);
     Seated::new(Member::new(alloc, node), seat)
 }
 
 // The place of a write: the callers' bytes stand side by side.
-fn place_of(caller: u64, cookie: u64) -> u64
+pub(crate) fn place_of(caller: u64, cookie: u64) -> u64
     requires caller { caller ≤ 7 }
     requires cookie { cookie ≤ 100 }
     ensures { result + 1 ≤ 32768 }
@@ -137,7 +138,7 @@ fn answered<R: Wait>(
 }
 
 // Asks, and waits for the reply.
-fn ask<R: Wait, V: Volume>(
+pub(crate) fn ask<R: Wait, V: Volume>(
     rt: &R,
     alloc: Global,
     volume: &V,
@@ -194,7 +195,7 @@ fn write_all<R: Wait, V: Volume>(rt: &R, alloc: Global, volume: &V, number: u8) 
 }
 
 // What the write under a cookie writes.
-fn byte_of(cookie: u64) -> u8 {
+pub(crate) fn byte_of(cookie: u64) -> u8 {
     (cookie % 251) as u8 + 1
 }
 
@@ -268,7 +269,7 @@ fn play<R: Threads + Wait + Sync, W: Crew + Volume + Sync>(
 }
 
 // A new disk in a file, and the sides of its loans.
-fn new_parts<R: Files<File = File> + AllocGlobal + Abort>(
+pub(crate) fn new_parts<R: Files<File = File> + AllocGlobal + Abort>(
     rt: &R,
     folder: &str,
     number: u8,
@@ -325,9 +326,9 @@ where
         take_seat(rt, &board, &mut seats),
         take_seat(rt, &board, &mut seats),
     );
-    let first = seated(rt, alloc, &board, a, 0, first);
-    let second = seated(rt, alloc, &board, b, 1, second);
-    let third = seated(rt, alloc, &board, c, 2, third);
+    let first = seated(rt, alloc, &board, a, 0, first, three(rt, alloc));
+    let second = seated(rt, alloc, &board, b, 1, second, three(rt, alloc));
+    let third = seated(rt, alloc, &board, c, 2, third, three(rt, alloc));
     let mail = MailRoom::new(alloc, 4).expect(rt, "memory");
     let mut cluster: Cluster<D, J> = Cluster::new(alloc, board, SIZE, mail).expect(rt, "memory");
     sit(rt, &mut cluster, 0, first);
@@ -342,7 +343,7 @@ where
 }
 
 // Seats a member at an empty slot.
-fn sit<D: HalvedDisk + Drop, J: Agreed>(
+pub(crate) fn sit<D: HalvedDisk + Drop, J: Agreed>(
     rt: &impl Abort,
     cluster: &mut Cluster<D, J>,
     number: u8,
@@ -355,7 +356,7 @@ fn sit<D: HalvedDisk + Drop, J: Agreed>(
 }
 
 // The disk of the member at a slot.
-fn taken<D: HalvedDisk + Drop, J: Agreed>(
+pub(crate) fn taken<D: HalvedDisk + Drop, J: Agreed>(
     rt: &impl Abort,
     cluster: &mut Cluster<D, J>,
     number: u8,

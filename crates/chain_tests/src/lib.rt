@@ -21,6 +21,10 @@ mod nbd_session_tests;
 #[cfg(test)]
 mod server_tests;
 #[cfg(test)]
+mod serving_tests;
+#[cfg(test)]
+mod sessions_tests;
+#[cfg(test)]
 mod tail_query_tests;
 #[cfg(test)]
 mod version_table_tests;

@@ -4,6 +4,7 @@ ghost use Rattle.nbd_session.specs.Demand.{IsAskedInside, asked_by, owed_by};
 ghost use Rattle.export.specs.Volume.{IsRefusalOf};
 
 use crate::cluster::Cluster;
+use crate::places::Places;
 use board::Board;
 use chain_steps::WriteToken;
 use disk_model::HalvedDisk;
@@ -38,6 +39,10 @@ impl<D: HalvedDisk + Drop, J: Agreed> Volume for Cluster<D, J> {
         }
     }
 
+    fn member<R: Wait>(&self, rt: &R, n: u64) -> Place {
+        self.nth_member(rt, n)
+    }
+
     fn mail(&self) -> &MailRoom {
         &self.mail
     }
@@ -48,5 +53,40 @@ impl<D: HalvedDisk + Drop, J: Agreed> Volume for Cluster<D, J> {
 
     fn size(&self) -> u64 {
         self.size
+    }
+}
+
+impl<D: HalvedDisk + Drop, J: Agreed> Cluster<D, J> {
+    /// The n-th of the members that run, in the slots' order, modulo their number. Slot 0 where none runs.
+    fn nth_member<R: Wait>(&self, rt: &R, n: u64) -> Place {
+        let mut members = self.running(rt);
+        for _ in 0..n % u64::from(members.len().max(1)) {
+            members.take();
+        }
+        match (members.take(), Place::new(0)) {
+            (Some(place), _) | (None, Some(place)) => place,
+            (None, None) => unreachable!(),
+        }
+    }
+
+    /// The slots whose members run.
+    fn running<R: Wait>(&self, rt: &R) -> Places {
+        let mut running = Places::none();
+        for number in 0..Place::COUNT {
+            if let Some(place) = Place::new(number)
+                && self.runs_at(rt, place)
+            {
+                running.add(place);
+            }
+        }
+        running
+    }
+
+    /// Whether a member sits there that runs.
+    fn runs_at<R: Wait>(&self, rt: &R, place: Place) -> bool {
+        match &*self.at(place).seated.lock(rt) {
+            Some(seated) => !seated.has_stopped(),
+            None => false,
+        }
     }
 }

@@ -86,19 +86,29 @@ impl<D: HalvedDisk + Drop, J: Agreed> Cluster<D, J> {
             let Some(to) = carried.next().map(|sent| sent.to) else {
                 break;
             };
-            reached.add(to);
-            if self.deliver(rt, from, to, carried) {
+            let (taken, left) = self.deliver(rt, from, to, carried);
+            if taken {
+                reached.add(to);
+            }
+            if left {
                 break;
             }
         }
     }
 
-    /// Delivers what is carried to a slot, under one lock, and lets its tail raise the front. Whether a message is left there.
-    fn deliver<R: Wait>(&self, rt: &R, from: Place, to: Place, carried: &mut Carried) -> bool {
+    /// Delivers what is carried to a slot, under one lock, and lets its tail raise the front. Whether a message was taken there, and whether one
+    /// is left.
+    fn deliver<R: Wait>(
+        &self,
+        rt: &R,
+        from: Place,
+        to: Place,
+        carried: &mut Carried,
+    ) -> (bool, bool) {
         let mut given = Given::new(self.alloc);
-        let left = self.deliver_under(rt, from, to, carried, &mut given);
+        let delivered = self.deliver_under(rt, from, to, carried, &mut given);
         self.mail.post(rt, given);
-        left
+        delivered
     }
 
     fn deliver_under<R: Wait>(
@@ -108,20 +118,22 @@ impl<D: HalvedDisk + Drop, J: Agreed> Cluster<D, J> {
         to: Place,
         carried: &mut Carried,
         given: &mut Given,
-    ) -> bool {
+    ) -> (bool, bool) {
         let slot = self.at(to);
         let mut guard = slot.seated.lock(rt);
         let Some(seated) = &mut *guard else {
             carried.skip(self.alloc, to);
-            return false;
+            return (false, false);
         };
-        let mut left = false;
+        let (mut taken, mut left) = (false, false);
         for _ in rt.forever() {
             if !given.make_room(3) {
-                return true;
+                left = true;
+                break;
             }
             match seated.deliver_next(self.alloc, given, from, to, carried) {
-                Delivered::Taken | Delivered::Lost => {}
+                Delivered::Taken => taken = true,
+                Delivered::Lost => {}
                 Delivered::KeptBack => {
                     left = true;
                     break;
@@ -129,8 +141,10 @@ impl<D: HalvedDisk + Drop, J: Agreed> Cluster<D, J> {
                 Delivered::Elsewhere => break,
             }
         }
-        seated.raise(given, &self.board);
-        self.settle(rt, slot, seated, given);
-        left
+        if given.make_room(2) {
+            seated.raise(given, &self.board);
+            self.settle(rt, slot, seated, given);
+        }
+        (taken, left)
     }
 }

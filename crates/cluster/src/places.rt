@@ -38,6 +38,17 @@ impl Places {
         }
     }
 
+    /// How many they are.
+    pub(crate) fn len(&self) -> u8 {
+        let mut len = 0;
+        for number in 0..Slot::COUNT {
+            if self.held[usize::from(number)] {
+                len = u8::saturating_add(len, 1);
+            }
+        }
+        len
+    }
+
     /// Takes out the least.
     pub(crate) fn take(&mut self) -> Option<Slot> {
         for number in 0..Slot::COUNT {

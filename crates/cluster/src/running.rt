@@ -12,6 +12,9 @@ pub trait Crew {
     /// Commits at a slot, until the crew is told to end and nothing is to be committed there.
     fn commit_at<R: Wait>(&self, rt: &R, place: Place);
 
+    /// Stops the member there, if one sits there: it refuses from then on, and the chain goes on without it.
+    fn stop_at<R: Wait>(&self, rt: &R, place: Place);
+
     /// Tells all that nothing more is asked.
     fn close<R: Wait>(&self, rt: &R);
 }
@@ -19,6 +22,11 @@ pub trait Crew {
 impl<D: HalvedDisk + Drop, J: Agreed> Crew for Cluster<D, J> {
     fn commit_at<R: Wait>(&self, rt: &R, place: Place) {
         self.commit_all(rt, place);
+    }
+
+    fn stop_at<R: Wait>(&self, rt: &R, place: Place) {
+        self.stop(rt, place);
+        self.changes.ring(rt);
     }
 
     fn close<R: Wait>(&self, rt: &R) {

@@ -28,6 +28,9 @@ pub trait Volume {
         requires inside { IsAskedInside size (asked_by demand) }
         ensures { IfSome result (IsRefusalOf (owed_by demand)) };
 
+    /// The member at which the n-th session is, counted from 0: those that run now take turns. Any slot, where none runs.
+    fn member<R: Wait>(&self, rt: &R, n: u64) -> Place;
+
     /// The mail of its sessions.
     fn mail(&self) -> &MailRoom;
 

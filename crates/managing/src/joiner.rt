@@ -1,12 +1,17 @@
 //! The disk on its way into the chain.
-ghost use Rattle.std.specs.Prelude.{◌≡◌, ◌*◌};
-ghost use Rattle.rejoin_catchup.specs.Course.{IsWhole, IsWithin};
+ghost use Rattle.std.specs.Prelude.{◌≡◌, ◌*◌, List, ℕ, IfSome, false};
+ghost use Rattle.home_blocks.specs.Superblock.{Superblock};
+ghost use Rattle.local_store.specs.Installer.{finished_meaning};
+ghost use Rattle.local_store.specs.Meaning.{Means};
+ghost use Rattle.rejoin_catchup.specs.Course.{IsWhole, IsWithin, is_end};
+ghost use Rattle.rejoin_catchup.specs.Receiving.{with_piece};
+ghost use Rattle.managing.specs.Joiner.{HasTakenSo, HasVolume, IsReadyAt};
 
 use crate::whole::Whole;
 use disk_model::Disk;
 use gate_journal::{MAX_NUMBER, Slot, Synced};
 use home_blocks::{Version, disk_size};
-use local_store::{Store, StoreLike};
+use local_store::{Store, StoreLike, disks_mean_one};
 use member::Agreed;
 use rejoin_catchup::{Piece, Ready, Receiver};
 use std::alloc::Global;
@@ -52,11 +57,18 @@ impl<D: Disk + Drop, J: Agreed> Joiner<Store<D>, D, J> {
         requires size { J.size ≡ 4096 * blocks }
         requires whole { IsWhole piece }
         requires within { IsWithin piece }
+        ensures given { D.keeps_model → (sb : Superblock) (copy : List ℕ) → HasTakenSo D.gives D.may_leave_now sb copy self → is_end piece ≡ false
+            → IfSome result (HasTakenSo D.gives D.may_leave_now sb (with_piece copy piece)) }
+        ensures ready { D.keeps_model → (sb : Superblock) (copy : List ℕ) → HasTakenSo D.gives D.may_leave_now sb copy self → (front : ℕ) → piece ≡ Piece.End front
+            → IfSome result (IsReadyAt ⟦<Store<D> as StoreLike>⟧.about ⟦<Store<D> as StoreLike>⟧.keeps sb front copy) }
     {
         let Joiner::Receives(mut receiver) = self else {
             return None;
         };
-        match receiver.take(piece).ok()? {
+        let Ok(ready) = receiver.take(piece) else {
+            return None;
+        };
+        match ready {
             None => Some(Joiner::Receives(receiver)),
             Some(Ready { receipt, disk }) => {
                 let whole = opened(alloc, disk, blocks)?;
@@ -73,7 +85,10 @@ fn opened<D: Disk + Drop, J: Agreed>(
     blocks: u32,
 ) -> Option<Whole<Store<D>, J>>
     requires { J.size ≡ 4096 * blocks }
+    ensures kept { D.keeps_model → (sb : Superblock) (front : ℕ) (volume : List ℕ) → Means (finished_meaning sb front volume) (D.gives disk)
+        → IfSome result (HasVolume ⟦<Store<D> as StoreLike>⟧.about ⟦<Store<D> as StoreLike>⟧.keeps sb front volume) }
 {
+    disks_mean_one();
     let Ok(store) = Store::open(alloc, disk) else {
         return None;
     };

@@ -5,6 +5,7 @@
 //! `management` takes no other; a member is seated only once a record has it. When to go on, and where disks come from, is left to the host.
 #![tactic(auto)]
 
+mod beginning;
 mod host;
 mod joiner;
 mod managing;
@@ -13,6 +14,7 @@ mod preparing;
 mod spare;
 mod whole;
 
+pub use beginning::{Beginning, Begun};
 pub use host::{Host, Unrecorded};
 pub use managing::Managing;
 pub use spare::Spare;

@@ -175,7 +175,7 @@ impl<D: HalvedDisk + Drop, J: Agreed, C: Disk + Drop, H: Host<D>> Managing<Store
         let Some(spare) = self.spares[usize::from(slot.number())].take() else {
             return true;
         };
-        let seated = seated(self.alloc, cluster, chain, whole, spare);
+        let seated = seated(self.alloc, cluster, chain, whole, spare, true);
         if let Some(other) = cluster.put_in(rt, slot, seated) {
             let _ = other.end();
         }
@@ -185,13 +185,14 @@ impl<D: HalvedDisk + Drop, J: Agreed, C: Disk + Drop, H: Host<D>> Managing<Store
     }
 }
 
-/// The member of a store that has the volume, at its seat.
-fn seated<D: HalvedDisk + Drop, J: Agreed>(
+/// The member of a store that has the volume, at its seat: one that joins, or the first of all.
+pub(crate) fn seated<D: HalvedDisk + Drop, J: Agreed>(
     alloc: Global,
     cluster: &Cluster<D, J>,
     chain: Record,
     whole: Whole<Store<D>, J>,
     spare: Spare<D, J>,
+    joins: bool,
 ) -> Seated<D, J> {
     let Spare {
         seat,
@@ -199,7 +200,11 @@ fn seated<D: HalvedDisk + Drop, J: Agreed>(
         borrower,
     } = spare;
     let store = LendingStore::of(whole.into_store(), lender, borrower);
-    let node = Node::join(alloc, cluster.board(), chain, store);
+    let node = if joins {
+        Node::join(alloc, cluster.board(), chain, store)
+    } else {
+        Node::new(alloc, cluster.board(), chain, store)
+    };
     Seated::new(Member::new(alloc, node), seat)
 }
 

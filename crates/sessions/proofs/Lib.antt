@@ -1,0 +1,3 @@
+mod Answered
+mod Histories
+pub mod Sends
