@@ -10,6 +10,6 @@ mod refusal;
 mod running;
 mod sides;
 
-pub use play::Play;
+pub use play::{Clients, Play};
 pub use refusal::Refusal;
-pub use running::{Source, run};
+pub use running::{Source, run, serve};

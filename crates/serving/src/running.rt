@@ -6,7 +6,7 @@ ghost use Rattle.configurations.specs.Store.{IsSettledConfig};
 ghost use Rattle.gate_journal.specs.declared.pair.TheConstants.{PAIR_SIZE};
 ghost use Rattle.loans.specs.Rings.{IsOf};
 
-use crate::play::Play;
+use crate::play::{Asks, Clients, Nobody, Play};
 use crate::refusal::Refusal;
 use crate::sides::AllSides;
 use board::{Board, Seat};
@@ -19,6 +19,7 @@ use local_store::{Loan, Store, StoreLike};
 use mail::MailRoom;
 use managing::{Beginning, Begun, Host, Managing};
 use member::Agreed;
+use sessions::serve_all;
 use std::alloc::Global;
 use std::marker::Brand;
 use std::sync::Wait;
@@ -35,7 +36,7 @@ pub struct Source<D: Disk, C: Disk> {
     pub disk: C,
 }
 
-/// Runs the chain for its clients, until these end; then what was answered is committed. The slots that are wanted join it meanwhile. The
+/// Runs the chain for those who ask it, until these end; then what was answered is committed. The slots that are wanted join it meanwhile. The
 /// host comes back. 100 `Memory` where it can't begin.
 pub fn run<R, D, C, H, P>(
     rt: &R,
@@ -44,6 +45,56 @@ pub fn run<R, D, C, H, P>(
     host: H,
     wanted: &[Slot],
     play: &P,
+) -> Result<H, Refusal>
+where
+    R: Threads + Wait + Sync,
+    D: HalvedDisk + Drop + Send,
+    D::Log: Send,
+    D::Past: Send,
+    C: Disk + Drop,
+    H: Host<D> + Drop,
+    P: Play + Sync,
+    requires runs { IsRunning (⟦<Store<D> as StoreLike>⟧.about source.store) (record { premise = D.keeps_model; keeps = ⟦<Store<D> as StoreLike>⟧.keeps source.store }) }
+    requires pair { source.config.pair.part.len ≡ PAIR_SIZE }
+    requires on_disk { source.config.pair.part.start + source.config.pair.part.len ≤ C.size source.disk }
+    requires settled { C.keeps_model → IsSettledConfig source.config (C.gives source.disk) (C.may_leave_now source.disk) }
+{
+    begin(rt, alloc, source, host, wanted, Asks::Play(play))
+}
+
+/// Runs the chain for the clients that come in, until as many as were to come have ended, or the listener refuses one; then what was answered is
+/// committed. The slots that are wanted join it meanwhile. The host comes back. 100 `Memory` where it can't begin.
+pub fn serve<R, D, C, H>(
+    rt: &R,
+    alloc: Global,
+    source: Source<D, C>,
+    host: H,
+    wanted: &[Slot],
+    clients: &Clients,
+) -> Result<H, Refusal>
+where
+    R: Threads + Wait + Sync,
+    D: HalvedDisk + Drop + Send,
+    D::Log: Send,
+    D::Past: Send,
+    C: Disk + Drop,
+    H: Host<D> + Drop,
+    requires runs { IsRunning (⟦<Store<D> as StoreLike>⟧.about source.store) (record { premise = D.keeps_model; keeps = ⟦<Store<D> as StoreLike>⟧.keeps source.store }) }
+    requires pair { source.config.pair.part.len ≡ PAIR_SIZE }
+    requires on_disk { source.config.pair.part.start + source.config.pair.part.len ≤ C.size source.disk }
+    requires settled { C.keeps_model → IsSettledConfig source.config (C.gives source.disk) (C.may_leave_now source.disk) }
+{
+    begin::<_, _, _, _, Nobody>(rt, alloc, source, host, wanted, Asks::Clients(clients))
+}
+
+/// Begins a chain of the source, with a new board, and names it.
+fn begin<'p, R, D, C, H, P>(
+    rt: &R,
+    alloc: Global,
+    source: Source<D, C>,
+    host: H,
+    wanted: &[Slot],
+    asks: Asks<'p, P>,
 ) -> Result<H, Refusal>
 where
     R: Threads + Wait + Sync,
@@ -68,12 +119,12 @@ where
     let sides = AllSides::new(alloc)?;
     let mail = MailRoom::new(alloc, BOXES)?;
     run_named::<_, _, Brand, _, _, _>(
-        rt, alloc, source, board, seats, sides, mail, host, wanted, play,
+        rt, alloc, source, board, seats, sides, mail, host, wanted, asks,
     )
 }
 
 /// The same, with a name for the chain's board, its size, and its rings.
-fn run_named<R, D, J, C, H, P>(
+fn run_named<'p, R, D, J, C, H, P>(
     rt: &R,
     alloc: Global,
     source: Source<D, C>,
@@ -83,7 +134,7 @@ fn run_named<R, D, J, C, H, P>(
     mail: MailRoom,
     host: H,
     wanted: &[Slot],
-    play: &P,
+    asks: Asks<'p, P>,
 ) -> Result<H, Refusal>
 where
     R: Threads + Wait + Sync,
@@ -137,7 +188,7 @@ where
     for slot in wanted {
         managing.want(*slot);
     }
-    let started = in_threads(rt, &cluster, &mut managing, play);
+    let started = in_threads(rt, alloc, &cluster, &mut managing, asks);
     cluster.end();
     let (_, host) = managing.into_parts();
     if started {
@@ -160,7 +211,13 @@ impl<D: HalvedDisk + Drop, J: Agreed, C: Disk + Drop, H: Host<D>> Manages<Cluste
 }
 
 /// The crew and the clients in threads, the manager in this one, until the clients end. False where the system gives too few threads.
-fn in_threads<R, W, M, P>(rt: &R, chain: &W, manager: &mut M, play: &P) -> bool
+fn in_threads<'p, R, W, M, P>(
+    rt: &R,
+    alloc: Global,
+    chain: &W,
+    manager: &mut M,
+    asks: Asks<'p, P>,
+) -> bool
 where
     R: Threads + Wait + Sync,
     W: Crew + Volume + Sync,
@@ -168,10 +225,63 @@ where
     P: Play + Sync,
 {
     thread::scope(thread::scope_env(), rt, |scope| -> bool {
-        let started = start_all(scope, rt, chain).is_ok() && start_play(scope, rt, chain, play);
+        let started = start_all(scope, rt, chain).is_ok() && start(scope, rt, alloc, chain, asks);
         manage_if(started, rt, chain, manager);
         started
     })
+}
+
+/// Starts those who ask, in a thread of their own. False where the system gives none.
+fn start<'s, E, R, W, P>(
+    scope: &Scope<'s, E>,
+    rt: &'s R,
+    alloc: Global,
+    chain: &'s W,
+    asks: Asks<'s, P>,
+) -> bool
+where
+    R: Threads + Wait + Sync,
+    W: Crew + Volume + Sync,
+    P: Play + Sync,
+{
+    match asks {
+        Asks::Play(play) => start_play(scope, rt, chain, play),
+        Asks::Clients(clients) => start_clients(scope, rt, alloc, chain, clients),
+    }
+}
+
+/// Starts the clients, in a thread of their own. The crew is told to end behind them. False where the system gives no thread.
+fn start_clients<'s, E, R, W>(
+    scope: &Scope<'s, E>,
+    rt: &'s R,
+    alloc: Global,
+    chain: &'s W,
+    clients: &'s Clients,
+) -> bool
+where
+    R: Threads + Wait + Sync,
+    W: Crew + Volume + Sync,
+{
+    scope
+        .spawn(move || serve_and_close(rt, alloc, chain, clients))
+        .is_ok()
+}
+
+fn serve_and_close<R: Threads + Wait + Sync, W: Crew + Volume + Sync>(
+    rt: &R,
+    alloc: Global,
+    chain: &W,
+    clients: &Clients,
+) {
+    let Clients {
+        listener,
+        limits,
+        sessions,
+        refused,
+    } = clients;
+    let served = serve_all(rt, alloc, chain, *limits, listener, *sessions);
+    *refused.lock(rt) = served.is_err();
+    chain.close(rt);
 }
 
 /// Starts the clients, in a thread of their own. The crew is told to end behind them. False where the system gives no thread.

@@ -5,8 +5,8 @@ use Rattle.cluster.specs.contracts.cluster.Cluster as Cluster
 use Rattle.cluster.proofs.Sends.{cluster_sync}
 use Rattle.chain_tests.proofs.sessions_tests.played.Goals as goal
 
-pub play-requires-sync-W : goal.play-requires-sync-W
-play-requires-sync-W g c κs within =
+pub play-written-requires-sync-W : goal.play-written-requires-sync-W
+play-written-requires-sync-W g c κs within =
     let disk : IsSend (param 0 g.row.D) = search (sendable, c.type_bounds.send-D) in
     let brand : IsSend (param 1 g.row.J) = search (sendable, c.type_bounds.send-J) in
     let log : IsSend (param 3 g.row.D-Log) = search (sendable, c.type_bounds.send-D-Log) in

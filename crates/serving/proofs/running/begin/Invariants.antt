@@ -2,7 +2,7 @@ use Rattle.std.specs.Prelude.{Some, ◌==◌, if◌then◌else◌}
 use Rattle.chain_core.specs.Node.{size_of}
 use Rattle.loans.specs.Rings.{ring_of}
 use Rattle.local_store.specs.About.{about_of}
-use Rattle.serving.proofs.running.run.Given as goal
+use Rattle.serving.proofs.running.begin.Given as goal
 
 -- the board, and the size
 abbrev pub ghosts-run_named-J-Agreed : goal.ghosts-run_named-J-Agreed
