@@ -142,7 +142,7 @@ impl Client {
 // Stops the member at a slot.
 fn stop<R: Wait, W: Crew>(rt: &R, chain: &W, number: u8) {
     if let Some(slot) = Slot::new(number) {
-        chain.stop_at(rt, slot);
+        let _ = chain.stop_at(rt, slot);
     }
 }
 

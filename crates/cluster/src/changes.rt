@@ -8,6 +8,7 @@ use gate_journal::Slot as Place;
 use local_store::StoreLike;
 use mail::{Bell, Given};
 use member::Agreed;
+use std::alloc::AllocError;
 use std::mem;
 use std::sync::Wait;
 
@@ -26,8 +27,9 @@ impl<D: HalvedDisk + Drop, J: Agreed> Cluster<D, J> {
     }
 
     /// Tells the member there its chain's next record, and carries what it sends then, and what waits elsewhere for one that was told. False
-    /// where no member sits there, or it doesn't take the record.
-    pub fn tell<R: Wait>(&self, rt: &R, place: Place, chain: Record) -> bool {
+    /// where no member sits there, or it doesn't take the record, since it has stopped or isn't in the chain. Where memory runs out it isn't
+    /// told.
+    pub fn tell<R: Wait>(&self, rt: &R, place: Place, chain: Record) -> Result<bool, AllocError> {
         let mut given = Given::new(self.alloc);
         let told = self.tell_under(rt, place, &mut given, chain);
         self.mail.post(rt, given);
@@ -36,18 +38,24 @@ impl<D: HalvedDisk + Drop, J: Agreed> Cluster<D, J> {
         told
     }
 
-    fn tell_under<R: Wait>(&self, rt: &R, place: Place, given: &mut Given, chain: Record) -> bool {
+    fn tell_under<R: Wait>(
+        &self,
+        rt: &R,
+        place: Place,
+        given: &mut Given,
+        chain: Record,
+    ) -> Result<bool, AllocError> {
         if !given.make_room(3) {
-            return false;
+            return Err(AllocError);
         }
         let slot = self.at(place);
         let Some(seated) = &mut *slot.seated.lock(rt) else {
-            return false;
+            return Ok(false);
         };
         let told = seated.told(given, chain).is_ok();
         seated.raise(given, &self.board);
         self.settle(rt, slot, seated, given);
-        told
+        Ok(told)
     }
 
     /// A slot is counted no longer: floors may have risen.
@@ -55,20 +63,28 @@ impl<D: HalvedDisk + Drop, J: Agreed> Cluster<D, J> {
         self.tell_floors(rt);
     }
 
-    /// Stops the member there, if one sits there.
-    pub fn stop<R: Wait>(&self, rt: &R, place: Place) {
+    /// Stops the member there, if one sits there. Where memory runs out it isn't stopped.
+    pub fn stop<R: Wait>(&self, rt: &R, place: Place) -> Result<(), AllocError> {
         let mut given = Given::new(self.alloc);
-        self.stop_under(rt, place, &mut given);
+        let stopped = self.stop_under(rt, place, &mut given);
         self.mail.post(rt, given);
+        self.changes.ring(rt);
+        stopped
     }
 
-    fn stop_under<R: Wait>(&self, rt: &R, place: Place, given: &mut Given) {
+    fn stop_under<R: Wait>(
+        &self,
+        rt: &R,
+        place: Place,
+        given: &mut Given,
+    ) -> Result<(), AllocError> {
         if !given.make_room(1) {
-            return;
+            return Err(AllocError);
         }
         if let Some(seated) = &mut *self.at(place).seated.lock(rt) {
             seated.stop(given);
         }
+        Ok(())
     }
 
     /// Seats a member, for the one that sat there.

@@ -1,5 +1,5 @@
 //! What a tail gives a joiner of its volume, a block at a time, while it goes on.
-ghost use Rattle.std.specs.Prelude.{◌≡◌, ◌≢◌, ◌⊎◌, ◌≤◌, ◌+◌, List, ℕ, Err, None, Some, IfNone, IfOk, IfSome, IsSomeAnd, IsTrue, OnErr, OnOk, length, true, ◌↔◌};
+ghost use Rattle.std.specs.Prelude.{◌≡◌, ◌≢◌, ◌⊎◌, ◌≤◌, ◌+◌, List, ℕ, Err, None, Some, IfErr, IfNone, IfOk, IfSome, IsSomeAnd, IsTrue, OnErr, OnOk, length, true, ◌↔◌};
 ghost use Rattle.std.specs.Option.{ForSome};
 ghost use Rattle.chain_core.specs.Reads.{HasOnlyRead};
 ghost use Rattle.member_copy.specs.MemberCopy.{first_copy};
@@ -21,8 +21,10 @@ use std::alloc::{AllocError, Global};
 pub enum NotGiven {
     /// The member has stopped.
     Stopped,
-    /// Nothing was begun, or the member went on unnoted.
+    /// Nothing was begun, or the member went on unnoted; or it doesn't hold the front, or blocks are due, where the end is asked for.
     Lost,
+    /// There is no memory for the replies that the member may give: nothing changed.
+    Memory,
 }
 
 impl<D: HalvedDisk + Drop, J: Agreed> Seated<D, J> {
@@ -64,6 +66,7 @@ impl<D: HalvedDisk + Drop, J: Agreed> Seated<D, J> {
         ensures only_read { OnOk result ((self.new.member.node.state ≡ self.old.member.node.state)
             × ((self.new.member ≡ self.old.member) ⊎ HasOnlyRead ⟦<LendingStore<D, J> as StoreLike>⟧.keeps_model ⟦<LendingStore<D, J> as StoreLike>⟧.about ⟦<LendingStore<D, J> as StoreLike>⟧.failures ⟦<LendingStore<D, J> as StoreLike>⟧.keeps ⟦<LendingStore<D, J> as StoreLike>⟧.moment ⟦<LendingStore<D, J> as StoreLike>⟧.may_have_left_since self.old.member.node.store self.new.member.node.store)
             × (given.new.replies ≡ given.old.replies)) }
+        ensures refused { IfErr result (λ e. (e ≡ NotGiven.Stopped) ⊎ (e ≡ NotGiven.Lost)) }
         ensures stopped { result ≡ Err NotGiven.Stopped → self.new.member.node.state.stopped ≢ None }
         ensures lost { result ≡ Err NotGiven.Lost → (self.new.member ≡ self.old.member) × (given.new.replies ≡ given.old.replies)
             × HasNotedIfCopied self.old.member.node.state self.old.copy self.new.copy × ForSome self.new.copy (λ copy. copy.broken ≡ true) }

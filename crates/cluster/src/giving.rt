@@ -46,7 +46,7 @@ impl<D: HalvedDisk + Drop, J: Agreed> Cluster<D, J> {
         ensures { IfOk result (λ r. IfSome r (λ piece. IsWhole piece × IsWithin piece)) }
     {
         if !given.make_room(2) {
-            return Err(NotGiven::Lost);
+            return Err(NotGiven::Memory);
         }
         let slot = self.at(place);
         let Some(seated) = &mut *slot.seated.lock(rt) else {

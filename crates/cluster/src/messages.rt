@@ -142,7 +142,9 @@ impl<D: HalvedDisk + Drop, J: Agreed> Cluster<D, J> {
             }
         }
         if given.make_room(2) {
-            seated.raise(given, &self.board);
+            if taken {
+                seated.raise(given, &self.board);
+            }
             self.settle(rt, slot, seated, given);
         }
         (taken, left)

@@ -62,9 +62,9 @@ impl<D: HalvedDisk + Drop, J: Agreed> Cluster<D, J> {
         }
         match &mut *slot.seated.lock(rt) {
             Some(seated) => {
-                seated.write(self.alloc, given, token, write)?;
+                let taken = seated.write(self.alloc, given, token, write);
                 self.settle(rt, slot, seated, given);
-                Ok(())
+                taken
             }
             None => Err((token, Refusal::NotMember)),
         }
@@ -110,9 +110,9 @@ impl<D: HalvedDisk + Drop, J: Agreed> Cluster<D, J> {
         }
         match &mut *slot.seated.lock(rt) {
             Some(seated) => {
-                seated.read(self.alloc, given, &self.board, token, offset, length)?;
+                let taken = seated.read(self.alloc, given, &self.board, token, offset, length);
                 self.settle(rt, slot, seated, given);
-                Ok(())
+                taken
             }
             None => Err((token, Refusal::NotMember)),
         }
@@ -145,9 +145,9 @@ impl<D: HalvedDisk + Drop, J: Agreed> Cluster<D, J> {
         }
         match &mut *slot.seated.lock(rt) {
             Some(seated) => {
-                seated.flush(self.alloc, given, &self.board, token)?;
+                let taken = seated.flush(self.alloc, given, &self.board, token);
                 self.settle(rt, slot, seated, given);
-                Ok(())
+                taken
             }
             None => Err((token, Refusal::NotMember)),
         }

@@ -4,6 +4,7 @@ use crate::refusal::Refusal;
 use disk_model::HalvedDisk;
 use gate_journal::Slot as Place;
 use member::Agreed;
+use std::alloc::AllocError;
 use std::sync::Wait;
 use std::thread::{Scope, Threads};
 
@@ -12,8 +13,9 @@ pub trait Crew {
     /// Commits at a slot, until the crew is told to end and nothing is to be committed there.
     fn commit_at<R: Wait>(&self, rt: &R, place: Place);
 
-    /// Stops the member there, if one sits there: it refuses from then on, and the chain goes on without it.
-    fn stop_at<R: Wait>(&self, rt: &R, place: Place);
+    /// Stops the member there, if one sits there: it refuses from then on, and the chain goes on without it. Where memory runs out it isn't
+    /// stopped.
+    fn stop_at<R: Wait>(&self, rt: &R, place: Place) -> Result<(), AllocError>;
 
     /// Tells all that nothing more is asked.
     fn close<R: Wait>(&self, rt: &R);
@@ -24,9 +26,8 @@ impl<D: HalvedDisk + Drop, J: Agreed> Crew for Cluster<D, J> {
         self.commit_all(rt, place);
     }
 
-    fn stop_at<R: Wait>(&self, rt: &R, place: Place) {
-        self.stop(rt, place);
-        self.changes.ring(rt);
+    fn stop_at<R: Wait>(&self, rt: &R, place: Place) -> Result<(), AllocError> {
+        self.stop(rt, place)
     }
 
     fn close<R: Wait>(&self, rt: &R) {

@@ -25,7 +25,7 @@ pub trait Host<D> {
     /// The disk of this slot isn't given the volume; whether it is tried again.
     fn note_failure(&mut self, slot: Slot, again: bool);
 
-    /// No member of the chain runs any more.
+    /// No member of the chain runs any more. It is told once.
     fn note_end(&mut self);
 
     /// The next record can't be written: all members are stopped.

@@ -30,6 +30,8 @@ pub struct Managing<S: StoreLike, D: HalvedDisk, J: Agreed, C: Disk, H: Host<D>>
     pub(crate) joiner: Joiner<S, D, J>,
     // how often in turn the next record was refused
     pub(crate) tries: u32,
+    // no member runs any more, which the host was told
+    pub(crate) ended: bool,
     ghost of_board: { J.board ≡ Some management.seat.board },
     ghost of_size: { J.size ≡ 4096 * geometry.blocks },
     ghost eight: { vec_len spares ≡ 8 },
@@ -58,6 +60,7 @@ impl<D: HalvedDisk + Drop, J: Agreed, C: Disk + Drop, H: Host<D>> Managing<Store
             joining: None,
             joiner: Joiner::Nobody,
             tries: 0,
+            ended: false,
         }
     }
 
@@ -110,6 +113,7 @@ impl<D: HalvedDisk + Drop, J: Agreed, C: Disk + Drop, H: Host<D>> Managing<Store
             joining: _,
             joiner: _,
             tries: _,
+            ended: _,
         } = self;
         let (disk, _) = management.into_parts();
         (disk, host)

@@ -87,7 +87,10 @@ impl<D: HalvedDisk + Drop, J: Agreed, C: Disk + Drop, H: Host<D>> Managing<Store
         match self.management.remove(slot) {
             Ok(()) => true,
             Err(Refusal::LastMember) => {
-                self.host.note_end();
+                if !self.ended {
+                    self.ended = true;
+                    self.host.note_end();
+                }
                 false
             }
             Err(Refusal::Memory) => {
@@ -150,12 +153,12 @@ impl<D: HalvedDisk + Drop, J: Agreed, C: Disk + Drop, H: Host<D>> Managing<Store
             thread::yield_now();
             return true;
         }
-        if self.management.told().is_none() {
-            return false;
-        }
         // One that has stopped isn't told: it is removed next.
-        let _ = cluster.tell(rt, slot, chain);
-        true
+        if cluster.tell(rt, slot, chain).is_err() {
+            thread::yield_now();
+            return true;
+        }
+        self.management.told().is_some()
     }
 
     /// Who joined is seated, if somebody joined and isn't yet. False where memory runs out.
@@ -212,7 +215,17 @@ pub(crate) fn seated<D: HalvedDisk + Drop, J: Agreed>(
 fn stop_all<R: Wait, D: HalvedDisk + Drop, J: Agreed>(rt: &R, cluster: &Cluster<D, J>) {
     for number in 0..Slot::COUNT {
         if let Some(slot) = Slot::new(number) {
-            cluster.stop(rt, slot);
+            stop(rt, cluster, slot);
         }
+    }
+}
+
+/// Stops the member at a slot, once there is memory for it.
+fn stop<R: Wait, D: HalvedDisk + Drop, J: Agreed>(rt: &R, cluster: &Cluster<D, J>, slot: Slot) {
+    for _ in rt.forever() {
+        if cluster.stop(rt, slot).is_ok() {
+            break;
+        }
+        thread::yield_now();
     }
 }

@@ -185,6 +185,11 @@ impl<D: HalvedDisk + Drop, J: Agreed, C: Disk + Drop, H: Host<D>> Managing<Store
                     }
                 }
                 Ok(None) => return Gave::All,
+                Err(NotGiven::Memory) => {
+                    // It is tried again.
+                    thread::yield_now();
+                    return Gave::Some;
+                }
                 Err(NotGiven::Stopped | NotGiven::Lost) => return Gave::NotGiven,
             }
         }
