@@ -3,13 +3,16 @@
 
     plain.py PORT            tries the server at this port of 127.0.0.1: the protocol's corners, many requests in
                              flight, many sessions. It overwrites the volume.
-    plain.py --kill PORT TIMES SEED SERVE ..
+    plain.py --kill PORT TIMES SEED MEMBERS SERVE ..
                              a load of writes and zeros, with FUA and without, FLUSHes and READs against the server that
-                             the words SERVE start at this port; it is killed in the middle, TIMES times, and served again.
+                             the words SERVE start at this port, of a chain of so many members, at each of which are clients;
+                             it is killed in the middle, TIMES times, and served again from one member's disk, which is drawn by
+                             chance, with the files of the others taken away; then these come back, and are rebuilt.
                              All that is owed must be there, and the volume is what a prefix of the committed writes left.
 
 It needs Python 3.9 or later, and history.py beside it. It ends with status 1 and one line where something is wrong.
 """
+import contextlib
 import errno
 import os
 import random
@@ -374,6 +377,7 @@ class Lane:
         self.asked = {}
         self.out = bytearray()
         self.came = bytearray()
+        self.is_spent = False
 
     def send(self):
         """Sends what the socket takes."""
@@ -412,6 +416,9 @@ class Load:
         self.hot = draw.choice((words, min(words, 8 * BLOCK // WORD)))
         self.shares = draw.choice(SHARES)
         self.answers = {kind: 0 for kind in KINDS}
+        # The errors that a request may be refused with. Nobody knows then whether a write was done; the session asks no more, and when it was
+        # answered all, another comes in its place.
+        self.port, self.may_refuse, self.refused = port, (), 0
 
     def place(self, most):
         """A random place, mostly small, often of whole blocks, sometimes as long as it may be."""
@@ -470,6 +477,11 @@ class Load:
             want(magic == 0x67446698, f"a reply's magic is {magic:#x}")
             want(cookie in lane.asked, f"a reply to {cookie}, which isn't in flight")
             kind, start, end, sent = lane.asked[cookie]
+            if error and error in self.may_refuse:
+                del lane.came[:16], lane.asked[cookie]
+                lane.is_spent = True
+                self.refused += 1
+                continue
             want(error == 0, f"{kind} {cookie} is refused with {error}")
             length = 16 + (end - start) * WORD * (kind == "read")
             if len(lane.came) < length:
@@ -487,11 +499,19 @@ class Load:
             else:
                 self.era.answered(cookie, self.now)
 
+    def renew(self):
+        """A new session for each that was refused something, and waits for nothing."""
+        for nth, lane in enumerate(self.lanes):
+            if lane.is_spent and not lane.asked:
+                lane.client.socket.close()
+                self.lanes[nth] = Lane(self.port)
+
     def play(self, until):
         """Keeps every session full until that moment."""
         while time.monotonic() < until:
+            self.renew()
             for lane in self.lanes:
-                while len(lane.asked) < self.depth:
+                while not lane.is_spent and len(lane.asked) < self.depth:
                     self.ask(lane)
             sockets = {lane.client.socket: lane for lane in self.lanes}
             writing = [one for one, lane in sockets.items() if lane.out]
@@ -514,10 +534,10 @@ class Load:
             lane.client.socket.close()
 
 
-def start(words, environment=None):
-    """Starts the server: the process once it serves, and what it said."""
+def start(words, environment=None, rebuilt=0, logged=None):
+    """Starts the server: the process once it serves, and has rebuilt so many disks, and what it said."""
     # What it logs goes to a file, since a pipe that nobody empties would stop it.
-    log = tempfile.TemporaryFile()
+    log = open(logged, "w+b") if logged else tempfile.TemporaryFile()
     server = subprocess.Popen(words, stdout=subprocess.PIPE, stderr=log, bufsize=0, env=environment)
     said = b""
     end = time.monotonic() + 60
@@ -529,7 +549,7 @@ def start(words, environment=None):
         if not part:
             break
         said += part
-        if re.search(rb"^serving .*\n", said, re.MULTILINE):
+        if re.search(rb"^serving .*\n", said, re.MULTILINE) and len(re.findall(rb"^rebuilt .*\n", said, re.MULTILINE)) >= rebuilt:
             return server, said.decode().splitlines()
     server.kill()
     status = server.wait()
@@ -537,10 +557,41 @@ def start(words, environment=None):
     raise Wrong(f"not served: it said {said!r}, on standard error {log.read()!r}, status {status}")
 
 
-def try_kills(port, times, seed, words):
+@contextlib.contextmanager
+def one_disk(folder, draw):
+    """All disks of a folder's members but one, drawn by chance, are away meanwhile."""
+    slots = sorted(it for it in os.listdir(folder) if it.startswith("slot"))
+    left = draw.choice(slots)
+    away = [it for it in slots if it != left]
+    with tempfile.TemporaryDirectory(dir=os.path.dirname(os.path.realpath(folder))) as aside:
+        for it in away:
+            os.rename(f"{folder}/{it}", f"{aside}/{it}")
+        try:
+            yield
+        finally:
+            for it in away:
+                os.rename(f"{aside}/{it}", f"{folder}/{it}")
+
+
+def stop(server):
+    """The server is killed."""
+    server.send_signal(signal.SIGKILL)
+    server.wait()
+
+
+def numbers_of(port, length):
+    """The number of each word of the first bytes of what is served."""
+    client = Client(port)
+    numbers = numbers_in(client.read_all(length), 0)
+    client.close()
+    return numbers
+
+
+def try_kills(port, times, seed, members, words):
     """The server is killed under a load, so many times."""
     draw = random.Random(seed)
-    server, _ = start(words)
+    folder = words[words.index("serve") + 1]
+    server, _ = start(words, rebuilt=members - 1)
     try:
         client = Client(port)
         length = min(client.size, 256 * BLOCK)
@@ -556,30 +607,34 @@ def try_kills(port, times, seed, words):
         for _ in range(times):
             load = Load(port, length // WORD, most, Era(base), draw, number, lambda *event: None)
             load.play(time.monotonic() + draw.uniform(0.02, 0.5))
-            server.send_signal(signal.SIGKILL)
-            server.wait()
+            stop(server)
             load.end()
             number = load.number
             for kind, count in load.answers.items():
                 answers[kind] = answers.get(kind, 0) + count
             begun = time.monotonic()
-            server, _ = start(words)
-            slowest = max(slowest, time.monotonic() - begun)
-            client = Client(port)
-            base = numbers_in(client.read_all(length), 0)
-            client.close()
-            load.era.judge(base)
+            with one_disk(folder, draw):
+                server, _ = start(words)
+                slowest = max(slowest, time.monotonic() - begun)
+                base = numbers_of(port, length)
+                load.era.judge(base)
+                if members > 1:
+                    stop(server)
+            if members > 1:
+                server, _ = start(words, rebuilt=members - 1)
+                # Each session is at the next member.
+                for _ in range(members):
+                    want(numbers_of(port, length) == base, "another member shows another volume")
     finally:
-        server.kill()
-        server.wait()
+        stop(server)
     counts = ", ".join(f"{count} {kind}" for kind, count in answers.items())
-    print(f"killed {times} times, seed {seed}; answered: {counts}; served again within {slowest:.2f} s")
+    print(f"killed {times} times, a chain of {members}, seed {seed}; answered: {counts}; served again within {slowest:.2f} s")
 
 
 def main(words):
     """Tries what the words of the command line say."""
     if words[0] == "--kill":
-        try_kills(int(words[1]), int(words[2]), int(words[3]), words[4:])
+        try_kills(int(words[1]), int(words[2]), int(words[3]), int(words[4]), words[5:])
         return
     port = int(words[0])
     try_options(port)

@@ -2,7 +2,7 @@
 ghost use Rattle.std.specs.Prelude.{◌≡◌, ◌+◌, ◌≤◌, All, Some};
 ghost use Rattle.board.specs.Seats.{IsNewSeat};
 ghost use Rattle.loans.specs.Rings.{IsOf};
-ghost use Rattle.nbd_session.specs.Demand.{IsAskedInside, asked_by, owed_by};
+ghost use Rattle.export.specs.Volume.{IsForVolume};
 
 use crate::comparing::{same, same_at};
 use board::{Board, Seat};
@@ -28,8 +28,8 @@ use std::sync::Wait;
 use std::thread::{self, Threads, join};
 use volume::{Geometry, Write};
 
-// How many writes with FUA each of two callers makes.
-const WRITES: u64 = 100;
+// How many writes with FUA each of three callers makes.
+const WRITES: u64 = 200;
 
 // The bytes of the volume: 8 blocks.
 const SIZE: u64 = 32_768;
@@ -40,7 +40,7 @@ pub(crate) fn slot(rt: &impl Abort, number: u8) -> Slot {
 }
 
 // The chain of the slots 0, 1 and 2.
-fn three(rt: &impl Abort, alloc: Global) -> Record {
+pub(crate) fn three(rt: &impl Abort, alloc: Global) -> Record {
     let mut members = Vec::new(alloc);
     for number in 0..3 {
         let incarnation = Incarnation::new(1).expect(rt, "an incarnation");
@@ -111,7 +111,7 @@ pub(crate) fn seated<D: HalvedDisk + Drop, J: Agreed>(
 // The place of a write: the callers' bytes stand side by side.
 pub(crate) fn place_of(caller: u64, cookie: u64) -> u64
     requires caller { caller ≤ 7 }
-    requires cookie { cookie ≤ 100 }
+    requires cookie { cookie ≤ 200 }
     ensures { result + 1 ≤ 32768 }
 {
     8 * cookie + caller
@@ -146,12 +146,32 @@ pub(crate) fn ask<R: Wait, V: Volume>(
     session: SessionId,
     demand: Demand,
 ) -> Option<Reply>
-    requires of_board { V.board ≡ Some (owed_by demand).board }
-    requires inside { IsAskedInside V.size (asked_by demand) }
+    requires { IsForVolume V.board V.size demand }
 {
-    match volume.send(rt, slot, demand) {
+    let Ok(mut demands) = Vec::with_capacity(alloc, 1) else {
+        abandon(demand);
+        return None;
+    };
+    demands.push_reserved(demand);
+    let refused = volume.send(rt, slot, &mut demands);
+    demands.destroy_empty();
+    match refused {
         Some(_) => None,
         None => answered(rt, alloc, volume.mail().of(session), session),
+    }
+}
+
+// Its reply isn't owed any more.
+fn abandon(demand: Demand) {
+    match demand {
+        Demand::Read {
+            token,
+            offset: _,
+            length: _,
+        } => token.abandon(),
+        Demand::Write { token, write: _ } => token.abandon(),
+        Demand::Fua { token, write: _ } => token.abandon(),
+        Demand::Flush { token } => token.abandon(),
     }
 }
 
@@ -199,9 +219,9 @@ pub(crate) fn byte_of(cookie: u64) -> u8 {
     (cookie % 251) as u8 + 1
 }
 
-// Reads back what both callers wrote, at another member: how many bytes are right.
+// Reads back what all callers wrote, at one member: how many bytes are right.
 fn read_all<R: Wait, V: Volume>(rt: &R, alloc: Global, volume: &V) -> u64 {
-    let session = SessionId(1);
+    let session = SessionId(3);
     let Some(slot) = Slot::new(1) else {
         return 0;
     };
@@ -210,7 +230,7 @@ fn read_all<R: Wait, V: Volume>(rt: &R, alloc: Global, volume: &V) -> u64 {
     }
     volume.mail().of(session).hold(rt, alloc, Some(session));
     let mut right = 0;
-    for caller in [0, 2] {
+    for caller in [0, 1, 2] {
         for cookie in 0..WRITES {
             let token = OwedRead::new(&BoardName::of(volume.board()), session, cookie);
             let offset = place_of(caller, cookie);
@@ -229,15 +249,25 @@ fn read_all<R: Wait, V: Volume>(rt: &R, alloc: Global, volume: &V) -> u64 {
     right
 }
 
-// Both callers write at once, and then a third reads: how many requests were carried out.
-fn ask_all<R: Threads + Wait + Sync, V: Volume + Sync>(rt: &R, alloc: Global, volume: &V) -> u64 {
-    let (first, last) = join(
+// Two callers write at once: how many requests were carried out.
+fn write_two<R: Threads + Wait + Sync, V: Volume + Sync>(rt: &R, alloc: Global, volume: &V) -> u64 {
+    let (second, third) = join(
         rt,
-        || write_all(rt, alloc, volume, 0),
+        || write_all(rt, alloc, volume, 1),
         || write_all(rt, alloc, volume, 2),
     );
+    second.saturating_add(third)
+}
+
+// Three callers write at once, each at its member, and then another reads: how many requests were carried out.
+fn ask_all<R: Threads + Wait + Sync, V: Volume + Sync>(rt: &R, alloc: Global, volume: &V) -> u64 {
+    let (first, others) = join(
+        rt,
+        || write_all(rt, alloc, volume, 0),
+        || write_two(rt, alloc, volume),
+    );
     first
-        .saturating_add(last)
+        .saturating_add(others)
         .saturating_add(read_all(rt, alloc, volume))
 }
 
@@ -300,7 +330,7 @@ fn three_members_commit_at_once(rt: HostRuntime) {
     fs::remove_dir_all(&rt, folder.as_str()).expect(&rt, "the folder is removed");
 }
 
-// The calls of two callers who write, and of one who reads, while three members commit. Each disk has all of it.
+// The calls of three callers who write, and of one who reads, while three members commit. Each disk has all of it.
 fn played<D: HalvedDisk + Drop + Send, J: Agreed + Send, R: Abort + Threads + Wait + Sync>(
     rt: &R,
     alloc: Global,
@@ -334,7 +364,7 @@ where
     sit(rt, &mut cluster, 0, first);
     sit(rt, &mut cluster, 1, second);
     sit(rt, &mut cluster, 2, third);
-    same(rt, play(rt, alloc, &cluster), 4 * WRITES + 2);
+    same(rt, play(rt, alloc, &cluster), 6 * WRITES + 3);
     for number in 0..3 {
         let disk = taken(rt, &mut cluster, number);
         has_all(rt, alloc, disk, number);
@@ -369,7 +399,7 @@ pub(crate) fn taken<D: HalvedDisk + Drop, J: Agreed>(
     disk
 }
 
-// The disk has what both callers wrote.
+// The disk has what all callers wrote.
 fn has_all<D: Disk + Drop>(rt: &impl Abort, alloc: Global, disk: D, number: u8) {
     let Ok(mut store) = Store::open(alloc, disk) else {
         panic!(rt; "no store")
@@ -377,13 +407,13 @@ fn has_all<D: Disk + Drop>(rt: &impl Abort, alloc: Global, disk: D, number: u8) 
     same(
         rt,
         (store.slot().number(), store.front()),
-        (number, 2 * WRITES),
+        (number, 3 * WRITES),
     );
     let mut bytes = [0; 4_096];
     assert!(rt; store.geometry().blocks == 8);
     store.read_block(0, &mut bytes).expect(rt, "a block");
     for cookie in 0..WRITES {
-        for caller in [0, 2] {
+        for caller in [0, 1, 2] {
             let at = place_of(caller, cookie) as usize;
             same_at(rt, bytes.get(at).copied(), Some(byte_of(cookie)), cookie);
         }

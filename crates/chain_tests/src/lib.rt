@@ -19,7 +19,7 @@ mod nbd_codec_tests;
 #[cfg(test)]
 mod nbd_session_tests;
 #[cfg(test)]
-mod server_tests;
+mod pausing_tests;
 #[cfg(test)]
 mod serving_tests;
 #[cfg(test)]

@@ -7,7 +7,7 @@ use crate::cluster_tests::{ask, byte_of, place_of, sizes, slot};
 use crate::comparing::same;
 use bytes::Bytes;
 use chain_steps::Cause;
-use cluster::Crew;
+use cluster::{Crew, Witness};
 use configurations::{ConfigStore, Epoch, Incarnation, Member as Recorded, Record};
 use disk_model::{Disk, FileDisk, Part};
 use export::Volume;
@@ -170,14 +170,20 @@ impl<'r, R: Abort> Folder<'r, R> {
     }
 }
 
+impl<'r, R> Witness<FileDisk> for Folder<'r, R> {
+    fn note_stop(&mut self, _: Slot, _: Cause, _: &FileDisk) {}
+}
+
 impl<'r, R: Files<File = File> + AllocGlobal> Host<FileDisk> for Folder<'r, R> {
+    fn wanted(&mut self) -> Option<Slot> {
+        None
+    }
+
     fn disk(&mut self, slot: Slot) -> Option<FileDisk> {
         let (path, number) = (self.path, slot.number());
         let path = format!(in self.rt.alloc(); "{path}/slot{number}.disk").ok()?;
         FileDisk::create(self.rt, path.as_str(), self.len).ok()
     }
-
-    fn note_stop(&mut self, _: Slot, _: Cause) {}
 
     fn note_removal(&mut self, _: Slot) {
         self.removed = self.removed.saturating_add(1);
@@ -185,6 +191,10 @@ impl<'r, R: Files<File = File> + AllocGlobal> Host<FileDisk> for Folder<'r, R> {
 
     fn note_joining(&mut self, _: Slot) {
         self.joined = self.joined.saturating_add(1);
+    }
+
+    fn note_member(&mut self, _: Slot) {
+        self.others = self.others.saturating_add(1);
     }
 
     fn note_failure(&mut self, _: Slot, _: bool) {

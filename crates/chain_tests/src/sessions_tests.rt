@@ -48,7 +48,7 @@ const READ_BACK: &[u8] =
 struct Alone;
 
 impl HangsUp for Alone {
-    fn hang_up(&self) {}
+    fn hang_up<R: Wait>(&self, _: &R) {}
 }
 
 // What a client took that asks this and disconnects.

@@ -1,5 +1,6 @@
 //! What the chain's manager asks of its members.
 use crate::cluster::Cluster;
+use crate::pause::NoPause;
 use crate::seated::Seated;
 use chain_steps::Cause;
 use configurations::Record;
@@ -12,17 +13,32 @@ use std::alloc::AllocError;
 use std::mem;
 use std::sync::Wait;
 
+/// Who is told why a member has stopped.
+pub trait Witness<D> {
+    /// The member at this slot has stopped. This is its disk, or while its log is lent, the home of it.
+    fn note_stop(&mut self, place: Place, cause: Cause, disk: &D);
+}
+
 impl<D: HalvedDisk + Drop, J: Agreed> Cluster<D, J> {
     /// Rings as a member is seen to have stopped, and is closed with the crew.
     pub fn changes(&self) -> &Bell {
         &self.changes
     }
 
-    /// Why the member there has stopped, if one sits there, and it has.
-    pub fn cause<R: Wait>(&self, rt: &R, place: Place) -> Option<Cause> {
+    /// Whether a member sits there that has stopped.
+    pub fn has_stopped<R: Wait>(&self, rt: &R, place: Place) -> bool {
         match &*self.at(place).seated.lock(rt) {
-            Some(seated) => seated.member().node().stopped(),
-            None => None,
+            Some(seated) => seated.has_stopped(),
+            None => false,
+        }
+    }
+
+    /// Tells why the member there has stopped, if one sits there, and it has. Its lock is held meanwhile.
+    pub fn show_stop<R: Wait, W: Witness<D>>(&self, rt: &R, place: Place, witness: &mut W) {
+        if let Some(seated) = &*self.at(place).seated.lock(rt)
+            && let Some(cause) = seated.member().node().stopped()
+        {
+            witness.note_stop(place, cause, seated.store().disk());
         }
     }
 
@@ -33,8 +49,8 @@ impl<D: HalvedDisk + Drop, J: Agreed> Cluster<D, J> {
         let mut given = Given::new(self.alloc);
         let told = self.tell_under(rt, place, &mut given, chain);
         self.mail.post(rt, given);
-        self.carry(rt, place);
-        self.carry_stuck(rt);
+        self.carry(rt, place, &NoPause);
+        self.carry_stuck(rt, &NoPause);
         told
     }
 

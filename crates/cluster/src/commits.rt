@@ -3,6 +3,7 @@ ghost use Rattle.std.specs.Prelude.{◌≤◌, ◌+◌};
 
 use crate::cluster::Cluster;
 use crate::pace::{MANY_HOMES, Pace};
+use crate::pause::{Pause, Point};
 use chain_core::Refusal;
 use disk_model::HalvedDisk;
 use gate_journal::Slot as Place;
@@ -16,28 +17,35 @@ use std::thread;
 const MOST: u64 = 1_024;
 
 impl<D: HalvedDisk + Drop, J: Agreed> Cluster<D, J> {
-    /// Commits at a slot, until its bell is closed and nothing is to be committed.
-    pub(crate) fn commit_all<R: Wait>(&self, rt: &R, place: Place) {
+    /// Commits at a slot, until its bell is closed and nothing is to be committed; and pauses at its points.
+    pub(crate) fn commit_all<R: Wait, P: Pause>(&self, rt: &R, place: Place, pause: &P) {
         let slot = self.at(place);
         let mut buffer = Vec::new(self.alloc);
         let mut pace = Pace::new();
         for _ in rt.forever() {
             let count = slot.bell.count(rt);
-            let was_due = self.commit_once(rt, place, &mut buffer, &mut pace);
+            // What became due before the bell was closed is seen by a look that begins behind that.
+            let is_closed = slot.bell.is_closed(rt);
+            let was_due = self.commit_once(rt, place, &mut buffer, &mut pace, pause);
             self.pace_homes(rt, place, &mut pace);
-            if !was_due && slot.bell.wait_past(rt, count) {
+            if was_due {
+                continue;
+            }
+            if is_closed {
                 break;
             }
+            slot.bell.wait_past(rt, count);
         }
     }
 
     /// Journals a commit, if one is due, and ends it; or makes room for one. Whether there was anything to do.
-    fn commit_once<R: Wait>(
+    fn commit_once<R: Wait, P: Pause>(
         &self,
         rt: &R,
         place: Place,
         buffer: &mut Vec<u8>,
         pace: &mut Pace,
+        pause: &P,
     ) -> bool {
         let mut given = Given::new(self.alloc);
         let mut behind = Given::new(self.alloc);
@@ -48,13 +56,14 @@ impl<D: HalvedDisk + Drop, J: Agreed> Cluster<D, J> {
             thread::yield_now();
             return true;
         }
+        pause.at(rt, Point::Committing(place));
         let begun = self.begin(rt, place, &mut given);
         self.mail.post(rt, given);
         let was_due = match begun {
             Ok(Some(work)) => {
                 // No lock is held while the disk writes and syncs.
                 let done = work.journal(buffer);
-                self.finish(rt, place, &mut behind, done, pace);
+                self.finish(rt, place, &mut behind, done, pace, pause);
                 true
             }
             Err(Refusal::Full) => self.make_room(rt, place),
@@ -83,19 +92,21 @@ impl<D: HalvedDisk + Drop, J: Agreed> Cluster<D, J> {
     }
 
     /// Ends a commit, and tells all that a floor may have risen, and that a table may have room.
-    fn finish<R: Wait>(
+    fn finish<R: Wait, P: Pause>(
         &self,
         rt: &R,
         place: Place,
         given: &mut Given,
         done: Journaled<D::Log, J>,
         pace: &mut Pace,
+        pause: &P,
     )
         requires room { 2 ≤ given.old.room }
     {
         self.finish_under(rt, place, given, done, pace);
+        pause.at(rt, Point::Posted(place));
         self.tell_floors(rt);
-        self.carry_stuck(rt);
+        self.carry_stuck(rt, pause);
     }
 
     fn finish_under<R: Wait>(

@@ -1,12 +1,11 @@
 //! The chain, as the threads of sessions ask of it.
-ghost use Rattle.std.specs.Prelude.{◌≡◌, IfSome, Some};
-ghost use Rattle.nbd_session.specs.Demand.{IsAskedInside, asked_by, owed_by};
-ghost use Rattle.export.specs.Volume.{IsRefusalOf};
+ghost use Rattle.std.specs.Prelude.{◌≡◌, All, Some};
+ghost use Rattle.export.specs.Volume.{HasTaken, IsForVolume};
 
 use crate::cluster::Cluster;
+use crate::pause::NoPause;
 use crate::places::Places;
 use board::Board;
-use chain_steps::WriteToken;
 use disk_model::HalvedDisk;
 use export::Volume;
 use flush_barrier::Reply;
@@ -21,22 +20,8 @@ impl<D: HalvedDisk + Drop, J: Agreed> Volume for Cluster<D, J> {
 
     ghost size = { J.size };
 
-    fn send<R: Wait>(&self, rt: &R, place: Place, demand: Demand) -> Option<Reply> {
-        match demand {
-            Demand::Read {
-                token,
-                offset,
-                length,
-            } => self.read(rt, place, token, offset, length),
-            Demand::Write { token, write } => self.write(
-                rt,
-                place,
-                WriteToken::Plain(token),
-                write,
-            ),
-            Demand::Fua { token, write } => self.write(rt, place, WriteToken::Fua(token), write),
-            Demand::Flush { token } => self.flush(rt, place, token),
-        }
+    fn send<R: Wait>(&self, rt: &R, place: Place, demands: &mut Vec<Demand>) -> Option<Reply> {
+        self.take_pausing(rt, place, demands, &NoPause)
     }
 
     fn member<R: Wait>(&self, rt: &R, n: u64) -> Place {

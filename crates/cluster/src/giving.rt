@@ -4,6 +4,7 @@ ghost use Rattle.rejoin_catchup.specs.Course.{IsWhole, IsWithin};
 
 use crate::cluster::Cluster;
 use crate::copying::NotGiven;
+use crate::pause::NoPause;
 use disk_model::HalvedDisk;
 use gate_journal::Slot as Place;
 use mail::Given;
@@ -65,7 +66,7 @@ impl<D: HalvedDisk + Drop, J: Agreed> Cluster<D, J> {
         let mut given = Given::new(self.alloc);
         let holds = self.hold_under(rt, place, &mut given);
         self.mail.post(rt, given);
-        self.carry(rt, place);
+        self.carry(rt, place, &NoPause);
         holds
     }
 

@@ -2,6 +2,7 @@
 use crate::carried::Carried;
 use crate::cluster::Cluster;
 use crate::passing::Delivered;
+use crate::pause::{Pause, Point};
 use crate::places::Places;
 use disk_model::HalvedDisk;
 use gate_journal::Slot as Place;
@@ -11,30 +12,30 @@ use std::sync::Wait;
 
 impl<D: HalvedDisk + Drop, J: Agreed> Cluster<D, J> {
     /// Carries what the member at this slot has sent, and what the members that this reaches send by it.
-    pub(crate) fn carry<R: Wait>(&self, rt: &R, from: Place) {
+    pub(crate) fn carry<R: Wait, P: Pause>(&self, rt: &R, from: Place, pause: &P) {
         let mut due = Places::only(from);
         for _ in rt.forever() {
             let Some(next) = due.take() else {
                 break;
             };
-            let reached = self.carry_from(rt, next);
+            let reached = self.carry_from(rt, next, pause);
             due.join(reached);
         }
     }
 
     /// Carries on what waits at any slot for a member that takes it later.
-    pub(crate) fn carry_stuck<R: Wait>(&self, rt: &R) {
+    pub(crate) fn carry_stuck<R: Wait, P: Pause>(&self, rt: &R, pause: &P) {
         for number in 0..Place::COUNT {
             if let Some(from) = Place::new(number)
                 && self.at(from).carriage.is_stuck(rt)
             {
-                self.carry(rt, from);
+                self.carry(rt, from, pause);
             }
         }
     }
 
     /// Carries what the member at this slot has sent: whom it reached.
-    fn carry_from<R: Wait>(&self, rt: &R, from: Place) -> Places {
+    fn carry_from<R: Wait, P: Pause>(&self, rt: &R, from: Place, pause: &P) -> Places {
         let slot = self.at(from);
         let mut reached = Places::none();
         let Some(mut ways) = slot.carriage.enter(rt) else {
@@ -42,7 +43,7 @@ impl<D: HalvedDisk + Drop, J: Agreed> Cluster<D, J> {
         };
         for _ in rt.forever() {
             for route in [Route::On, Route::Back, Route::ToHead] {
-                self.carry_way(rt, from, route, ways.by(route), &mut reached);
+                self.carry_way(rt, from, route, ways.by(route), &mut reached, pause);
             }
             match slot.carriage.leave(rt, ways) {
                 Some(again) => ways = again,
@@ -53,20 +54,21 @@ impl<D: HalvedDisk + Drop, J: Agreed> Cluster<D, J> {
     }
 
     /// Carries what the member has sent by a way, until nothing is left, or a member takes a message later.
-    fn carry_way<R: Wait>(
+    fn carry_way<R: Wait, P: Pause>(
         &self,
         rt: &R,
         from: Place,
         route: Route,
         carried: &mut Carried,
         reached: &mut Places,
+        pause: &P,
     ) {
         for _ in rt.forever() {
             self.fetch(rt, from, route, carried);
             if carried.is_empty() {
                 break;
             }
-            self.carry_by(rt, from, carried, reached);
+            self.carry_by(rt, from, carried, reached, pause);
             if !carried.is_empty() {
                 break;
             }
@@ -81,13 +83,22 @@ impl<D: HalvedDisk + Drop, J: Agreed> Cluster<D, J> {
     }
 
     /// Delivers what is carried, in order, until a member takes a message later.
-    fn carry_by<R: Wait>(&self, rt: &R, from: Place, carried: &mut Carried, reached: &mut Places) {
+    fn carry_by<R: Wait, P: Pause>(
+        &self,
+        rt: &R,
+        from: Place,
+        carried: &mut Carried,
+        reached: &mut Places,
+        pause: &P,
+    ) {
         for _ in rt.forever() {
             let Some(to) = carried.next().map(|sent| sent.to) else {
                 break;
             };
+            pause.at(rt, Point::Delivering(to));
             let (taken, left) = self.deliver(rt, from, to, carried);
             if taken {
+                pause.at(rt, Point::Raised(to));
                 reached.add(to);
             }
             if left {

@@ -1,5 +1,6 @@
 //! The threads of a chain.
 use crate::cluster::Cluster;
+use crate::pause::{NoPause, Pause};
 use crate::refusal::Refusal;
 use disk_model::HalvedDisk;
 use gate_journal::Slot as Place;
@@ -10,8 +11,8 @@ use std::thread::{Scope, Threads};
 
 /// What works for the members of a chain while they are asked.
 pub trait Crew {
-    /// Commits at a slot, until the crew is told to end and nothing is to be committed there.
-    fn commit_at<R: Wait>(&self, rt: &R, place: Place);
+    /// Commits at a slot, until the crew is told to end and nothing is to be committed there; and pauses at its points.
+    fn commit_at<R: Wait, P: Pause>(&self, rt: &R, place: Place, pause: &P);
 
     /// Stops the member there, if one sits there: it refuses from then on, and the chain goes on without it. Where memory runs out it isn't
     /// stopped.
@@ -19,11 +20,14 @@ pub trait Crew {
 
     /// Tells all that nothing more is asked.
     fn close<R: Wait>(&self, rt: &R);
+
+    /// Wakes who manages the chain: there is something else to look at.
+    fn wake_manager<R: Wait>(&self, rt: &R);
 }
 
 impl<D: HalvedDisk + Drop, J: Agreed> Crew for Cluster<D, J> {
-    fn commit_at<R: Wait>(&self, rt: &R, place: Place) {
-        self.commit_all(rt, place);
+    fn commit_at<R: Wait, P: Pause>(&self, rt: &R, place: Place, pause: &P) {
+        self.commit_all(rt, place, pause);
     }
 
     fn stop_at<R: Wait>(&self, rt: &R, place: Place) -> Result<(), AllocError> {
@@ -35,6 +39,10 @@ impl<D: HalvedDisk + Drop, J: Agreed> Crew for Cluster<D, J> {
             slot.bell.close(rt);
         }
         self.changes.close(rt);
+    }
+
+    fn wake_manager<R: Wait>(&self, rt: &R) {
+        self.changes.ring(rt);
     }
 }
 
@@ -74,6 +82,6 @@ fn start<'s, E, R: Threads + Wait + Sync, W: Crew + Sync>(
 
 fn commit_at<R: Wait, W: Crew>(rt: &R, crew: &W, number: u8) {
     if let Some(place) = Place::new(number) {
-        crew.commit_at(rt, place);
+        crew.commit_at(rt, place, &NoPause);
     }
 }

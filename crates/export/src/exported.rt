@@ -1,7 +1,6 @@
 //! What the threads of sessions ask of.
-ghost use Rattle.std.specs.Prelude.{◌≡◌, IfSome, Some};
-ghost use Rattle.nbd_session.specs.Demand.{IsAskedInside, asked_by, owed_by};
-ghost use Rattle.export.specs.Volume.{IsRefusalOf};
+ghost use Rattle.std.specs.Prelude.{◌≡◌, All, Some};
+ghost use Rattle.export.specs.Volume.{HasTaken, IsForVolume};
 
 use board::Board;
 use flush_barrier::Reply;
@@ -21,12 +20,12 @@ pub trait Volume {
     /// How many bytes it has.
     ghost size: { ℕ };
 
-    /// Takes a demand at a member. Its reply comes by the session's mailbox; `Some` is the reply that refuses it at once: with 12 where
-    /// there is no memory for it, else with 5.
-    fn send<R: Wait>(&self, rt: &R, place: Place, demand: Demand) -> Option<Reply>
-        requires of_board { board ≡ Some (owed_by demand).board }
-        requires inside { IsAskedInside size (asked_by demand) }
-        ensures { IfSome result (IsRefusalOf (owed_by demand)) };
+    /// Takes demands at a member, from the list's end on: all, or some until others have their turn there, or until one is refused. Their
+    /// replies come by the session's mailbox; `Some` is the reply that refuses the one that was taken last: with 12 where there is no memory
+    /// for it, else with 5.
+    fn send<R: Wait>(&self, rt: &R, place: Place, demands: &mut Vec<Demand>) -> Option<Reply>
+        requires { All (IsForVolume board size) demands.old.items }
+        ensures { HasTaken demands.old.items demands.new.items result };
 
     /// The member at which the n-th session is, counted from 0: those that run now take turns. Any slot, where none runs.
     fn member<R: Wait>(&self, rt: &R, n: u64) -> Place;

@@ -68,6 +68,20 @@ pub fn open<R: Files<File = File> + AllocGlobal>(
     gather(rt.alloc(), config, openings)
 }
 
+/// Opens the disk of a slot, which has to be there. Its file is locked for as long as the answer lives.
+///
+/// 104 `FileFault` where it isn't there or the system refuses it. 100 `Memory`.
+pub fn open_slot<R: Files<File = File> + AllocGlobal>(
+    rt: &R,
+    dir: &str,
+    slot: Slot,
+) -> Result<FileDisk, Failure>
+    ensures told { IfErr result (λ f. IsOfFiles f.refusal) }
+    ensures file { IfErr result (λ f. f.file ≡ FileName.Slot slot) }
+{
+    open_file(rt, dir, &FileName::Slot(slot))
+}
+
 /// Refuses a file that is there.
 fn require_none<R: Files<File = File> + AllocGlobal>(
     rt: &R,

@@ -20,7 +20,7 @@ mod refusal;
 mod restarting;
 
 pub use failure::Failure;
-pub use files::{FolderDisks, format, open};
+pub use files::{FolderDisks, format, open, open_slot};
 pub use formatting::{Unformatted, config_part, format_config, format_disks, format_member};
 pub use layout::Layout;
 pub use names::FileName;

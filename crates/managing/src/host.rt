@@ -1,4 +1,4 @@
-use chain_steps::Cause;
+use cluster::Witness;
 use gate_journal::Slot;
 
 /// Why a record wasn't written three times in turn.
@@ -9,18 +9,21 @@ pub struct Unrecorded {
 }
 
 /// Where a chain's manager gets the disks of members that come back, and whom it tells what it did.
-pub trait Host<D> {
+pub trait Host<D>: Witness<D> {
+    /// A slot that is to join, and of which the manager wasn't told yet.
+    fn wanted(&mut self) -> Option<Slot>;
+
     /// The disk of a slot, which may hold anything. `None` where it can't be had: the slot isn't asked for any more.
     fn disk(&mut self, slot: Slot) -> Option<D>;
-
-    /// The member at this slot has stopped.
-    fn note_stop(&mut self, slot: Slot, cause: Cause);
 
     /// The chain goes on without the member at this slot.
     fn note_removal(&mut self, slot: Slot);
 
     /// The disk of this slot has the volume, and is a member's.
     fn note_joining(&mut self, slot: Slot);
+
+    /// The disk of this slot isn't given the volume, since it is a member's.
+    fn note_member(&mut self, slot: Slot);
 
     /// The disk of this slot isn't given the volume; whether it is tried again.
     fn note_failure(&mut self, slot: Slot, again: bool);

@@ -30,7 +30,7 @@ pub struct Managing<S: StoreLike, D: HalvedDisk, J: Agreed, C: Disk, H: Host<D>>
     pub(crate) joiner: Joiner<S, D, J>,
     // how often in turn the next record was refused
     pub(crate) tries: u32,
-    // no member runs any more, which the host was told
+    // no member runs any more, or no record can be written, which the host was told
     pub(crate) ended: bool,
     ghost of_board: { J.board ≡ Some management.seat.board },
     ghost of_size: { J.size ≡ 4096 * geometry.blocks },
@@ -69,14 +69,15 @@ impl<D: HalvedDisk + Drop, J: Agreed, C: Disk + Drop, H: Host<D>> Managing<Store
         self.wanted[usize::from(slot.number())] = true;
     }
 
-    /// Does one thing after another, until the crew is told to end.
+    /// Does one thing after another, until the crew is told to end, or the chain can't go on: no member runs any more, or its next record
+    /// can't be written. The host was told that then.
     pub fn manage<R: Wait>(&mut self, rt: &R, cluster: &Cluster<D, J>) {
         for _ in rt.forever() {
             let count = cluster.changes().count(rt);
             if cluster.changes().is_closed(rt) {
                 break;
             }
-            if !self.step(rt, cluster) && cluster.changes().wait_past(rt, count) {
+            if !self.step(rt, cluster) && (self.ended || cluster.changes().wait_past(rt, count)) {
                 break;
             }
         }

@@ -26,10 +26,10 @@ impl<D: HalvedDisk + Drop, J: Agreed, C: Disk + Drop, H: Host<D>> Managing<Store
             if let Some(slot) = Slot::new(number)
                 && self.is_member(slot)
                 && !self.management.is_stopped(slot)
-                && let Some(cause) = cluster.cause(rt, slot)
+                && cluster.has_stopped(rt, slot)
                 && self.management.stopped(slot).is_ok()
             {
-                self.host.note_stop(slot, cause);
+                cluster.show_stop(rt, slot, &mut self.host);
             }
         }
     }
@@ -69,6 +69,11 @@ impl<D: HalvedDisk + Drop, J: Agreed, C: Disk + Drop, H: Host<D>> Managing<Store
                 && self.management.is_stopped(slot)
             {
                 return self.begin_removal(slot);
+            }
+        }
+        for _ in 0..Slot::COUNT {
+            if let Some(slot) = self.host.wanted() {
+                self.want(slot);
             }
         }
         for number in 0..Slot::COUNT {
@@ -122,6 +127,7 @@ impl<D: HalvedDisk + Drop, J: Agreed, C: Disk + Drop, H: Host<D>> Managing<Store
         if self.tries == TRIES {
             self.host.note_unrecorded(Unrecorded { refusal });
             stop_all(rt, cluster);
+            self.ended = true;
         }
         false
     }
@@ -183,6 +189,7 @@ impl<D: HalvedDisk + Drop, J: Agreed, C: Disk + Drop, H: Host<D>> Managing<Store
             let _ = other.end();
         }
         self.joining = None;
+        self.wanted[usize::from(slot.number())] = false;
         self.host.note_joining(slot);
         true
     }

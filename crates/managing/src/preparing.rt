@@ -41,6 +41,7 @@ impl<D: HalvedDisk + Drop, J: Agreed, C: Disk + Drop, H: Host<D>> Managing<Store
     ) -> bool {
         if self.is_member(slot) {
             self.wanted[usize::from(slot.number())] = false;
+            self.host.note_member(slot);
             return false;
         }
         if !self.is_free(rt, cluster, slot) {

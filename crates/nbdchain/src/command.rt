@@ -5,7 +5,8 @@ use crate::fault::Fault;
 use crate::formatting::{self, format_folder};
 use crate::playing::{self, play_file, print_commands};
 use crate::recovering::{self, recover_folder};
-use crate::serving::{self, serve_folder};
+use crate::rejoining::{self, rejoin};
+use crate::serving_folder::{self, serve_folder};
 use clap::error::ErrorKind;
 use clap::{Arg, ArgAction, ArgMatches, Command, Error};
 use log::Log;
@@ -16,7 +17,6 @@ use std::io::{BufRead, Write};
 use std::net::{Net, TcpListener, TcpStream};
 use std::sync::Wait;
 use std::thread::Threads;
-use std::time::Clock;
 
 /// The version of the program.
 const VERSION: &str = "0.1.0";
@@ -31,7 +31,7 @@ const REFUSED: u8 = 1;
 const WORD_FAULT: u8 = 2;
 
 /// The program: its words, its streams and its status. `format DIR` makes a folder of disks, `recover DIR` brings its chain back whole, and
-/// `serve DIR` serves it.
+/// `serve DIR` serves it; `rejoin DIR SLOT` asks its server to have a disk join it.
 /// `sim FILE` plays a script, and no words play the script on the input. A refusal goes to `errors`, status 1, and so does a
 /// fault of the words, status 2.
 pub fn command<R, I: BufRead, O: Write, E: Write>(
@@ -47,11 +47,10 @@ where
         + AllocGlobal
         + Threads
         + Wait
-        + Clock
         + Log
+        + Print
         + Copy
-        + Send
-        + 'static,
+        + Sync,
     ensures { result ≤ 2 }
 {
     let alloc = rt.alloc();
@@ -86,7 +85,8 @@ fn program<'a>(alloc: Global) -> Result<Command<'a>, AllocError> {
         .arg(version)?
         .subcommand(formatting::words(alloc)?)?
         .subcommand(recovering::words(alloc)?)?
-        .subcommand(serving::words(alloc)?)?
+        .subcommand(serving_folder::words(alloc)?)?
+        .subcommand(rejoining::words(alloc)?)?
         .subcommand(playing::words(alloc)?)?
         .subcommand(playing::script_words(alloc)?)
 }
@@ -105,11 +105,10 @@ where
         + AllocGlobal
         + Threads
         + Wait
-        + Clock
         + Log
+        + Print
         + Copy
-        + Send
-        + 'static,
+        + Sync,
 {
     if matches.get_flag("version") {
         return Ok(writeln!(output, "nbdchain {VERSION}")?);
@@ -118,6 +117,7 @@ where
         Some(("format", format)) => format_folder(rt, format, output),
         Some(("recover", recover)) => recover_folder(rt, recover, output),
         Some(("serve", serve)) => serve_folder(rt, serve, output),
+        Some(("rejoin", slot)) => rejoin(rt, slot, output),
         Some(("script", _)) => Ok(print_commands(output)?),
         Some((_, sim)) => Ok(play_file(rt, sim, output, errors)?),
         None => Ok(sim_on(rt.alloc(), input, output)?),

@@ -1,4 +1,6 @@
+use crate::listening::Unheard;
 use folder::Failure;
+use folder_server::Unserved;
 use gate_journal::Slot;
 use simulator::Refusal;
 use std::alloc::{AllocError, AllocFailed};
@@ -16,8 +18,12 @@ pub(crate) enum Fault<'a> {
     Folder { dir: &'a str, failure: Failure },
     /// The disk of a slot isn't rebuilt.
     Unrebuilt(Slot, Standstill),
-    /// Nobody can be served, or nobody more.
-    Server(server::Refusal),
+    /// Nobody can come in.
+    Listen(Unheard),
+    /// The chain of a folder isn't served any more.
+    Unserved { dir: &'a str, unserved: Unserved },
+    /// The server of a folder takes no order: 104, and the system's reason.
+    Unasked { dir: &'a str, reason: io::Error },
 }
 
 /// Why a chain doesn't rebuild a disk.
@@ -51,7 +57,12 @@ impl fmt::Display for Fault<'_> {
                 let number = slot.number();
                 write!(f, "{refusal}: slot {number} isn't rebuilt")
             }
-            Fault::Server(refusal) => write!(f, "{refusal}"),
+            Fault::Listen(unheard) => write!(f, "{unheard}"),
+            Fault::Unserved { dir, unserved } => write!(f, "{unserved} (in {dir})"),
+            Fault::Unasked { dir, reason } => write!(
+                f,
+                "104 FileFault {dir}/control.socket: {reason}"
+            ),
         }
     }
 }
@@ -72,12 +83,6 @@ fn print_failure<W: fmt::Write>(
 impl From<Refusal> for Fault<'_> {
     fn from(refusal: Refusal) -> Self {
         Fault::Own(refusal)
-    }
-}
-
-impl From<server::Refusal> for Fault<'_> {
-    fn from(refusal: server::Refusal) -> Self {
-        Fault::Server(refusal)
     }
 }
 

@@ -1,8 +1,7 @@
 //! `nbdchain`: a replicated virtual disk for clients of the Network Block Device protocol.
 //!
 //! `format` makes a folder of disks, `recover` brings its chain back whole, and `serve` serves it: what a folder's disks mean is `folder`'s,
-//! how others are rebuilt from one is `comeback`'s, what a call of the served chain does is `service`'s, and the threads round it are
-//! `server`'s. `sim` plays a script over disks in memory, by `simulator`.
+//! how others are rebuilt from one is `comeback`'s, and the chain that clients are served by is `folder_server`'s. `sim` plays a script over disks in memory, by `simulator`.
 #![tactic(auto)]
 
 use crate::fault::Fault;
@@ -14,14 +13,15 @@ use std::net::{Net, TcpListener, TcpStream};
 use std::process::ExitCode;
 use std::sync::Wait;
 use std::thread::Threads;
-use std::time::Clock;
 
 mod command;
 mod fault;
 mod formatting;
+mod listening;
 mod playing;
 mod recovering;
-mod serving;
+mod rejoining;
+mod serving_folder;
 
 pub use command::command;
 use command::refused;
@@ -47,11 +47,9 @@ where
         + AllocGlobal
         + Threads
         + Wait
-        + Clock
         + Log
         + Copy
-        + Send
-        + 'static,
+        + Sync,
 {
     let alloc = rt.alloc();
     let words: Vec<String> = env::args(rt)?.collect(alloc)?;

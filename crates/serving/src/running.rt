@@ -6,7 +6,8 @@ ghost use Rattle.configurations.specs.Store.{IsSettledConfig};
 ghost use Rattle.gate_journal.specs.declared.pair.TheConstants.{PAIR_SIZE};
 ghost use Rattle.loans.specs.Rings.{IsOf};
 
-use crate::play::{Asks, Clients, Nobody, Play};
+use crate::Control;
+use crate::play::{Asks, Nobody, Play};
 use crate::refusal::Refusal;
 use crate::sides::AllSides;
 use board::{Board, Seat};
@@ -16,10 +17,11 @@ use disk_model::{Disk, HalvedDisk};
 use export::Volume;
 use gate_journal::Slot;
 use local_store::{Loan, Store, StoreLike};
+use log::Log;
 use mail::MailRoom;
 use managing::{Beginning, Begun, Host, Managing};
 use member::Agreed;
-use sessions::serve_all;
+use sessions::Clients;
 use std::alloc::Global;
 use std::marker::Brand;
 use std::sync::Wait;
@@ -47,7 +49,7 @@ pub fn run<R, D, C, H, P>(
     play: &P,
 ) -> Result<H, Refusal>
 where
-    R: Threads + Wait + Sync,
+    R: Threads + Wait + Log + Sync,
     D: HalvedDisk + Drop + Send,
     D::Log: Send,
     D::Past: Send,
@@ -62,8 +64,9 @@ where
     begin(rt, alloc, source, host, wanted, Asks::Play(play))
 }
 
-/// Runs the chain for the clients that come in, until as many as were to come have ended, or the listener refuses one; then what was answered is
-/// committed. The slots that are wanted join it meanwhile. The host comes back. 100 `Memory` where it can't begin.
+/// Runs the chain for the clients that come in, until as many as were to come have ended, or the listeners refuse one, or the chain can't go on:
+/// then nobody comes in any more, and the clients are hung up. What was answered is committed then, where a member runs. The slots that are
+/// wanted join the chain meanwhile, and those that are asked for. The host comes back. 100 `Memory` where it can't begin.
 pub fn serve<R, D, C, H>(
     rt: &R,
     alloc: Global,
@@ -71,9 +74,10 @@ pub fn serve<R, D, C, H>(
     host: H,
     wanted: &[Slot],
     clients: &Clients,
+    control: &Control,
 ) -> Result<H, Refusal>
 where
-    R: Threads + Wait + Sync,
+    R: Threads + Wait + Log + Sync,
     D: HalvedDisk + Drop + Send,
     D::Log: Send,
     D::Past: Send,
@@ -84,7 +88,14 @@ where
     requires on_disk { source.config.pair.part.start + source.config.pair.part.len ≤ C.size source.disk }
     requires settled { C.keeps_model → IsSettledConfig source.config (C.gives source.disk) (C.may_leave_now source.disk) }
 {
-    begin::<_, _, _, _, Nobody>(rt, alloc, source, host, wanted, Asks::Clients(clients))
+    begin::<_, _, _, _, Nobody>(
+        rt,
+        alloc,
+        source,
+        host,
+        wanted,
+        Asks::Clients { clients, control },
+    )
 }
 
 /// Begins a chain of the source, with a new board, and names it.
@@ -97,7 +108,7 @@ fn begin<'p, R, D, C, H, P>(
     asks: Asks<'p, P>,
 ) -> Result<H, Refusal>
 where
-    R: Threads + Wait + Sync,
+    R: Threads + Wait + Log + Sync,
     D: HalvedDisk + Drop + Send,
     D::Log: Send,
     D::Past: Send,
@@ -137,7 +148,7 @@ fn run_named<'p, R, D, J, C, H, P>(
     asks: Asks<'p, P>,
 ) -> Result<H, Refusal>
 where
-    R: Threads + Wait + Sync,
+    R: Threads + Wait + Log + Sync,
     D: HalvedDisk + Drop + Send,
     D::Log: Send,
     D::Past: Send,
@@ -188,7 +199,7 @@ where
     for slot in wanted {
         managing.want(*slot);
     }
-    let started = in_threads(rt, alloc, &cluster, &mut managing, asks);
+    let started = in_threads(rt, alloc, &cluster, &mut managing, &asks);
     cluster.end();
     let (_, host) = managing.into_parts();
     if started {
@@ -210,44 +221,97 @@ impl<D: HalvedDisk + Drop, J: Agreed, C: Disk + Drop, H: Host<D>> Manages<Cluste
     }
 }
 
-/// The crew and the clients in threads, the manager in this one, until the clients end. False where the system gives too few threads.
+/// The crew and the clients in threads, the manager in this one, until the clients end, or the chain can't go on. False where the system gives
+/// too few threads.
 fn in_threads<'p, R, W, M, P>(
     rt: &R,
     alloc: Global,
     chain: &W,
     manager: &mut M,
-    asks: Asks<'p, P>,
+    asks: &Asks<'p, P>,
 ) -> bool
 where
-    R: Threads + Wait + Sync,
+    R: Threads + Wait + Log + Sync,
     W: Crew + Volume + Sync,
     M: Manages<W>,
     P: Play + Sync,
 {
     thread::scope(thread::scope_env(), rt, |scope| -> bool {
-        let started = start_all(scope, rt, chain).is_ok() && start(scope, rt, alloc, chain, asks);
+        let started = start_both(scope, rt, alloc, chain, asks);
         manage_if(started, rt, chain, manager);
+        end_clients(rt, asks);
         started
     })
 }
 
-/// Starts those who ask, in a thread of their own. False where the system gives none.
+/// Starts the crew and those who ask, in threads of their own. False where the system gives too few.
+fn start_both<'s, E, R, W, P>(
+    scope: &Scope<'s, E>,
+    rt: &'s R,
+    alloc: Global,
+    chain: &'s W,
+    asks: &Asks<'s, P>,
+) -> bool
+where
+    R: Threads + Wait + Log + Sync,
+    W: Crew + Volume + Sync,
+    P: Play + Sync,
+{
+    match start_all(scope, rt, chain) {
+        Ok(()) => start(scope, rt, alloc, chain, asks),
+        Err(_) => false,
+    }
+}
+
+/// Starts those who ask, in threads of their own. False where the system gives too few.
 fn start<'s, E, R, W, P>(
     scope: &Scope<'s, E>,
     rt: &'s R,
     alloc: Global,
     chain: &'s W,
-    asks: Asks<'s, P>,
+    asks: &Asks<'s, P>,
 ) -> bool
 where
-    R: Threads + Wait + Sync,
+    R: Threads + Wait + Log + Sync,
     W: Crew + Volume + Sync,
     P: Play + Sync,
 {
-    match asks {
+    match *asks {
         Asks::Play(play) => start_play(scope, rt, chain, play),
-        Asks::Clients(clients) => start_clients(scope, rt, alloc, chain, clients),
+        Asks::Clients { clients, control } => {
+            start_control(scope, rt, alloc, chain, control)
+                && start_clients(scope, rt, alloc, chain, clients)
+        }
     }
+}
+
+/// Nobody comes in any more, and the clients that are there are hung up.
+fn end_clients<'p, R: Wait, P>(rt: &R, asks: &Asks<'p, P>) {
+    if let Asks::Clients { clients, control } = *asks {
+        clients.close(rt);
+        control.close(rt);
+    }
+}
+
+/// Starts who takes orders, in a thread of its own. False where the system gives no thread.
+fn start_control<'s, E, R, W>(
+    scope: &Scope<'s, E>,
+    rt: &'s R,
+    alloc: Global,
+    chain: &'s W,
+    control: &'s Control,
+) -> bool
+where
+    R: Threads + Wait + Log + Sync,
+    W: Crew + Sync,
+{
+    scope
+        .spawn(move || take_orders(rt, alloc, chain, control))
+        .is_ok()
+}
+
+fn take_orders<R: Wait + Log, W: Crew>(rt: &R, alloc: Global, chain: &W, control: &Control) {
+    control.serve(rt, alloc, chain);
 }
 
 /// Starts the clients, in a thread of their own. The crew is told to end behind them. False where the system gives no thread.
@@ -259,7 +323,7 @@ fn start_clients<'s, E, R, W>(
     clients: &'s Clients,
 ) -> bool
 where
-    R: Threads + Wait + Sync,
+    R: Threads + Wait + Log + Sync,
     W: Crew + Volume + Sync,
 {
     scope
@@ -267,27 +331,20 @@ where
         .is_ok()
 }
 
-fn serve_and_close<R: Threads + Wait + Sync, W: Crew + Volume + Sync>(
+fn serve_and_close<R: Threads + Wait + Log + Sync, W: Crew + Volume + Sync>(
     rt: &R,
     alloc: Global,
     chain: &W,
     clients: &Clients,
 ) {
-    let Clients {
-        listener,
-        limits,
-        sessions,
-        refused,
-    } = clients;
-    let served = serve_all(rt, alloc, chain, *limits, listener, *sessions);
-    *refused.lock(rt) = served.is_err();
+    clients.serve(rt, alloc, chain);
     chain.close(rt);
 }
 
 /// Starts the clients, in a thread of their own. The crew is told to end behind them. False where the system gives no thread.
 fn start_play<'s, E, R, W, P>(scope: &Scope<'s, E>, rt: &'s R, chain: &'s W, play: &'s P) -> bool
 where
-    R: Threads + Wait + Sync,
+    R: Threads + Wait + Log + Sync,
     W: Crew + Volume + Sync,
     P: Play + Sync,
 {

@@ -4,7 +4,7 @@ use Rattle.board.specs.Seats.{BoardId}
 use Rattle.flush_barrier.specs.Reply.{GivenReply}
 use Rattle.flush_barrier.specs.declared.session_id.SessionId.{SessionId}
 use Rattle.nbd_session.specs.Begun.{greeted}
-use Rattle.nbd_session.specs.Demand.{IsAskedInside, asked_by, owed_by}
+use Rattle.nbd_session.specs.Demand.{asked_by}
 use Rattle.nbd_session.specs.Lawful.{HasHistory, History, IsLawful, sent_by}
 use Rattle.nbd_session.specs.Progress.{is_over}
 use Rattle.nbd_session.specs.Replies.{answered, reply_seen}
@@ -83,11 +83,6 @@ broken_off n talk = record {
 }
 
 -- ---- what it asks
-
--- the demand is of a token of the volume's board, and asks what lies in the volume
-pub record IsForVolume (board : Option BoardId) (size : ℕ) (demand : Demand) : Type 0 where
-  pub of_board : board ≡ Some (owed_by demand).board
-  pub inside : IsAskedInside size (asked_by demand)
 
 -- the session took the piece, and made these demands
 pub record HasFed (piece : List ℕ) (demands : List Demand) (old new : Talking) : Type 0 where

@@ -1,6 +1,7 @@
 //! What the two threads of a connection share, and what each of them does.
 ghost use Rattle.std.specs.Prelude.{◌≡◌, ◌+◌, All};
-ghost use Rattle.sessions.specs.Talk.{IsForVolume, IsLawfulOutput};
+ghost use Rattle.export.specs.Volume.{IsForVolume};
+ghost use Rattle.sessions.specs.Talk.{IsLawfulOutput};
 
 use crate::Talk;
 use chain_core::Served;
@@ -194,8 +195,8 @@ impl<'v, V: Volume, O: Outgoing> Attended<'v, V, O> {
         let mut demands = demands;
         demands.reverse();
         let mut refused = false;
-        while let Some(demand) = demands.pop() {
-            if let Some(reply) = self.volume.send(rt, self.place, demand) {
+        while !demands.is_empty() {
+            if let Some(reply) = self.volume.send(rt, self.place, &mut demands) {
                 self.answer(rt, reply);
                 refused = true;
             }

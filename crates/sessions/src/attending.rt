@@ -7,7 +7,7 @@ use crate::{Refusal, Talk};
 use export::Volume;
 use flush_barrier::SessionId;
 use gate_journal::Slot as Place;
-use sockets::{HangUp, Incoming, Outgoing};
+use sockets::{Incoming, Outgoing};
 use std::alloc::Global;
 use std::sync::Wait;
 use std::thread::{self, Threads};
@@ -27,13 +27,7 @@ pub struct Limits {
 /// What ends a connection.
 pub trait HangsUp {
     /// Nothing more comes in or goes out, and a thread that waits for the client wakes.
-    fn hang_up(&self);
-}
-
-impl HangsUp for HangUp {
-    fn hang_up(&self) {
-        HangUp::hang_up(self);
-    }
+    fn hang_up<R: Wait>(&self, rt: &R);
 }
 
 /// Serves a client to the end, at a member of the volume's chain: in this thread, which reads, and in one more, which hands out the replies
@@ -86,7 +80,7 @@ fn play<
             attended.read_all(rt, incoming, buffer);
         } else {
             attended.give_up(rt);
-            hang_up.hang_up();
+            hang_up.hang_up(rt);
         }
     });
 }
@@ -98,5 +92,5 @@ fn reply<R: Wait, V: Volume, O: Outgoing, H: HangsUp>(
     hang_up: &H,
 ) {
     attended.reply_all(rt);
-    hang_up.hang_up();
+    hang_up.hang_up(rt);
 }

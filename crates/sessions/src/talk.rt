@@ -43,7 +43,8 @@ impl<V: Volume, O: Outgoing> Model for Talk<V, O> {
 }
 
 impl<V: Volume, O: Outgoing> Talk<V, O> {
-    ghost use Rattle.sessions.specs.Talk.{HasAnsweredAll, IsForVolume, IsHistoryOf, IsLawfulOutput, TakesIn, begun, broken_off, given_up, handed};
+    ghost use Rattle.export.specs.Volume.{IsForVolume};
+    ghost use Rattle.sessions.specs.Talk.{HasAnsweredAll, IsHistoryOf, IsLawfulOutput, TakesIn, begun, broken_off, given_up, handed};
 
     /// A talk over the whole volume, with payloads of up to `max_payload` bytes, and zeros that fit into a journal area of `area` bytes. The
     /// greeting waits to go out.

@@ -5,6 +5,7 @@ use crate::{HangUp, Reading, Stream, Writing};
 use std::io;
 use std::net::TcpStream;
 use std::os::unix::net::UnixStream;
+use std::time::Duration;
 
 /// A client's stream, TCP or Unix domain.
 #[derive(Drop)]
@@ -13,6 +14,11 @@ pub struct Connection {
 }
 
 impl Connection {
+    /// A read or a write that has waited so long fails from now on.
+    pub fn wait_at_most(&self, patience: Duration) -> io::Result<()> {
+        self.stream.wait_at_most(patience)
+    }
+
     /// Its two halves, for a thread each, and what ends both. The stream is closed once all three are dropped.
     pub fn halves(self) -> io::Result<(Reading, Writing, HangUp)>
         ensures gave { IfOk result (λ halves. given_by halves.0 ≡ []) }

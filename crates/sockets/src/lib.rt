@@ -1,8 +1,8 @@
 //! Where a client's bytes come in and go out: sockets, seen as what they gave and what they took.
 //!
 //! For the layer above: an `Incoming` is seen as all bytes that it gave, and an `Outgoing` as all bytes that it took. A read
-//! adds just the bytes that it hands over, and a write all of its bytes, or a prefix of them where it fails. `Listener`
-//! gives a `Connection` for each client, over TCP or a Unix domain socket; its halves, a `Reading` and a `Writing`, are for a
+//! adds just the bytes that it hands over, and a write all of its bytes, or a prefix of them where it fails. `Listeners`
+//! give a `Connection` for each client, over TCP or a Unix domain socket; its halves, a `Reading` and a `Writing`, are for a
 //! thread each, and `HangUp` ends both. `Pieces` and `Kept` are a client in memory.
 //!
 //! A half notes what its stream told of each call. Where a stream says what it is to give, or what it holds, the half is
@@ -19,6 +19,7 @@ mod history;
 mod incoming;
 mod kept;
 mod listener;
+mod listeners;
 mod outgoing;
 mod pieces;
 mod reading;
@@ -32,6 +33,7 @@ pub use hang_up::HangUp;
 pub use incoming::Incoming;
 pub use kept::Kept;
 pub use listener::Listener;
+pub use listeners::{Listeners, MOST_LISTENERS};
 pub use outgoing::Outgoing;
 pub use pieces::Pieces;
 pub use reading::Reading;

@@ -2,6 +2,7 @@ use std::io;
 use std::io::{Read, Write};
 use std::net::{Shutdown, TcpStream};
 use std::os::unix::net::UnixStream;
+use std::time::Duration;
 
 /// A stream of either kind.
 #[derive(Drop)]
@@ -16,6 +17,20 @@ impl Stream {
         match self {
             Stream::Tcp(stream) => Ok(Stream::Tcp(stream.try_clone()?)),
             Stream::Unix(stream) => Ok(Stream::Unix(stream.try_clone()?)),
+        }
+    }
+
+    /// A read or a write that has waited so long fails from now on, by any of its handles.
+    pub(crate) fn wait_at_most(&self, patience: Duration) -> io::Result<()> {
+        match self {
+            Stream::Tcp(stream) => {
+                stream.set_read_timeout(Some(patience))?;
+                stream.set_write_timeout(Some(patience))
+            }
+            Stream::Unix(stream) => {
+                stream.set_read_timeout(Some(patience))?;
+                stream.set_write_timeout(Some(patience))
+            }
         }
     }
 

@@ -1,9 +1,0 @@
--- The numbers of the refusals.
-use Rattle.std.specs.Prelude.{ℕ}
-use Rattle.server.specs.declared.refusal.Refusal.{Refusal}
-use Rattle.server.specs.declared.refusal.Refusal.TheVariants.{Memory, ListenFault}
-
--- the number of a refusal
-abbrev pub number_of : Refusal → ℕ
-number_of Memory = 100
-number_of (ListenFault reason) = 302
