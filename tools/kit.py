@@ -70,12 +70,17 @@ def once(stamp):
 rtlib.Crate.stamp = once(rtlib.Crate.stamp)
 
 
+def plain_crates_of(root):
+    """The crates as crates.txt and their folders have them."""
+    rtlib.Crate = rt.Crate
+    return rtlib.crates_below(root)
+
+
 def crates_of(root):
     """The kit's reading of the crates, which leaves each out/ where it is. What a kit that moves them refuses beside is in `stray_fault`."""
     if not MOVES_OUT:
         return rt.crates_of(root)
-    rtlib.Crate = rt.Crate
-    found = rtlib.crates_below(root)
+    found = plain_crates_of(root)
     names = [it.name for it in found]
     for it in found:
         if os.path.dirname(it.folder) != f"{root}/crates" or names.count(it.name) > 1 or it.name in rt.TAKEN:
@@ -83,13 +88,18 @@ def crates_of(root):
     return sorted(found, key=lambda it: len(it.below()))
 
 
-def crates(root=ROOT):
-    """The crates of crates.txt, lowest first; it ends the program where the folder isn't as the kit wants it."""
+def enter(root):
+    """Goes to the repository, and sets the kit up for it."""
     os.chdir(root)
     # Its first call sets a signal's handler, which only the main thread may.
     rtlib.guarded()
     rt.Crate.allowed = rt.handles_of(root)
     rt.Crate.cuts_libraries = False
+
+
+def crates(root=ROOT):
+    """The crates of crates.txt, lowest first; it ends the program where the folder isn't as the kit wants it."""
+    enter(root)
     for _ in range(TRIES):
         found = []
         why = refusal_of(lambda: found.extend(crates_of(root)))
@@ -108,8 +118,10 @@ def is_of_the_past(why, root):
 
 
 def named(name, root=ROOT):
-    """The crate of a name."""
-    for crate in crates(root):
+    """The crate of a name. Whether the folder is as the kit wants it, is the gate's to see, once: it takes a look at every file that is
+    there, and each out/ has thousands."""
+    enter(root)
+    for crate in plain_crates_of(root):
         if crate.name == name:
             return crate
     sys.exit(f"crates.txt has no crate {name}")
@@ -149,21 +161,35 @@ def copy_of_kept(crate):
         yield f"{room}/kept"
 
 
-def checked(crate, texts, kept):
+def checked(crate, texts, kept, tell=None):
     """Checks a copy of the crate with these texts in place of its own, over what `kept` has. It is a build, since a check goes on to write
-    down how each proof that failed could begin."""
+    down how each proof that failed could begin; but only a check tells, line by line, when it ends with a function."""
     with tempfile.TemporaryDirectory(prefix="rt-edit-") as room:
         for part in rtlib.PARTS:
             if os.path.isdir(f"{crate.folder}/{part}"):
                 shutil.copytree(f"{crate.folder}/{part}", f"{room}/{part}")
         for path, text in texts.items():
+            os.makedirs(os.path.dirname(f"{room}/{path}"), exist_ok=True)
             with open(f"{room}/{path}", "w", encoding="utf-8") as it:
                 it.write(text)
-        words = [rtlib.RATTLE, "build", *crate.words(ONE_JOB, keeps=False), KEPT[0], kept, "-o", f"{room}/built"]
+        words = [*crate.words(ONE_JOB, keeps=False), KEPT[0], kept]
+        how = {"cwd": room, "stdin": subprocess.DEVNULL, "stdout": subprocess.PIPE, "stderr": subprocess.STDOUT, "errors": "replace", "text": True}
+        if tell:
+            return told([*rtlib.guarded(), rtlib.RATTLE, "check", "--progress", *words], how, tell)
+        words += ["-o", f"{room}/built"]
         if crate.is_program:
             words += ["--toolchain", f"{rtlib.KIT}/toolchain", "--backend", "rattle"]
-        how = {"cwd": room, "stdin": subprocess.DEVNULL, "stdout": subprocess.PIPE, "stderr": subprocess.STDOUT, "errors": "replace"}
-        return subprocess.run([*rtlib.guarded(), *words], **how)
+        return subprocess.run([*rtlib.guarded(), rtlib.RATTLE, "build", *words], **how)
+
+
+def told(words, how, tell):
+    """Runs a command, and tells each line as it comes."""
+    lines = []
+    with subprocess.Popen(words, **how) as ran:
+        for line in ran.stdout:
+            lines.append(line)
+            tell(line)
+    return subprocess.CompletedProcess(words, ran.returncode, "".join(lines))
 
 
 def prove_and_build(crate, jobs):

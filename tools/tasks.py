@@ -17,7 +17,9 @@ SHARED = ("proof", "tests")
 # Those whose minutes docs/GATE.md has, and what a build takes about.
 KINDS = ("proof", "tests", "edits")
 BUILD = 5
-MOST_JOBS = 4
+# How many jobs the task has that the whole waits for. Each reads the crates below anew: two take a third more of the processor than one and a
+# quarter less by the clock, four three times as much.
+MOST_JOBS = 2
 # How much commands lower their priority: a proof that isn't on the longest chain, and what isn't a proof.
 PATIENCE, MORE_PATIENCE = 5, 10
 # What a check was seen to take at most of the memory that the kit counts for it, and what each job more takes of that.
@@ -97,7 +99,7 @@ def minutes_of(crates, kind="proof"):
 
 
 class Lanes:
-    """Runs tasks side by side, one a processor, as many as memory holds; those first that the longest chain of others waits for. The
+    """Runs tasks side by side, one a processor and one more, as many as memory holds; those first that the longest chain of others waits for. The
     first of all has more jobs than others, since the whole waits for it, and all others give way to it; mutants, tests and runs give way
     to all proofs."""
 
@@ -105,9 +107,9 @@ class Lanes:
         self.tasks = {it.key: it for it in tasks}
         self.logs, self.tell, self.given, self.running, self.telling = logs, tell, {}, {}, threading.Lock()
         fixed = os.environ.get("RT_JOBS", "")
-        self.lanes = int(fixed) if fixed.isdigit() and fixed != "0" else kit.rt.processors()
+        # One more than processors: a command waits for its files now and then, and a host takes processors away.
+        self.lanes = int(fixed) if fixed.isdigit() and fixed != "0" else kit.rt.processors() + 1
         self.memory = 0.85 * kit.rt.free()
-        self.only_proofs = all(it.kind == "proof" for it in tasks)
         minutes = {kind: minutes_of([it.crate for it in tasks], kind) for kind in KINDS}
         self.behind = {}
         for key in reversed(self.in_order()):
@@ -140,14 +142,9 @@ class Lanes:
             self.tell(task, done)
         return done
 
-    def jobs_for(self, task, idle, ready):
-        """How many processors the task may use. The first of all tasks that are left gets two, whatever else runs: all others end before it.
-        It gets all where there are only proofs, which leave processors idle; each job reads the crates below anew, so it costs most there."""
-        if task.kind not in SHARED:
-            return 1
-        most = min(MOST_JOBS, self.lanes)
-        least = 1 if not self.is_first(task) else most if self.only_proofs else 2
-        return max(least, min(most, idle // ready))
+    def jobs_for(self, task):
+        """How many processors the task may use: more than one only where all tasks that are left end before it, whatever else runs."""
+        return MOST_JOBS if task.kind in SHARED and self.lanes > 2 and self.is_first(task) else 1
 
     def is_first(self, task):
         """Whether no other task that is left has a longer chain behind it."""
@@ -162,13 +159,13 @@ class Lanes:
     def start(self, pool, left):
         """Starts what can be started now."""
         ready = [it for it in left if all(key in self.given or key not in self.tasks for key in self.tasks[it].waits)]
-        for at, key in enumerate(ready):
+        for key in ready:
             task = self.tasks[key]
             # However many jobs a task has, some of them end early: it leaves room for two tasks beside it.
             idle = self.lanes - sum(min(jobs, max(1, self.lanes - 2)) for _, jobs, _ in self.running.values())
             if idle <= 0:
                 return
-            jobs = self.jobs_for(task, idle, len(ready) - at)
+            jobs = self.jobs_for(task)
             room = self.memory - sum(it for _, _, it in self.running.values())
             while jobs > 1 and self.memory_for(task, jobs) > room:
                 jobs -= 1
