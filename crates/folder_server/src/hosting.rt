@@ -9,7 +9,8 @@ use log::{Log, error, info};
 use managing::{Host, Unrecorded};
 use serving::Control;
 use std::fs::{File, Files};
-use std::io::{self, Read};
+use std::io;
+use std::os::unix::fs::FileExt;
 use std::sync::{Mutex, Wait};
 
 /// How many bytes of a file are read at once to have the system keep them.
@@ -113,20 +114,21 @@ impl<'r, 'd, 'c, 'n, R> FolderHost<'r, 'd, 'c, 'n, R> {
         }
     }
 
-    /// Reads the file of a slot once, in order, so that the system keeps it: the first reads of clients needn't wait for the device then. It
-    /// is open a second time meanwhile. What can't be read now is read when a client asks for it.
+    /// Reads the file of a slot once, so that the system keeps it: the first reads of clients needn't wait for the device then. It is open
+    /// a second time meanwhile. What can't be read now is read when a client asks for it.
+    ///
+    /// It is read from its end on. Of a file that is read in order Linux keeps up to 2 MiB as one folio, and each write of a block into such a
+    /// folio costs a look at all of its blocks.
     fn read_through(&self, number: u8) -> io::Result<()>
     where
-        R: Files<File = File> + AllocGlobal + Wait,
+        R: Files<File = File> + AllocGlobal,
     {
         let alloc = self.rt.alloc();
         let path = format!(in alloc; "{}/slot{number}.disk", self.dir)?;
         let mut buffer = vec![in alloc; 0; PIECE]?;
-        let mut file = File::open(self.rt, path.as_str())?;
-        for _ in self.rt.forever() {
-            if file.read(&mut buffer)? == 0 {
-                break;
-            }
+        let file = File::open(self.rt, path.as_str())?;
+        for piece in (0..self.len.div_ceil(PIECE as u64)).rev() {
+            file.read_at(&mut buffer, piece.saturating_mul(PIECE as u64))?;
         }
         Ok(())
     }
